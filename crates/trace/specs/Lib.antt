@@ -1,0 +1,8 @@
+-- What a trace is, and what it means. Bounds, Op, Trace and WellFormed have its form; Frame, Order and Meaning have what it says.
+pub mod Bounds
+pub mod Op
+pub mod Trace
+pub mod WellFormed
+pub mod Frame
+pub mod Order
+pub mod Meaning

@@ -1,0 +1,33 @@
+-- A trace as a value.
+--
+--   at t i     == what stands at place i
+--   idle       == what an unused place holds: a fence of thread 0
+--   empty      == the trace of no records
+--   pushed t o == the trace with one record more; a full trace stays as it is
+--   first t a  == the value that address a begins with
+use mathlib.Core.Bool.{cond}
+use Prim.Native.Nat.{ℕ, _+_}
+use lib.Dec.{ltb}
+use lib.ListN.{getD, set, replicate}
+use Rattle.trace.specs.Bounds.{RECORDS}
+use Rattle.trace.specs.declared.Op.{Op}
+use Rattle.trace.specs.declared.Op.the-variants.{Load, Fence}
+use Rattle.trace.specs.declared.Record.{Record}
+use Rattle.trace.specs.declared.Trace.{Trace}
+
+-- past the array's end the language has the first variant at zeros
+abbrev pub at : Trace → ℕ → Op
+at t i = (getD (t .records) i (record { op = Load 0 0 0 })) .op
+
+abbrev pub idle : Op
+idle = Fence 0
+
+abbrev pub empty : Trace
+empty = record { records = replicate RECORDS (record { op = idle }); len = 0 }
+
+unfoldable pub pushed : Trace → Op → Trace
+pushed t o = cond (ltb (t .len) RECORDS) (record { records = set (t .records) (t .len) (record { op = o }); len = t .len + 1 }) t
+
+-- every address begins at 0
+unfoldable pub first : Trace → ℕ → ℕ
+first t a = 0
