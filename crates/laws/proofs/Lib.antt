@@ -1,2 +1,5 @@
 pub mod Tests
 pub mod Places
+pub mod Relation
+pub mod Via
+pub mod Warshall

@@ -1,3 +1,5 @@
--- Notions about tests and lists that no crate above owns.
+-- Notions about tests, lists and relations that no crate above owns.
 pub mod Tests
 pub mod Places
+pub mod Relation
+pub mod Warshall

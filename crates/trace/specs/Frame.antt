@@ -1,7 +1,6 @@
--- A trace as the rules see it: by tests and numbers alone.
+-- A trace as the rules see it: by tests and numbers alone. The kept pairs of a model and the supposed pairs of a session stand outside it, as tables.
 --
 --   Frame          == what each record is; a fence is no operation, a swap both reads and writes
---   Table          == pairs of records: the kept pairs of a model, the supposed pairs of a session; they stand outside the frame
 --   Good f         == what a well formed trace promises
 --   Writer f S L   == S writes L's address, and is not L
 --   Source f S L   == L reads a value other than its address's first one, and S wrote it
@@ -26,9 +25,6 @@ pub record Frame : Type 0 where
   pub first : ℕ → ℕ
   -- x is before y in program order
   pub earlier : ℕ → ℕ → Bool
-
-abbrev pub Table : Type 0
-Table = ℕ → ℕ → Bool
 
 -- Nothing is asked of program order, and nothing of a table.
 pub record Good (f : Frame) : Type 0 where

@@ -11,7 +11,8 @@ use mathlib.Core.Bool.{cond, So}
 use mathlib.Core.List.{List}
 use Prim.Native.Nat.{ℕ, _≤_}
 use Rattle.laws.specs.Places.{pos, count, Before}
-use Rattle.trace.specs.Frame.{Frame, Table, Writer}
+use Rattle.laws.specs.Relation.{Table}
+use Rattle.trace.specs.Frame.{Frame, Writer}
 
 -- a store or swap to L's address, other than L, that is before L in the list or before L in program order
 pub record Visible (f : Frame) (xs : List ℕ) (S L : ℕ) : Type 0 where
