@@ -1,0 +1,56 @@
+-- A template is a line in which a hole stands for each number.
+--
+--   HOLE             == the byte that marks a number's place
+--   NUMBERS          == how many holes a template has at the most
+--   fill ts ns       == the line that a template gives with the numbers ns
+--   Hit              == the numbers that were found, or that the line is another
+--   found ts text    == the numbers with which the template gives the text
+--   fitted ts text   == the same as the code holds it: the numbers cut, unused places 0
+use mathlib.Core.Bool.{Bool, true, false, cond}
+use mathlib.Core.List.{List, [], _∷_, _++_, map}
+use Prim.Native.Nat.{ℕ}
+use lib.Dec.{eqb}
+use lib.ListN.{length, getD, drop, replicate}
+use lib.Seq.{sets}
+use Rattle.reader.specs.Number.{digits, value, isNumber, decimal, cut}
+use Rattle.reader.specs.declared.Fit.{Fit}
+
+abbrev pub HOLE : ℕ
+HOLE = 0x23
+
+abbrev pub NUMBERS : ℕ
+NUMBERS = 5
+
+unfoldable pub fill : List ℕ → List ℕ → List ℕ
+fill [] ns = []
+fill (t ∷ ts) ns = cond (eqb t HOLE) (decimal (getD ns 0 0) ++ fill ts (drop 1 ns)) (t ∷ fill ts ns)
+
+pub data Hit : Type 0 where
+  hit : List ℕ → Hit
+  miss : Hit
+
+-- one number more, in front
+abbrev pub also : ℕ → Hit → Hit
+also n (hit ns) = hit (n ∷ ns)
+also n miss = miss
+
+-- the text begins with the byte
+unfoldable pub begins : ℕ → List ℕ → Bool
+begins t [] = false
+begins t (b ∷ bs) = eqb b t
+
+-- a hole takes all digits that follow; any other byte stands for itself; nothing may be left over
+unfoldable pub found : List ℕ → List ℕ → Hit
+found [] text = cond (eqb (length text) 0) (hit []) miss
+found (t ∷ ts) text =
+    cond (eqb t HOLE)
+    (cond (isNumber (digits text)) (also (value 0 (digits text)) (found ts (drop (length (digits text)) text))) miss)
+    (cond (begins t text) (found ts (drop 1 text)) miss)
+
+-- numbers put into places from the n-th on
+abbrev pub fitFrom : ℕ → List ℕ → Hit → Fit
+fitFrom n places (hit ns) = record { fits = true; numbers = sets places n (map cut ns) }
+fitFrom n places miss = record { fits = false; numbers = replicate NUMBERS 0 }
+
+unfoldable pub fitted : List ℕ → List ℕ → Fit
+fitted ts text = fitFrom 0 (replicate NUMBERS 0) (found ts text)
