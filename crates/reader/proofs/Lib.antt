@@ -1,3 +1,5 @@
 pub mod Lines
 pub mod Classes
 pub mod Numbers
+pub mod Fits
+pub mod Chosen

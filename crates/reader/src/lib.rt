@@ -3,6 +3,7 @@
 use trace::Op;
 
 pub mod digits;
+pub mod forms;
 pub mod walk;
 
 use trace::Trace;
