@@ -2,6 +2,7 @@
 --
 --   all-more, any-more   == one number more
 --   all-stops, any-stops == one number settles it
+--   all-fewer, any-fewer == what is known below m is known below n ≤ m
 --   any-past             == none below m, and none from m on
 use mathlib.Core.Path.{_≡_, sym, _∙_}
 use mathlib.Core.Bool.{Bool, false, So, false≢true}
@@ -26,6 +27,12 @@ module _ (p : ℕ → Bool) where
 
   pub any-stops : (n i : ℕ) → i < n → So (p i) → So (any n p)
   any-stops n i h e = so-any n p .1 (i, h, e)
+
+  pub all-fewer : (n m : ℕ) → n ≤ m → So (all m p) → So (all n p)
+  all-fewer n m h t = so-all n p .1 (λ i l. so-all m p .0 t i (omega arith))
+
+  pub any-fewer : (n m : ℕ) → n ≤ m → any m p ≡ false → any n p ≡ false
+  any-fewer n m h e = off (λ t. let s = so-any n p .0 t in false≢true (sym e ∙ any-stops m (s .0) (omega arith) (s .2)))
 
   pub any-past : (m n : ℕ) → any m p ≡ false → ((i : ℕ) → m ≤ i → p i ≡ false) → any n p ≡ false
   any-past m n h e = off (λ t. let s = so-any n p .0 t in fails (s .0) (s .2))

@@ -2,12 +2,12 @@
 -- Assumes nothing.
 use mathlib.Core.Path.{_≡_, sym, ap, _∙_}
 use mathlib.Core.Bool.{false}
-use Prim.Native.Nat.{_-_, _≤_}
+use Prim.Native.Nat.{_-_}
 use native.Mathlib.Omega.{arith}
 use borrow.Author.Needs.{needs}
 use lib.ListN.{length-map}
 use Rattle.laws.specs.Tests.{any}
-use Rattle.laws.proofs.Loops.{any-more, any-stops, any-past}
+use Rattle.laws.proofs.Loops.{any-more, any-stops, any-fewer, any-past}
 use Rattle.trace.specs.Op.{writesTo}
 use Rattle.trace.specs.WellFormed.{writtenBefore}
 use Rattle.trace.specs.declared.Op.{Op}
@@ -16,7 +16,7 @@ use Rattle.trace.proofs.form.written_before.Statement.{statement}
 use Rattle.trace.proofs.form.written_before.Tie as tie
 
 abbrev Inv-loop : tie.InvT-loop
-Inv-loop n addr value t i₀ i = (i ≤ n) × (writtenBefore t i addr value ≡ false)
+Inv-loop n addr value t i₀ i = writtenBefore t i addr value ≡ false
 
 abbrev μ-loop : tie.MeasureT-loop
 μ-loop n addr value t i₀ i = n - i
@@ -31,7 +31,7 @@ returns c =
     let l = c .before .before in
     let t = l .before .args .t1 in
     let full = sym (length-map (t .records) _) ∙ l .before .good .0 .1 .1 .0 .1 .0 .1 in
-    sym (any-past _ (l .loop .i) _ (l .loop .inv .1) (λ k h. ap (λ (o : Op). writesTo o (l .before .args .addr) (l .before .args .value)) (at-past t full k (omega arith))))
+    sym (any-past _ (l .loop .i) _ (l .loop .inv) (λ k h. ap (λ (o : Op). writesTo o (l .before .args .addr) (l .before .args .value)) (at-past t full k (omega arith))))
 
 mul-record : tie.Need-mul-record Inv-loop μ-loop
 mul-record c = search needs
@@ -54,12 +54,11 @@ loop-less c = search needs
 
 loop-again : tie.Need-loop-again Inv-loop μ-loop
 unfolding writtenBefore
-loop-again c = (omega arith, any-more _ _ (c .before .before .before .before .before .loop .inv .1) (sym (c .before .writes-to .ensures) ∙ c .if2 .left))
+loop-again c = any-more _ _ (c .before .before .before .before .before .loop .inv) (sym (c .before .writes-to .ensures) ∙ c .if2 .left)
 
 returns-3 : tie.Need-returns-3 Inv-loop μ-loop
-returns-3 c =
-    let e : c .before .loop .i ≡ c .before .before .args .n = omega arith in
-    rw (← e) (sym (c .before .loop .inv .1))
+unfolding writtenBefore
+returns-3 c = sym (any-fewer _ _ _ (c .loop-test .left) (c .before .loop .inv))
 
 pub written-before-spec : {M : Type 1} → statement M
 written-before-spec =
