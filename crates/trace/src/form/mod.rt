@@ -1,9 +1,12 @@
 // When a trace is well formed, and what may stand next in one.
 ghost use mathlib.Core.Path.{_≡_};
-ghost use lib.Dec.{ltb};
-ghost use Rattle.trace.specs.Bounds.{VALUES};
+ghost use Prim.Native.Nat.{_≤_};
+ghost use lib.Dec.{ltb, leb};
+ghost use Rattle.laws.specs.Tests.{_⇒_, all};
+ghost use Rattle.trace.specs.Bounds.{RECORDS, VALUES};
 ghost use Rattle.trace.specs.Op.{writesTo};
-ghost use Rattle.trace.specs.WellFormed.{bounded, writtenBefore, fresh, follows};
+ghost use Rattle.trace.specs.Trace.{at};
+ghost use Rattle.trace.specs.WellFormed.{bounded, writtenBefore, fresh, follows, isIdle, wellFormed};
 use crate::ADDRESSES;
 use crate::Op;
 use crate::RECORDS;
@@ -87,6 +90,64 @@ pub fn follows(t: Trace, n: usize, op: Op) -> bool
 {
     if bounded(op) {
         return fresh(t, n, op);
+    }
+    false
+}
+
+// Whether an operation is what an unused place holds.
+fn is_idle(op: Op) -> bool
+    ensures { λ r. ⌜ r ≡ isIdle op ⌝ }
+{
+    if op.fence() {
+        return op.thread() == 0;
+    }
+    false
+}
+
+// Whether each used record may stand after those before it.
+fn used_follow(t: Trace) -> bool
+    requires { ⌜ t .len ≤ RECORDS ⌝ }
+    ensures { λ r. ⌜ r ≡ all (t .len) (λ i. follows t i (at t i)) ⌝ }
+{
+    let n = t.len;
+    let mut i = 0;
+    while i < n {
+        let record = t.records[i];
+        let op = record.op;
+        if !follows(t, i, op) {
+            return false;
+        }
+        i += 1;
+    }
+    true
+}
+
+// Whether each unused place is idle.
+fn rest_idle(t: Trace) -> bool
+    ensures { λ r. ⌜ r ≡ all RECORDS (λ i. leb (t .len) i ⇒ isIdle (at t i)) ⌝ }
+{
+    let mut i = t.len;
+    while i < RECORDS {
+        let record = t.records[i];
+        let op = record.op;
+        if !is_idle(op) {
+            return false;
+        }
+        i += 1;
+    }
+    true
+}
+
+// Whether a trace is well formed.
+pub fn well_formed(t: Trace) -> bool
+    ensures { λ r. ⌜ r ≡ wellFormed t ⌝ }
+{
+    let n = t.len;
+    if RECORDS < n {
+        return false;
+    }
+    if used_follow(t) {
+        return rest_idle(t);
     }
     false
 }
