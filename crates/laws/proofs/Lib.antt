@@ -5,3 +5,4 @@ pub mod Via
 pub mod Warshall
 pub mod Sums
 pub mod Growth
+pub mod Counts
