@@ -5,3 +5,4 @@ pub mod Relation
 pub mod Warshall
 pub mod Sums
 pub mod Growth
+pub mod Dict
