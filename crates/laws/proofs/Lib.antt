@@ -7,3 +7,4 @@ pub mod Sums
 pub mod Growth
 pub mod Counts
 pub mod Dict
+pub mod Lowest

@@ -6,3 +6,4 @@ pub mod Warshall
 pub mod Sums
 pub mod Growth
 pub mod Dict
+pub mod Lowest
