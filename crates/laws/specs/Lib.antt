@@ -7,3 +7,4 @@ pub mod Sums
 pub mod Growth
 pub mod Dict
 pub mod Lowest
+pub mod Sorted
