@@ -1,0 +1,2 @@
+-- What the rules force, over any table of kept pairs.
+pub mod Rules
