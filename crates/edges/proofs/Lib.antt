@@ -1,3 +1,4 @@
 pub mod Orders
 pub mod Sound
 pub mod Rounds
+pub mod Tests

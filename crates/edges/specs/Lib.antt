@@ -1,2 +1,3 @@
 -- What the rules force, over any table of kept pairs.
 pub mod Rules
+pub mod Tests
