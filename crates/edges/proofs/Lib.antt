@@ -2,3 +2,4 @@ pub mod Orders
 pub mod Sound
 pub mod Rounds
 pub mod Tests
+pub mod Closing

@@ -9,8 +9,8 @@
 --   edge-first, edge-next                 == round 0 has rules 1 to 5 and 8; each next one adds what 6 and 7 give from the chains of the one before
 use mathlib.Core.Path.{_≡_, refl, sym, subst}
 use mathlib.Core.Logic.{_≢_, _⊎_, inl, inr, _↔_}
-use Prim.Native.Nat.{ℕ, zero, suc, _+_}
-use native.Mathlib.Nat.{zero-add, suc-add, add-comm}
+use Prim.Native.Nat.{ℕ, zero, suc, _+_, _-_, _≤_}
+use native.Mathlib.Nat.{zero-add, suc-add, sub-add-cancel}
 use native.Mathlib.Omega.{arith}
 use Rattle.laws.specs.Relation.{Rel, Table, _⊆_, Transitive, Chain, one}
 use Rattle.laws.specs.Sorted.{On}
@@ -43,15 +43,18 @@ module _ (f : Frame) (K P : Table) where
   chains-grow zero x y h = absurd h
   chains-grow (suc k) x y h = chain-mono (step-mono (chains-grow k)) x y h
 
-  pub chains-later : (k d : ℕ) → Chains f K P k ⊆ Chains f K P (d + k)
-  chains-later k zero x y h = subst (λ (m : ℕ). Chains f K P m x y) (sym (zero-add k)) h
-  chains-later k (suc d) x y h = subst (λ (m : ℕ). Chains f K P m x y) (sym (suc-add d k)) (chains-grow (d + k) x y (chains-later k d x y h))
+  pub chains-later : (k m : ℕ) → k ≤ m → Chains f K P k ⊆ Chains f K P m
+  chains-later k m l x y h = subst (λ (j : ℕ). Chains f K P j x y) (sub-add-cancel l) (after (m - k))
+    where
+      after : (d : ℕ) → Chains f K P (d + k) x y
+      after zero = subst (λ (j : ℕ). Chains f K P j x y) (sym (zero-add k)) h
+      after (suc d) = subst (λ (j : ℕ). Chains f K P j x y) (sym (suc-add d k)) (chains-grow (d + k) x y (after d))
 
   pub edge-grow : (k : ℕ) → Edge f K P k ⊆ Edge f K P (suc k)
   edge-grow k = step-mono (chains-grow k)
 
-  pub edge-later : (k d : ℕ) → Edge f K P k ⊆ Edge f K P (d + k)
-  edge-later k d = step-mono (chains-later k d)
+  pub edge-later : (k m : ℕ) → k ≤ m → Edge f K P k ⊆ Edge f K P m
+  edge-later k m l = step-mono (chains-later k m l)
 
   pub last-held : (k : ℕ) → Last f K P k → Held f K P ⊆ Chains f K P (suc k)
   unfolding Last
@@ -63,10 +66,7 @@ module _ (f : Frame) (K P : Table) where
 
   pub held-join : Transitive (Held f K P)
   unfolding Transitive
-  held-join x y z (k, a) (m, b) =
-      let a′ = chains-grow (m + k) x y (chains-later k m x y a) in
-      let b′ = chains-grow (m + k) y z (subst (λ (j : ℕ). Chains f K P j y z) (add-comm k m) (chains-later m k y z b)) in
-      (suc (m + k), chain-join a′ b′)
+  held-join x y z (k, a) (m, b) = (suc (m + k), chain-join (chains-later k (suc (m + k)) (omega arith) x y a) (chains-later m (suc (m + k)) (omega arith) y z b))
 
   pub held-closed : Step f K P (Held f K P) ⊆ Held f K P
   held-closed x y (r, g) = go g

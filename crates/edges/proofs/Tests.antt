@@ -3,7 +3,8 @@
 --   writer-iff, source-iff, first-iff == the parts of a rule
 --   gives-small                       == there are eight rules
 --   gives-iff, step-iff               == from a table of chains whose meaning is known
---   step-within, joins-within         == an edge joins records of the trace
+--   joins-within                      == operations are records of the trace
+--   step-within, chains-within        == edges and chains join records of the trace
 --   chains-iff, edge-iff              == the chains and edges of each round
 --   last-round                        == within n * n rounds one adds nothing
 use mathlib.Core.Logic.{_≢_, _↔_}
@@ -12,7 +13,7 @@ use Prim.Native.Nat.{ℕ, zero, suc, _*_, _≤_, _<_}
 use native.Mathlib.Omega.{arith}
 use lib.Dec.{eqb}
 use Rattle.laws.specs.Tests.{any}
-use Rattle.laws.specs.Relation.{Rel, Table}
+use Rattle.laws.specs.Relation.{Rel, Table, one, more}
 use Rattle.laws.specs.Growth.{Still}
 use Rattle.laws.proofs.Tests.{and-iff, not-iff, same-iff, any-iff, so-eq}
 use Rattle.laws.proofs.Growth.{stops}
@@ -129,6 +130,11 @@ module _ (f : Frame) (g : Good f) where
         go (rule6 L s w d h) = (writer-below w, writer-below (s .writer))
         go (rule7 S s w d h) = (reader-below (s .reads), writer-below w)
         go (rule8 k) = inP x y k
+
+    pub chains-within : (k x y : ℕ) → Chains f K P k x y → (x < f .records) × (y < f .records)
+    chains-within zero x y c = absurd c
+    chains-within (suc k) x y (one e) = step-within (Chains f K P k) x y e
+    chains-within (suc k) x y (more {y = z} e c) = (step-within (Chains f K P k) x z e .0, chains-within (suc k) z y c .1)
 
     pub chains-iff : (k x y : ℕ) → So (chains? f K P k x y) ↔ Chains f K P k x y
     unfolding chains?

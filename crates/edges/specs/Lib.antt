@@ -1,3 +1,4 @@
 -- What the rules force, over any table of kept pairs.
 pub mod Rules
 pub mod Tests
+pub mod Closing
