@@ -3,3 +3,4 @@ pub mod Sound
 pub mod Rounds
 pub mod Tests
 pub mod Closing
+pub mod Circle

@@ -2,3 +2,4 @@
 pub mod Rules
 pub mod Tests
 pub mod Closing
+pub mod Circle
