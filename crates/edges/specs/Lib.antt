@@ -3,3 +3,4 @@ pub mod Rules
 pub mod Tests
 pub mod Closing
 pub mod Circle
+pub mod Walk
