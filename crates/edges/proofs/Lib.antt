@@ -5,3 +5,4 @@ pub mod Tests
 pub mod Closing
 pub mod Circle
 pub mod Walk
+pub mod Shown
