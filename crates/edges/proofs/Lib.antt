@@ -6,3 +6,4 @@ pub mod Closing
 pub mod Circle
 pub mod Walk
 pub mod Shown
+pub mod ShownCircle

@@ -4,3 +4,4 @@ pub mod Tests
 pub mod Closing
 pub mod Circle
 pub mod Walk
+pub mod ShownCircle
