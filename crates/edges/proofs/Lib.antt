@@ -7,3 +7,4 @@ pub mod Circle
 pub mod Walk
 pub mod Shown
 pub mod ShownCircle
+pub mod Missing

@@ -5,3 +5,4 @@ pub mod Closing
 pub mod Circle
 pub mod Walk
 pub mod ShownCircle
+pub mod Missing
