@@ -8,3 +8,4 @@ pub mod Walk
 pub mod Shown
 pub mod ShownCircle
 pub mod Missing
+pub mod Clear

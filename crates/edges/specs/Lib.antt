@@ -6,3 +6,4 @@ pub mod Circle
 pub mod Walk
 pub mod ShownCircle
 pub mod Missing
+pub mod Clear
