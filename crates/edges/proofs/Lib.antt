@@ -9,3 +9,4 @@ pub mod Shown
 pub mod ShownCircle
 pub mod Missing
 pub mod Clear
+pub mod Sorted
