@@ -10,3 +10,4 @@ pub mod ShownCircle
 pub mod Missing
 pub mod Clear
 pub mod Sorted
+pub mod Counter
