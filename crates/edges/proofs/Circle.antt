@@ -1,13 +1,14 @@
 -- Circles.
 --
---   ⊑-antisym, shown-one                  == one circle is shown
---   chain-run, run-chain, circle-chain    == there is a circle where a chain leads from an operation to itself
---   circle-none                           == none is shown where no chain leads so
---   run-join, turn                        == runs in a row; a circle may be begun at any of its numbers
---   shown-lowest                          == the circle shown is written from its lowest number
---   shown-once                            == no number stands in it twice
---   circle-within, circle-shorten, shown-short == a circle's numbers are below n; one of more than n is not the shortest
---   circle-iff                            == circles place by place
+--   ⊑-antisym, shown-one               == one circle is shown
+--   chain-run, run-chain, circle-chain == there is a circle where a chain leads from an operation to itself
+--   circle-none                        == none is shown where no chain leads so
+--   run-join, turn                     == runs in a row; a circle may be begun at any of its numbers
+--   shown-lowest                       == the circle shown is written from its lowest number
+--   shown-once                         == no number stands in it twice
+--   circle-within, circle-shorten      == a circle's numbers are below n; one of more than n is not the shortest
+--   shown-short                        == the circle shown has n numbers at the most
+--   circle-iff                         == circles place by place
 use mathlib.Core.Path.{_≡_, refl, ap, _∙_, subst}
 use mathlib.Core.Logic.{inl, inr, _↔_}
 use mathlib.Core.List.{List, [], _∷_, _++_}

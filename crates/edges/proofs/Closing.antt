@@ -1,11 +1,11 @@
 -- The closing, round by round. A loop stops at the first round that has a circle, or that is the last; it cites these.
 --
---   circle-contradicted, closing-circle == a round with a circle: contradicted, and the empty table answers
---   last-by, last-next                  == nothing added below the bound, or by rules 6 and 7: the round is the last
---   last-chains, last-clear, closing-last == a last round without a circle: its chains are what is held, nothing is contradicted, and its chains answer
---   closing-one                         == no second answer fits
---   closing-computed                    == `contradicted?` and `held?` answer
---   closing-sound                       == what the table has is so in every valid order that keeps the supposed pairs
+--   circle-contradicted, closing-circle   == a round with a circle: contradicted, and the empty table answers
+--   last-by, last-next                    == nothing added below the bound, or by rules 6 and 7: the round is the last
+--   last-chains, last-clear, closing-last == a last round without a circle: its chains are what is held, nothing is contradicted, and they answer
+--   closing-one                           == no second answer fits
+--   closing-computed                      == `contradicted?` and `held?` answer
+--   closing-sound                         == what the table has is so in every valid order that keeps the supposed pairs
 use mathlib.Core.Path.{_≡_, refl}
 use mathlib.Core.Logic.{_⊎_, inl, inr, _↔_}
 use mathlib.Core.Bool.{Bool, true, false, So, false≢true}
@@ -23,7 +23,8 @@ use Rattle.edges.specs.Rules.{Gives, Chains, Edge, Last, Held, Contradic
 use Rattle.edges.specs.Tests.{chains?}
 use Rattle.edges.specs.Closing.{Closing, contradicted?, held?}
 use Rattle.edges.proofs.Rounds.{chains-later, last-held, edge-next}
-use Rattle.edges.proofs.Tests.{step-within, chains-within, chains-iff, last-round}
+use Rattle.edges.proofs.Ends.{step-within, chains-within}
+use Rattle.edges.proofs.Tests.{chains-iff, last-round}
 use Rattle.edges.proofs.Sound.{held-sound}
 
 module _ (f : Frame) (K P : Table) where

@@ -1,6 +1,7 @@
 pub mod Orders
 pub mod Sound
 pub mod Rounds
+pub mod Ends
 pub mod Tests
 pub mod Closing
 pub mod Circle

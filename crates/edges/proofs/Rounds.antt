@@ -1,12 +1,12 @@
 -- Rounds only add; where one adds nothing, no later one does; what is held is the least transitive relation that the rules close.
 --
---   gives-mono                            == more chains and more supposed pairs give no less
---   step-mono, chains-grow, chains-later,
---   edge-grow, edge-later                 == edges and chains only grow
---   more-pairs                            == more supposed pairs, more is held
---   last-held                             == after a last round what is held is what its chains lead to
---   held-join, held-closed, held-least    == what is held is transitive, closed under the rules, and the least such relation
---   edge-first, edge-next                 == round 0 has rules 1 to 5 and 8; each next one adds what 6 and 7 give from the chains of the one before
+--   gives-mono, step-mono              == more chains and more supposed pairs give no less
+--   more-pairs                         == more supposed pairs, more is held
+--   chains-grow, chains-later          == chains only grow
+--   edge-grow, edge-later              == edges only grow
+--   last-held                          == after a last round what is held is what its chains lead to
+--   held-join, held-closed, held-least == what is held is transitive, closed under the rules, and the least such relation
+--   edge-first, edge-next              == round 0 has rules 1 to 5 and 8; each next one adds what 6 and 7 give from the chains of the one before
 use mathlib.Core.Path.{_≡_, refl, sym, subst}
 use mathlib.Core.Logic.{_≢_, _⊎_, inl, inr, _↔_}
 use Prim.Native.Nat.{ℕ, zero, suc, _+_, _-_, _≤_}

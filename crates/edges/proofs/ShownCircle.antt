@@ -1,11 +1,11 @@
 -- The circle shown for a trace, and its rules: there is one such answer, and it is computed.
 --
---   rule-one, ruled-one                 == an edge has one lowest rule, a circle one list of them
---   shown-circle-one, circled-one       == one circle with its rules is shown
---   rounds-none                         == a round without a circle has none before it
---   shown-circle-chain                  == it is shown exactly where a chain of some round leads from an operation to itself, that is: contradicted
---   rule-computed, ruled-computed       == `rule?` and `rulesOf` are the lowest rules
---   circled-computed, circled-only      == `circled?` is the answer
+--   rule-one, ruled-one            == an edge has one lowest rule, a circle one list of them
+--   shown-circle-one, circled-one  == one circle with its rules is shown
+--   rounds-none                    == where a round has no circle, no round before it has one
+--   rule-computed, ruled-computed  == `rule?` and `rulesOf` are the lowest rules
+--   circled-computed, circled-only == `circled?` is the answer
+--   shown-circle-chain             == a circle is shown exactly where a chain of some round leads from an operation to itself
 use mathlib.Core.Path.{_≡_, refl, sym, ap, _∙_, subst}
 use mathlib.Core.Logic.{_⊎_, inl, inr, _↔_}
 use mathlib.Core.Bool.{Bool, true, false, So, false≢true}
@@ -31,7 +31,8 @@ use Rattle.edges.specs.Circle.{Circle, Shown, after}
 use Rattle.edges.specs.Walk.{shown?}
 use Rattle.edges.specs.ShownCircle.{LowestRule, Ruled, ShownCircle, Circled, rule?, rulesOf, rounds, circled?}
 use Rattle.edges.proofs.Rounds.{edge-later}
-use Rattle.edges.proofs.Tests.{gives-small, gives-iff, step-iff, step-within, chains-within, last-round}
+use Rattle.edges.proofs.Ends.{step-within, chains-within}
+use Rattle.edges.proofs.Tests.{gives-small, gives-iff, step-iff, last-round}
 use Rattle.edges.proofs.Circle.{shown-one, circle-chain, circle-none, circle-iff}
 use Rattle.edges.proofs.Closing.{last-by, last-clear}
 use Rattle.edges.proofs.Shown.{shown-computed}

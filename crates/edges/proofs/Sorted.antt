@@ -7,21 +7,22 @@
 use mathlib.Core.Path.{_≡_, sym, _∙_}
 use mathlib.Core.Logic.{_≢_, _⊎_, inl, inr, _↔_}
 use mathlib.Core.Bool.{Bool, false, not, So, _&&_, false≢true}
-use Prim.Native.Nat.{ℕ, zero, suc, _<_}
+use Prim.Native.Nat.{ℕ, _<_}
 use lib.Dec.{eqb}
 use Rattle.laws.specs.Tests.{any}
-use Rattle.laws.specs.Relation.{Rel, Table, _⊆_, Transitive, one, more}
+use Rattle.laws.specs.Relation.{Table, _⊆_, Transitive}
 use Rattle.laws.specs.Sorted.{On, sorted}
 use Rattle.laws.proofs.Tests.{test, and-iff, not-iff, any-iff, same-iff, so-eq}
 use Rattle.laws.proofs.Sorted.{sorted-once, sorted-keeps}
 use Rattle.trace.specs.Frame.{Frame, Good, Writer, Source}
 use Rattle.trace.specs.Order.{Keeps, Valid}
-use Rattle.edges.specs.Rules.{Gives, rule1, rule2, rule3, rule4, rule5, rule6, rule7, rule8, Step, Chains, Edge, Contradicted, nothing}
+use Rattle.edges.specs.Rules.{rule7, rule8, Step, Chains, Edge, Contradicted, nothing}
 use Rattle.edges.specs.Tests.{source?, writer?}
 use Rattle.edges.specs.Closing.{Closing}
 use Rattle.edges.specs.Missing.{Sourced}
 use Rattle.edges.specs.Clear.{Settles, Total, Strict}
 use Rattle.edges.proofs.Rounds.{step-mono, held-join, held-closed}
+use Rattle.edges.proofs.Ends.{chains-ends}
 use Rattle.edges.proofs.Tests.{source-iff, writer-iff}
 use Rattle.edges.proofs.Clear.{settled-valid, total-settles, closed-base}
 
@@ -35,23 +36,9 @@ module _ (f : Frame) (g : Good f) (K H : Table) (m : Sourced f) (o : Strict f H)
 
 -- Such is a held table that is not contradicted, over any supposed pairs; kept and supposed pairs lead from operations
 module _ (f : Frame) (g : Good f) (K P : Table) (kept : (x y : ℕ) → So (K x y) → So (f .operation x)) (supposed : (x y : ℕ) → So (P x y) → So (f .operation x)) where
-  step-starts : (C : Rel) (x y : ℕ) → Step f K P C x y → So (f .operation x)
-  step-starts C x y s = go (s .1)
-    where
-      go : {r : ℕ} → Gives f K P C x y r → So (f .operation x)
-      go (rule1 k) = kept x y k
-      go (rule2 s n) = g .writes x (s .writer .writes)
-      go (rule3 L s w d o) = g .writes x (w .writes)
-      go (rule4 s) = g .reads x (s .reads)
-      go (rule5 s o) = g .writes x (s .writer .writes)
-      go (rule6 L s w d h) = g .writes x (w .writes)
-      go (rule7 S s w d h) = g .reads x (s .reads)
-      go (rule8 k) = supposed x y k
-
   chains-starts : (k x y : ℕ) → Chains f K P k x y → So (f .operation x)
-  chains-starts zero x y h = absurd h
-  chains-starts (suc k) x y (one e) = step-starts (Chains f K P k) x y e
-  chains-starts (suc k) x y (more {y = z} e c) = step-starts (Chains f K P k) x z e
+  chains-starts k x y c =
+      chains-ends f g K P (λ x. So (f .operation x)) (λ x. Unit {0}) (λ x t. t) (λ x t. tt) (λ x y t. (kept x y t, tt)) (λ x y t. (supposed x y t, tt)) k x y c .0
 
   module _ (t : Table) (h : Closing f K P false t) where
     clear : Contradicted f K P → ⊥

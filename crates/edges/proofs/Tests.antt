@@ -3,8 +3,6 @@
 --   writer-iff, source-iff, first-iff == the parts of a rule
 --   gives-small                       == there are eight rules
 --   gives-iff, step-iff               == from a table of chains whose meaning is known
---   joins-within                      == operations are records of the trace
---   step-within, chains-within        == edges and chains join records of the trace
 --   chains-iff, edge-iff              == the chains and edges of each round
 --   last-round                        == within n * n rounds one adds nothing
 use mathlib.Core.Logic.{_≢_, _↔_}
@@ -13,15 +11,16 @@ use Prim.Native.Nat.{ℕ, zero, suc, _*_, _≤_, _<_}
 use native.Mathlib.Omega.{arith}
 use lib.Dec.{eqb}
 use Rattle.laws.specs.Tests.{any}
-use Rattle.laws.specs.Relation.{Rel, Table, one, more}
+use Rattle.laws.specs.Relation.{Rel, Table}
 use Rattle.laws.specs.Growth.{Still}
 use Rattle.laws.proofs.Tests.{and-iff, not-iff, same-iff, any-iff, so-eq}
 use Rattle.laws.proofs.Growth.{stops}
 use Rattle.laws.proofs.Warshall.{chains-iff as warshall}
 use Rattle.trace.specs.Frame.{Frame, Good, Writer, Source, First}
-use Rattle.edges.specs.Rules.{Gives, rule1, rule2, rule3, rule4, rule5, rule6, rule7, rule8, Step, Chains, Edge, Last, Within, Joins}
+use Rattle.edges.specs.Rules.{Gives, rule1, rule2, rule3, rule4, rule5, rule6, rule7, rule8, Step, Chains, Edge, Last, Within}
 use Rattle.edges.specs.Tests.{writer?, source?, first?, rules, gives?, step?, chains?, edge?}
 use Rattle.edges.proofs.Rounds.{edge-grow}
+use Rattle.edges.proofs.Ends.{step-within}
 
 pub writer-iff : (f : Frame) (S L : ℕ) → So (writer? f S L) ↔ Writer f S L
 unfolding writer?
@@ -114,32 +113,11 @@ module _ (f : Frame) (g : Good f) where
         some : So (any 9 (gives? f K P C x y)) ↔ ((r : ℕ) × (r < 9) × Gives f K P D x y r)
         some = any-iff gives-iff
 
-  pub joins-within : (K : Table) → Joins f K → Within f K
-  joins-within K j x y t = (g .below x (j x y t .0), g .below y (j x y t .1))
-
   module _ (K P : Table) (inK : Within f K) (inP : Within f P) where
-    pub step-within : (C : Rel) (x y : ℕ) → Step f K P C x y → (x < f .records) × (y < f .records)
-    step-within C x y s = go (s .1)
-      where
-        go : {r : ℕ} → Gives f K P C x y r → (x < f .records) × (y < f .records)
-        go (rule1 k) = inK x y k
-        go (rule2 s n) = (writer-below (s .writer), reader-below (s .reads))
-        go (rule3 L s w d o) = (writer-below w, writer-below (s .writer))
-        go (rule4 s) = (reader-below (s .reads), writer-below (s .writer))
-        go (rule5 s o) = (writer-below (s .writer), reader-below (s .reads))
-        go (rule6 L s w d h) = (writer-below w, writer-below (s .writer))
-        go (rule7 S s w d h) = (reader-below (s .reads), writer-below w)
-        go (rule8 k) = inP x y k
-
-    pub chains-within : (k x y : ℕ) → Chains f K P k x y → (x < f .records) × (y < f .records)
-    chains-within zero x y c = absurd c
-    chains-within (suc k) x y (one e) = step-within (Chains f K P k) x y e
-    chains-within (suc k) x y (more {y = z} e c) = (step-within (Chains f K P k) x z e .0, chains-within (suc k) z y c .1)
-
     pub chains-iff : (k x y : ℕ) → So (chains? f K P k x y) ↔ Chains f K P k x y
     unfolding chains?
     chains-iff zero x y = (λ t. absurd (false≢true t), λ t. absurd t)
-    chains-iff (suc k) x y = warshall (Edge f K P k) (f .records) _ (step-within (Chains f K P k)) (λ x y _ _. step-iff K P (chains? f K P k) (Chains f K P k) (chains-iff k) x y) x y
+    chains-iff (suc k) x y = warshall (Edge f K P k) (f .records) _ (step-within f g K P inK inP (Chains f K P k)) (λ x y _ _. step-iff K P (chains? f K P k) (Chains f K P k) (chains-iff k) x y) x y
 
     pub edge-iff : (k x y : ℕ) → So (edge? f K P k x y) ↔ Edge f K P k x y
     unfolding edge?
@@ -151,6 +129,6 @@ module _ (f : Frame) (g : Good f) where
         let s = stops (f .records) (edge? f K P) (λ k x y t. edge-iff (suc k) x y .1 (edge-grow f K P k x y (edge-iff k x y .0 t))) in (
           s .0,
           s .1,
-          λ x y e. let b = step-within (Chains f K P (suc (s .0))) x y e in
+          λ x y e. let b = step-within f g K P inK inP (Chains f K P (suc (s .0))) x y e in
               edge-iff (s .0) x y .0 (s .2 x y (b .0) (b .1) (edge-iff (suc (s .0)) x y .1 e)),
         )

@@ -1,11 +1,12 @@
 -- Walks of an exact length.
 --
---   run-walk, walk-run            == a walk is a run
---   walk-on                       == one edge more at the far end
---   walk-within                   == walks stay where the edges are
---   walk-iff                      == `walk?` says so
---   circle-walk, walk-circle      == a circle is a closed walk
---   no-shorter-one, no-shorter-next, no-shorter-none == lengths tried one after the other: from 1, one more, all of n and there is no circle
+--   run-walk, walk-run              == a walk is a run
+--   walk-on                         == a walk's last edge, as its first is by definition
+--   circle-walk, walk-circle        == a circle is a closed walk
+--   no-shorter-one, no-shorter-next == lengths tried one after the other, from 1 on
+--   no-shorter-none                 == and once all up to n are tried, there is no circle
+--   walk-within                     == walks stay where the edges are
+--   walk-iff                        == `walk?` says so
 use mathlib.Core.Path.{_≡_, refl, sym, subst}
 use mathlib.Core.Logic.{inl, inr, _↔_}
 use mathlib.Core.Bool.{So, _&&_}
@@ -33,9 +34,12 @@ module _ (E : Rel) where
   walk-run zero x z (m, e, q) = ([], refl, subst (E x) q e)
   walk-run (suc j) x z (m, e, w) = let (xs, l, r) = walk-run j m z w in (m ∷ xs, omega arith, (e, r))
 
-  pub walk-on : (j x y z : ℕ) → Walk E j x y → E y z → Walk E (suc j) x z
-  walk-on zero x y z q e = (z, subst (λ (y : ℕ). E y z) (sym q) e, refl)
-  walk-on (suc j) x y z (m, a, w) e = (m, a, walk-on j m y z w e)
+  pub walk-on : (j x z : ℕ) → Walk E (suc j) x z ↔ ((y : ℕ) × Walk E j x y × E y z)
+  walk-on zero x z = (λ w. (x, refl, subst (E x) (w .2) (w .1)), λ w. (z, subst (λ (y : ℕ). E y z) (sym (w .1)) (w .2), refl))
+  walk-on (suc j) x z = (
+    λ w. let (y, v, e) = walk-on j (w .0) z .0 (w .2) in (y, (w .0, w .1, v), e),
+    λ w. let (m, d, v) = w .1 in (m, d, walk-on j m z .1 (w .0, v, w .2)),
+  )
 
   pub circle-walk : (c : List ℕ) → Circle E c → (x : ℕ) × Walk E (length c) x x
   circle-walk [] h = absurd h
