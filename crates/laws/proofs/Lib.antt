@@ -4,3 +4,9 @@ pub mod Places
 pub mod Relation
 pub mod Via
 pub mod Warshall
+pub mod Sums
+pub mod Growth
+pub mod Counts
+pub mod Dict
+pub mod Lowest
+pub mod Sorted

@@ -3,3 +3,8 @@ pub mod Tests
 pub mod Places
 pub mod Relation
 pub mod Warshall
+pub mod Sums
+pub mod Growth
+pub mod Dict
+pub mod Lowest
+pub mod Sorted
