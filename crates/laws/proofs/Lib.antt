@@ -3,3 +3,4 @@ pub mod Places
 pub mod Relation
 pub mod Via
 pub mod Warshall
+pub mod Bits

@@ -3,3 +3,4 @@ pub mod Tests
 pub mod Places
 pub mod Relation
 pub mod Warshall
+pub mod Bits
