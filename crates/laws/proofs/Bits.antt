@@ -3,14 +3,15 @@
 --   bitOf-or    == an `or` has the bits of both
 --   bitOf-zero  == 0 has none
 --   bitOf-power == a power of two has one
+--   shift-one   == 1 shifted within a word is a power of two
 --   bitOf-past  == a number of k bits has none past them
 --   bitOf-half  == half a number has its bits, one lower
 --   bitOf-one   == two numbers of k bits with the same bits are one number
-use mathlib.Core.Path.{_≡_, refl, sym, ap, ap₂, _∙_, subst}
-use mathlib.Core.Logic.{_≢_, inl, inr}
+use mathlib.Core.Path.{_≡_, refl, sym, ap, _∙_, subst}
+use mathlib.Core.Logic.{inl, inr}
 use mathlib.Core.Bool.{Bool, true, false, _||_}
 use Prim.Native.Nat.{ℕ, zero, suc, _+_, _-_, _*_, _/_, _%_, _^_, _<_, _≤_}
-use native.Mathlib.Nat.{zero-div, div-one, div-self, div-eq-of-lt, mul-mod-left, pow-suc, pow-zero, lt-of-lt-of-le, div-add-mod', not-suc-le-zero}
+use native.Mathlib.Nat.{zero-div, div-one, div-self, div-eq-of-lt, mul-mod-left, pow-suc, lt-of-lt-of-le, one-mul, mod-eq-of-lt}
 use native.Mathlib.Omega.{arith}
 use lib.Arith.{lt-one}
 use lib.Bits.{bitOr, or-shr, or-mod}
@@ -52,6 +53,9 @@ bitOf-power k j = elim (three j k) [
   | inr (inl e) ↦ rw (e, div-self (pow-pos k), eq-eqb k k refl)
   | inr (inr h) ↦ rw (div-eq-of-lt (pow-lt h), ne-eqb j k (omega arith))
 ]
+
+pub shift-one : {k w : ℕ} → k < w → 1 * 2 ^ k % 2 ^ w ≡ 2 ^ k
+shift-one {k} {w} h = rw (one-mul (2 ^ k)) (mod-eq-of-lt (pow-lt h))
 
 pub bitOf-past : (n k j : ℕ) → n < 2 ^ k → k ≤ j → bitOf n j ≡ false
 unfolding bitOf
