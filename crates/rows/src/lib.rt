@@ -1,12 +1,17 @@
 // A relation on record numbers, kept as rows of bits: RECORDS rows of WORDS words. Every promise speaks of the relation, `bit` of
 // specs/Rows.antt, so that no crate above knows which bit of which word a pair has.
 ghost use mathlib.Core.Path.{_≡_};
+ghost use mathlib.Core.Bool.{So};
+ghost use mathlib.Core.Logic.{_↔_};
 ghost use Prim.Native.Nat.{_<_, _≤_};
 ghost use lib.ListN.{length};
+ghost use Rattle.laws.specs.Tests.{any};
 ghost use Rattle.trace.specs.Bounds.{RECORDS};
 ghost use Rattle.rows.specs.Bounds.{CELLS};
 ghost use Rattle.rows.specs.Rows.{bit, place};
+ghost use Rattle.rows.specs.Empty.{emptyOf};
 ghost use Rattle.rows.specs.Put.{markOf, putOf};
+ghost use Rattle.rows.specs.Copy.{copyOf};
 
 // The bits of a word.
 pub const WIDTH: usize = 64;
@@ -61,4 +66,67 @@ pub fn put(rows: &mut [u64], x: usize, y: usize)
             }
         }
     }
+}
+
+// Leaves no pair.
+pub fn clear(rows: &mut [u64])
+    ensures { λ r. ⌜ now (rows .exit) ≡ emptyOf (length (now (rows .entry))) ⌝ }
+{
+    let mut i: usize = 0;
+    while i < rows.len() {
+        rows[i] = 0;
+        i += 1;
+    }
+}
+
+// The relation with no pair.
+pub fn empty() -> [u64; CELLS]
+    ensures { λ r. ⌜ r ≡ emptyOf CELLS ⌝ }
+{
+    [0u64; CELLS]
+}
+
+// Makes `to` what `from` is; rows of another length are left as they are.
+pub fn copy(from: &[u64], to: &mut [u64])
+    ensures { λ r. ⌜ now (to .exit) ≡ copyOf (now (from .entry)) (now (to .entry)) ⌝ }
+{
+    if from.len() != to.len() {
+        return;
+    }
+    let mut i: usize = 0;
+    while i < to.len() {
+        to[i] = from[i];
+        i += 1;
+    }
+}
+
+// Whether two lists of words are the same; of rows of the full length, whether they hold the same relation.
+pub fn equal(a: &[u64], b: &[u64]) -> bool
+    ensures { λ r. ⌜ So r ↔ (now (a .entry) ≡ now (b .entry)) ⌝ }
+{
+    if a.len() != b.len() {
+        return false;
+    }
+    let mut i: usize = 0;
+    while i < a.len() {
+        if a[i] != b[i] {
+            return false;
+        }
+        i += 1;
+    }
+    true
+}
+
+// Whether some number is in a pair with itself.
+pub fn reflexive(rows: &[u64]) -> bool
+    ensures { λ r. ⌜ r ≡ any RECORDS (λ x. bit (now (rows .entry)) x x) ⌝ }
+{
+    let mut x: usize = 0;
+    while x < trace::RECORDS {
+        if test(rows, x, x) {
+            return true;
+        }
+        x += 1;
+    }
+    false
 }
