@@ -1,3 +1,4 @@
 pub mod Rows
 pub mod Pair
 pub mod Whole
+pub mod Closing

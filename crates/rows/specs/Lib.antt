@@ -4,3 +4,5 @@ pub mod Rows
 pub mod Empty
 pub mod Put
 pub mod Copy
+pub mod Joined
+pub mod Chained

@@ -12,6 +12,8 @@ ghost use Rattle.rows.specs.Rows.{bit, place};
 ghost use Rattle.rows.specs.Empty.{emptyOf};
 ghost use Rattle.rows.specs.Put.{markOf, putOf};
 ghost use Rattle.rows.specs.Copy.{copyOf};
+ghost use Rattle.rows.specs.Joined.{Joined, Passed};
+ghost use Rattle.rows.specs.Chained.{Chained};
 
 // The bits of a word.
 pub const WIDTH: usize = 64;
@@ -129,4 +131,46 @@ pub fn reflexive(rows: &[u64]) -> bool
         x += 1;
     }
     false
+}
+
+// Adds to row x the pairs that row k has, bit by bit.
+fn join(rows: &mut [u64], x: usize, k: usize)
+    requires { ⌜ (x < RECORDS) × (k < RECORDS) × (length (now rows) ≡ CELLS) ⌝ }
+    ensures { λ r. ⌜ Joined (now (rows .entry)) x k (now (rows .exit)) ⌝ }
+{
+    let mut y: usize = 0;
+    while y < trace::RECORDS {
+        if has(rows, k, y) {
+            mark(rows, x, y);
+        }
+        y += 1;
+    }
+}
+
+// Adds every pair that leads through k.
+fn pass(rows: &mut [u64], k: usize)
+    requires { ⌜ (k < RECORDS) × (length (now rows) ≡ CELLS) ⌝ }
+    ensures { λ r. ⌜ Passed (now (rows .entry)) k (now (rows .exit)) ⌝ }
+{
+    let mut x: usize = 0;
+    while x < trace::RECORDS {
+        if has(rows, x, k) {
+            join(rows, x, k);
+        }
+        x += 1;
+    }
+}
+
+// Makes the relation that of its chains, one or more pairs in a row; rows of another length are left as they are.
+pub fn chains(rows: &mut [u64])
+    ensures { λ r. ⌜ Chained (now (rows .entry)) (now (rows .exit)) ⌝ }
+{
+    if rows.len() != CELLS {
+        return;
+    }
+    let mut k: usize = 0;
+    while k < trace::RECORDS {
+        pass(rows, k);
+        k += 1;
+    }
 }
