@@ -2,3 +2,4 @@ pub mod Rows
 pub mod Pair
 pub mod Whole
 pub mod Closing
+pub mod One
