@@ -10,3 +10,4 @@ pub mod Counts
 pub mod Dict
 pub mod Lowest
 pub mod Sorted
+pub mod Bits

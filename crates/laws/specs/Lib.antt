@@ -8,3 +8,4 @@ pub mod Growth
 pub mod Dict
 pub mod Lowest
 pub mod Sorted
+pub mod Bits
