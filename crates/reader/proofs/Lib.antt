@@ -3,3 +3,5 @@ pub mod Classes
 pub mod Numbers
 pub mod Fits
 pub mod Chosen
+pub mod Bounded
+pub mod Steps
