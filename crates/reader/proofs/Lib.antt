@@ -5,3 +5,4 @@ pub mod Fits
 pub mod Chosen
 pub mod Bounded
 pub mod Steps
+pub mod Walks
