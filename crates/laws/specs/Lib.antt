@@ -3,3 +3,5 @@ pub mod Tests
 pub mod Places
 pub mod Relation
 pub mod Warshall
+pub mod Sums
+pub mod Growth
