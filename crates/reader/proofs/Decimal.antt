@@ -7,6 +7,7 @@
 --   decimal-number          == it is a number
 --   digits-split            == a text is its digits and the rest
 --   number-only, digits-only == nothing else is a number
+--   digits-count            == a byte that is no digit stands in no digits
 --   decimal-length          == a number below 10 ^ k has at most k digits
 use mathlib.Core.Path.{_≡_, refl, sym, ap, _∙_}
 use mathlib.Core.Logic.{_≢_, _↔_, inl, inr}
@@ -19,6 +20,7 @@ use native.Mathlib.Omega.{arith}
 use lib.Dec.{eqb}
 use lib.ListN.{length, drop, length-append}
 use borrow.Author.Tests.{lt-ltb, le-ltb, ne-eqb, eqb-false}
+use Rattle.laws.specs.Places.{count}
 use Rattle.laws.proofs.Tests.{and-iff, so-le, test}
 use Rattle.reader.specs.Number.{isDigit, digits, value, isNumber, decimalBy, decimal}
 
@@ -167,6 +169,13 @@ digits-split (b ∷ bs) = elim (test (isDigit b)) [
   | inl t ↦ rw t (ap (λ cs. b ∷ cs) (digits-split bs))
   | inr t ↦ rw t
 ]
+
+pub digits-count : (b : ℕ) → isDigit b ≡ false → (ds : List ℕ) → digits ds ≡ ds → count b ds ≡ 0
+unfolding count
+digits-count b h [] e = refl
+digits-count b h (d ∷ ds) e =
+    let p = digits-parts d ds e in
+    rw (ne-eqb b d (λ q. false≢true (sym h ∙ rw q (p .0)))) (digits-count b h ds (p .1))
 
 -- ---- length
 by-length : (k m n : ℕ) → n ≤ m → n < 10 ^ suc k → length (decimalBy m n) ≤ suc k
