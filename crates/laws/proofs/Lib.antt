@@ -1,4 +1,5 @@
 pub mod Tests
+pub mod Loops
 pub mod Places
 pub mod Relation
 pub mod Via

@@ -2,8 +2,10 @@
 --
 --   thread, address, read, written == its numbers
 --   reads, writes, fence           == what it does; a swap reads and writes
-use mathlib.Core.Bool.{Bool, true, false}
+--   writesTo o a v                 == o writes v to address a
+use mathlib.Core.Bool.{Bool, true, false, _&&_}
 use Prim.Native.Nat.{ℕ}
+use lib.Dec.{eqb}
 use Rattle.trace.specs.declared.Op.{Op}
 use Rattle.trace.specs.declared.Op.the-variants.{Load, Store, Swap, Fence}
 
@@ -48,3 +50,6 @@ fence (Load t a r) = false
 fence (Store t a w) = false
 fence (Swap t a r w) = false
 fence (Fence t) = true
+
+abbrev pub writesTo : Op → ℕ → ℕ → Bool
+writesTo o a v = writes o && eqb (address o) a && eqb (written o) v

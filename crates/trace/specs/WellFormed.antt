@@ -1,18 +1,18 @@
 -- When a trace is well formed. Reading a value that nobody wrote does not spoil it.
 --
---   bounded o            == the numbers of o keep their bounds
+--   bounded o             == the numbers of o keep their bounds
 --   writtenBefore t n a v == one of the first n records writes v to address a
---   fresh t n o          == o writes neither its address's first value nor one that the first n records wrote there
---   follows t n o        == o may stand after the first n records
---   isIdle o             == o is what an unused place holds
---   wellFormed t         == the trace is well formed
+--   fresh t n o           == o writes neither its address's first value nor one that the first n records wrote there
+--   follows t n o         == o may stand after the first n records
+--   isIdle o              == o is what an unused place holds
+--   wellFormed t          == the trace is well formed
 use mathlib.Core.Bool.{Bool, true, false, not, _&&_}
 use Prim.Native.Nat.{ℕ}
 use lib.Dec.{eqb, ltb, leb}
 use lib.ListN.{length}
 use Rattle.laws.specs.Tests.{_⇒_, all, any}
 use Rattle.trace.specs.Bounds.{RECORDS, THREADS, ADDRESSES, VALUES}
-use Rattle.trace.specs.Op.{thread, address, read, written, writes, fence}
+use Rattle.trace.specs.Op.{thread, address, read, written, writes, fence, writesTo}
 use Rattle.trace.specs.Trace.{at, first}
 use Rattle.trace.specs.declared.Op.{Op}
 use Rattle.trace.specs.declared.Trace.{Trace}
@@ -21,7 +21,7 @@ unfoldable pub bounded : Op → Bool
 bounded o = ltb (thread o) THREADS && ltb (address o) ADDRESSES && ltb (read o) VALUES && ltb (written o) VALUES
 
 unfoldable pub writtenBefore : Trace → ℕ → ℕ → ℕ → Bool
-writtenBefore t n a v = any n (λ i. writes (at t i) && eqb (address (at t i)) a && eqb (written (at t i)) v)
+writtenBefore t n a v = any n (λ i. writesTo (at t i) a v)
 
 unfoldable pub fresh : Trace → ℕ → Op → Bool
 fresh t n o = writes o ⇒ (not (eqb (written o) (first t (address o))) && not (writtenBefore t n (address o) (written o)))

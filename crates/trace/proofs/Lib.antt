@@ -1,0 +1,2 @@
+-- Laws of a trace, for the proofs of functions here and above.
+pub mod Places

@@ -1,0 +1,45 @@
+-- `trace::form::well_formed` meets its contract: the four parts of the definition, in turn. That the array has all its places is told by owning it. Assumes nothing.
+use mathlib.Core.Path.{_≡_, sym, _∙_}
+use mathlib.Core.Bool.{true, false}
+use lib.ListN.{length, length-map}
+use borrow.Author.Tests.{eq-eqb, le-leb, lt-leb}
+use Rattle.laws.specs.Tests.{all}
+use Rattle.trace.specs.Bounds.{RECORDS}
+use Rattle.trace.specs.Trace.{at}
+use Rattle.trace.specs.WellFormed.{follows, wellFormed}
+use borrow.Author.Needs.{needs}
+use Rattle.trace.proofs.form.well_formed.Statement.{statement}
+use Rattle.trace.proofs.form.well_formed.Tie as tie
+
+full : (c : tie.Start) → length (c .args .t .records) ≡ RECORDS
+full c = sym (length-map (c .args .t .records) _) ∙ c .good .0 .1 .1 .0 .1 .0 .1
+
+returns : tie.Need-returns
+unfolding wellFormed
+returns c = simp (eq-eqb _ _ (full (c .before)), lt-leb _ _ (c .if1 .taken))
+
+used-follow-requires : tie.Need-used-follow-requires
+used-follow-requires c κs = search needs
+
+rest-idle-requires : tie.Need-rest-idle-requires
+rest-idle-requires c κs = search needs
+
+returns-2 : tie.Need-returns-2
+unfolding wellFormed
+returns-2 c =
+    let k = c .before .before .before in
+    let t = k .before .args .t in
+    let used : all (t .len) (λ i. follows t i (at t i)) ≡ true = cc in
+    simp (eq-eqb _ _ (full (k .before)), le-leb _ _ (k .if1 .left), used) (c .rest-idle .ensures)
+
+returns-3 : tie.Need-returns-3
+unfolding wellFormed
+returns-3 c =
+    let k = c .before .before in
+    let t = k .before .args .t in
+    let used : all (t .len) (λ i. follows t i (at t i)) ≡ false = cc in
+    simp (eq-eqb _ _ (full (k .before)), le-leb _ _ (k .if1 .left), used)
+
+pub well-formed-spec : {M : Type 1} → statement M
+well-formed-spec =
+    tie.close (tie.spec returns used-follow-requires rest-idle-requires returns-2 returns-3)
