@@ -1,3 +1,4 @@
 pub mod Decimal
 pub mod Template
 pub mod Forms
+pub mod Cases
