@@ -3,3 +3,4 @@ pub mod Places
 pub mod WellFormed
 pub mod Meaning
 pub mod Good
+pub mod Growth
