@@ -4,3 +4,4 @@ pub mod WellFormed
 pub mod Meaning
 pub mod Good
 pub mod Growth
+pub mod One
