@@ -18,13 +18,13 @@ use native.Mathlib.Omega.{arith}
 use lib.Dec.{ltb}
 use lib.ListN.{length, getD}
 use borrow.Author.Tests.{ltb-false, lt-ltb, le-ltb, eqb-true, eqb-false, ne-eqb}
-use Rattle.laws.proofs.Tests.{test, and-iff, same-iff, any-iff, so-eq, so-lt, so-le, three as which, last?}
+use Rattle.laws.proofs.Tests.{test, and-iff, same-iff, so-eq, so-lt, so-le, three as which, last?}
 use Rattle.trace.specs.Bounds.{RECORDS}
 use Rattle.trace.specs.Op.{address, written, writes}
 use Rattle.trace.specs.Trace.{at, first, empty, pushed}
-use Rattle.trace.specs.WellFormed.{writtenBefore}
 use Rattle.trace.specs.declared.Op.{Op}
 use Rattle.trace.specs.declared.Trace.{Trace}
+use Rattle.trace.proofs.WellFormed.{written-before-iff}
 use Rattle.reader.specs.Bounds.{TEXT, LINE}
 use Rattle.reader.specs.Lines.{Line, lines}
 use Rattle.reader.specs.Form.{render, formOf, rawOf}
@@ -79,7 +79,7 @@ out-iff {a = false} p q = (λ t. inl (p .0 refl), λ t. refl)
 so-ge : {m n : ℕ} → (ltb m n ≡ false) ↔ (n ≤ m)
 so-ge {m} {n} = (ltb-false m n, le-ltb m n)
 
-past-iff : (raw : Raw) → (inBounds raw ≡ false) ↔ Past raw
+pub past-iff : (raw : Raw) → (inBounds raw ≡ false) ↔ Past raw
 unfolding inBounds
 past-iff (Load t a r) = out-iff (out-iff so-ge so-ge) so-ge
 past-iff (Store t a w) = out-iff (out-iff so-ge so-ge) so-ge
@@ -100,12 +100,6 @@ raw-op (Load t a r) h = refl
 raw-op (Store t a w) h = refl
 raw-op (Swap t a r b w) h = ap (λ b. Swap t a r b w) (sym (eqb-true a b h))
 raw-op (Fence t) h = refl
-
-before-iff : (t : Trace) (a v : ℕ) → So (writtenBefore t (t .len) a v) ↔ Before t a v
-unfolding writtenBefore
-before-iff t a v =
-    let w = any-iff {n = t .len} (λ i. and-iff (and-iff same-iff so-eq) so-eq) in
-    (λ s. let r = w .0 s in (r .0, r .1, r .2 .0 .0, r .2 .0 .1, r .2 .1), λ r. w .1 (r .0, r .1, ((r .2, r .3), r .4)))
 
 -- ---- a line
 
@@ -149,7 +143,7 @@ module _ (t : Trace) (l : Line) where
         (λ low. when TooMany low
         (λ low. when Twice low
         (λ low. clean (clean-right h low))
-        (says (λ raw. So (writes (opOf raw)) × Before t (address (opOf raw)) (written (opOf raw))) (and-iff same-iff (before-iff t (address o) (written o)))))
+        (says (λ raw. So (writes (opOf raw)) × Before t (address (opOf raw)) (written (opOf raw))) (and-iff same-iff (written-before-iff t (t .len) (address o) (written o)))))
         (says (λ raw. RECORDS ≤ t .len) so-le))
         (says (λ raw. So (writes (opOf raw)) × (written (opOf raw) ≡ first t (address (opOf raw)))) (and-iff same-iff so-eq))
 

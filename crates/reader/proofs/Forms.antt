@@ -19,12 +19,12 @@ use lib.ListN.{length, getD, drop, length-drop}
 use lib.Seq.{drop-cons}
 use Rattle.laws.specs.Places.{count}
 use Rattle.laws.specs.Warshall.{row}
-use Rattle.laws.proofs.Tests.{and-iff, so-lt}
 use Rattle.trace.specs.Bounds.{THREADS, ADDRESSES, VALUES}
-use Rattle.trace.specs.Op.{thread, address, read, written}
 use Rattle.trace.specs.WellFormed.{bounded}
+use Rattle.trace.specs.Form.{Bounded}
 use Rattle.trace.specs.declared.Op.{Op}
 use Rattle.trace.specs.declared.Op.the-variants as op
+use Rattle.trace.proofs.WellFormed.{bounded-iff}
 use Rattle.reader.specs.Bounds.{LINE, FEED}
 use Rattle.reader.specs.Number.{decimal}
 use Rattle.reader.specs.Template.{Hit, hit, miss, fill, found}
@@ -122,16 +122,15 @@ module _ {n : ℕ} where
   value-short : n < VALUES → length (decimal n) ≤ 5
   value-short h = decimal-length 5 n (omega arith) (omega arith)
 
-pub render-long : (o : Op) → So (bounded o) → length (renderOp o) ≤ LONGEST
-unfolding bounded render
-render-long o h = go o (and-iff (and-iff (and-iff so-lt so-lt) so-lt) so-lt .0 h)
-  where
-    go : (o : Op) → ((((thread o < THREADS) × (address o < ADDRESSES)) × (read o < VALUES)) × (written o < VALUES)) → length (renderOp o) ≤ LONGEST
-    go (op.Load t a r) b = omega (arith, fill-length loadForm (t ∷ a ∷ r ∷ []) refl, thread-short (b .0 .0 .0), address-short (b .0 .0 .1), value-short (b .0 .1))
-    go (op.Store t a w) b = omega (arith, fill-length storeForm (t ∷ a ∷ w ∷ []) refl, thread-short (b .0 .0 .0), address-short (b .0 .0 .1), value-short (b .1))
-    go (op.Swap t a r w) b =
-        omega (arith, fill-length swapForm (t ∷ a ∷ r ∷ a ∷ w ∷ []) refl, thread-short (b .0 .0 .0), address-short (b .0 .0 .1), value-short (b .0 .1), value-short (b .1))
-    go (op.Fence t) b = omega (arith, fill-length fenceForm (t ∷ []) refl, thread-short (b .0 .0 .0))
+pub render-long : (o : Op) → Bounded o → length (renderOp o) ≤ LONGEST
+unfolding render
+render-long (op.Load t a r) b =
+    omega (arith, fill-length loadForm (t ∷ a ∷ r ∷ []) refl, thread-short (b .thread-below), address-short (b .address-below), value-short (b .read-below))
+render-long (op.Store t a w) b =
+    omega (arith, fill-length storeForm (t ∷ a ∷ w ∷ []) refl, thread-short (b .thread-below), address-short (b .address-below), value-short (b .written-below))
+render-long (op.Swap t a r w) b =
+    omega (arith, fill-length swapForm (t ∷ a ∷ r ∷ a ∷ w ∷ []) refl, thread-short (b .thread-below), address-short (b .address-below), value-short (b .read-below), value-short (b .written-below))
+render-long (op.Fence t) b = omega (arith, fill-length fenceForm (t ∷ []) refl, thread-short (b .thread-below))
 
 pub render-short : (o : Op) → So (bounded o) → length (renderOp o) ≤ LINE
-render-short o h = omega (arith, render-long o h)
+render-short o h = omega (arith, render-long o (bounded-iff o .0 h))

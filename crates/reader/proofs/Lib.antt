@@ -2,3 +2,4 @@ pub mod Decimal
 pub mod Template
 pub mod Forms
 pub mod Cases
+pub mod RoundTrip

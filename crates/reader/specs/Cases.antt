@@ -21,6 +21,7 @@ use lib.ListN.{length}
 use Rattle.trace.specs.Bounds.{RECORDS, THREADS, ADDRESSES, VALUES}
 use Rattle.trace.specs.Op.{address, written, writes}
 use Rattle.trace.specs.Trace.{at, first, empty, pushed}
+use Rattle.trace.specs.Form.{Writes}
 use Rattle.trace.specs.declared.Op.{Op}
 use Rattle.trace.specs.declared.Trace.{Trace}
 use Rattle.reader.specs.Bounds.{TEXT, LINE}
@@ -48,7 +49,7 @@ TwoAddresses (Swap t a r b w) = a ≢ b
 TwoAddresses (Fence t) = ⊥
 
 abbrev pub Before : Trace → ℕ → ℕ → Type 0
-Before t a v = (i : ℕ) × (i < t .len) × So (writes (at t i)) × (address (at t i) ≡ a) × (written (at t i) ≡ v)
+Before t a v = (i : ℕ) × (i < t .len) × Writes (at t i) a v
 
 -- a text that is too long is no matter of a line
 abbrev pub Case : Reason → Trace → Line → Type 0
