@@ -20,8 +20,8 @@ use lib.ListN.{length, getD}
 use borrow.Author.Tests.{ltb-false, lt-ltb, le-ltb, eqb-true, eqb-false, ne-eqb}
 use Rattle.laws.proofs.Tests.{test, and-iff, same-iff, so-eq, so-lt, so-le, three as which, last?}
 use Rattle.trace.specs.Bounds.{RECORDS}
-use Rattle.trace.specs.Op.{address, written, writes}
-use Rattle.trace.specs.Trace.{at, first, empty, pushed}
+use Rattle.trace.specs.Op.{address, written}
+use Rattle.trace.specs.Trace.{empty, pushed}
 use Rattle.trace.specs.declared.Op.{Op}
 use Rattle.trace.specs.declared.Trace.{Trace}
 use Rattle.trace.proofs.WellFormed.{written-before-iff}
@@ -30,7 +30,7 @@ use Rattle.reader.specs.Lines.{Line, lines}
 use Rattle.reader.specs.Form.{render, formOf, rawOf}
 use Rattle.reader.specs.Answer.{numberOf, inBounds, oneAddress, opOf, joined, checked, checkedForm, turned}
 use Rattle.reader.specs.Read.{refusal, readLines, readText, badLines, badLineOf}
-use Rattle.reader.specs.Cases.{Says, Past, TwoAddresses, Before, Case, Below, Lowest, Clean, Took, none, next, Reaches, AtLine, Back, long, line}
+use Rattle.reader.specs.Cases.{Says, Past, TwoAddresses, WritesFirst, WritesAgain, Case, Below, Lowest, Clean, Took, none, next, Reaches, AtLine, Back, long, line}
 use Rattle.reader.specs.declared.Raw.{Raw}
 use Rattle.reader.specs.declared.Raw.the-variants.{Load, Store, Swap, Fence}
 use Rattle.reader.specs.declared.Form.{Form}
@@ -61,7 +61,8 @@ number-back Twice = refl
 pub number-one : (r s : Reason) → numberOf r ≡ numberOf s → r ≡ s
 number-one r s e = sym (number-back r) ∙ ap reasonOf e ∙ number-back s
 
-number-range : (reason : Reason) → (1 ≤ numberOf reason) × (numberOf reason ≤ 8)
+-- the first and the last number of the reader
+number-range : (reason : Reason) → (numberOf LongText ≤ numberOf reason) × (numberOf reason ≤ numberOf Twice)
 number-range LongText = omega arith
 number-range LongLine = omega arith
 number-range NoForm = omega arith
@@ -131,11 +132,11 @@ module _ (t : Trace) (l : Line) where
     says P f = (λ a. (raw, e, f .0 a), λ s. f .1 (subst P (render-one (s .0) raw (sym (s .1) ∙ e)) (s .2)))
 
     -- no number is left
-    clean-right : So (oneAddress raw) → Under 9 → Clean t l (opOf raw)
+    clean-right : So (oneAddress raw) → Under (suc (numberOf Twice)) → Clean t l (opOf raw)
     clean-right h low = (λ reason c. let r = number-range reason in low reason (omega arith) c, e ∙ ap render (raw-op raw h))
 
     -- numbers 6 to 8
-    joined-right : So (oneAddress raw) → Under 6 → Verdict t l (joined t (opOf raw))
+    joined-right : So (oneAddress raw) → Below FirstValue t l → Verdict t l (joined t (opOf raw))
     unfolding joined
     joined-right h low =
         let o = opOf raw in
@@ -143,12 +144,12 @@ module _ (t : Trace) (l : Line) where
         (λ low. when TooMany low
         (λ low. when Twice low
         (λ low. clean (clean-right h low))
-        (says (λ raw. So (writes (opOf raw)) × Before t (address (opOf raw)) (written (opOf raw))) (and-iff same-iff (written-before-iff t (t .len) (address o) (written o)))))
+        (says (λ raw. WritesAgain t (opOf raw)) (and-iff same-iff (written-before-iff t (t .len) (address o) (written o)))))
         (says (λ raw. RECORDS ≤ t .len) so-le))
-        (says (λ raw. So (writes (opOf raw)) × (written (opOf raw) ≡ first t (address (opOf raw)))) (and-iff same-iff so-eq))
+        (says (λ raw. WritesFirst t (opOf raw)) (and-iff same-iff so-eq))
 
     -- numbers 4 and 5
-    checked-right : Under 4 → Verdict t l (checked t raw)
+    checked-right : Below PastBound t l → Verdict t l (checked t raw)
     unfolding checked
     checked-right low =
         let two = says TwoAddresses (two-iff raw) in
@@ -157,7 +158,7 @@ module _ (t : Trace) (l : Line) where
         (says Past (past-iff raw))
 
   -- number 3
-  form-right : Under 3 → (b : Bool) → l .ended ≡ b → (f : Form) → formOf (l .bytes) ≡ f → Verdict t l (cond b (checkedForm t f) (turn.Refused NoForm))
+  form-right : Below NoForm t l → (b : Bool) → l .ended ≡ b → (f : Form) → formOf (l .bytes) ≡ f → Verdict t l (cond b (checkedForm t f) (turn.Refused NoForm))
   form-right low true p (Of raw) q = let e = form-only (l .bytes) raw q in checked-right raw e (past-one NoForm (λ c. elim c [ inl f ↦ false≢true (sym f ∙ p) | inr n ↦ n raw e ]) low)
   form-right low true p Nothing q = bad (inr (no-form (l .bytes) .0 q), low)
   form-right low false p f q = bad (inl p, low)
@@ -313,10 +314,10 @@ module _ (text : List ℕ) where
   part-good t e = let b = read-good t .0 e in part-lines (b .0) ∙ (rw append-nil at (took-bad (b .1) []))
 
   -- ---- the table, number by number
-  only-line : (reason : Reason) → 2 ≤ numberOf reason → (m : ℕ) → (readText text ≡ refusal reason m) ↔ AtLine text m (Lowest reason)
+  only-line : (reason : Reason) → numberOf LongText < numberOf reason → (m : ℕ) → (readText text ≡ refusal reason m) ↔ AtLine text m (Lowest reason)
   only-line reason h m = let b = refused-exactly reason m in (λ e. of h (b .0 e), λ r. b .1 (line r))
     where
-      of : {reason : Reason} → 2 ≤ numberOf reason → Back text m reason → AtLine text m (Lowest reason)
+      of : {reason : Reason} → numberOf LongText < numberOf reason → Back text m reason → AtLine text m (Lowest reason)
       of h (long g q) = absurd (omega arith)
       of h (line r) = r
 
@@ -341,12 +342,12 @@ module _ (text : List ℕ) where
     five = only-line Addresses (omega arith) m
 
     pub six : (readText text ≡ refusal FirstValue m)
-        ↔ AtLine text m (λ t l. Says l (λ raw. So (writes (opOf raw)) × (written (opOf raw) ≡ first t (address (opOf raw)))) × Below FirstValue t l)
+        ↔ AtLine text m (λ t l. Says l (λ raw. WritesFirst t (opOf raw)) × Below FirstValue t l)
     six = only-line FirstValue (omega arith) m
 
     pub seven : (readText text ≡ refusal TooMany m) ↔ AtLine text m (λ t l. Says l (λ raw. RECORDS ≤ t .len) × Below TooMany t l)
     seven = only-line TooMany (omega arith) m
 
     pub eight : (readText text ≡ refusal Twice m)
-        ↔ AtLine text m (λ t l. Says l (λ raw. So (writes (opOf raw)) × Before t (address (opOf raw)) (written (opOf raw))) × Below Twice t l)
+        ↔ AtLine text m (λ t l. Says l (λ raw. WritesAgain t (opOf raw)) × Below Twice t l)
     eight = only-line Twice (omega arith) m

@@ -7,28 +7,33 @@
 --   text-short     == the text of a well formed trace is never too long
 --   round-trip     == reading the text of a well formed trace gives that trace
 --   read-well      == the trace that comes back is always well formed
+--   join ls        == lines one after another, each with its line feed where one ends it
+--   join-lines     == the lines of a text are the text
+--   read-text      == a text that is read is the text of the trace
+--   read-exactly   == so a text is read as a trace exactly when the trace is well formed and the text is its own
 use mathlib.Core.Path.{_≡_, refl, sym, ap, subst, _∙_}
 use mathlib.Core.Logic.{_↔_, inl, inr}
-use mathlib.Core.Bool.{true, false, _&&_, So, false≢true}
-use mathlib.Core.List.{List, [], _∷_, _++_}
+use mathlib.Core.Bool.{true, false, _&&_, cond, So, false≢true}
+use mathlib.Core.List.{List, [], _∷_, _++_, append-assoc, append-nil}
 use Prim.Native.Nat.{ℕ, zero, suc, _+_, _*_, _≤_, _<_}
+use native.Mathlib.Numerals.{add-one}
 use native.Mathlib.Decide.{decLt}
 use native.Mathlib.Omega.{arith}
 use lib.Dec.{eqb, ltb}
 use lib.ListN.{length, take, drop, length-append, drop-of-length-le}
-use lib.Seq.{drop-cons, getD-take, length-take-le}
-use borrow.Author.Tests.{eqb-false, ne-eqb}
+use lib.Seq.{drop-cons, getD-take, length-take-le, take-suc-set}
+use borrow.Author.Tests.{eqb-true, eqb-false, ne-eqb}
 use Rattle.laws.specs.Places.{count}
 use Rattle.laws.proofs.Tests.{test, and-iff, so-lt}
 use Rattle.trace.specs.Bounds.{RECORDS, THREADS, ADDRESSES, VALUES}
-use Rattle.trace.specs.Op.{address, written, writes}
-use Rattle.trace.specs.Trace.{at, first, empty, pushed, upTo}
+use Rattle.trace.specs.Trace.{at, empty, pushed, upTo}
 use Rattle.trace.specs.WellFormed.{wellFormed}
 use Rattle.trace.specs.Form.{Bounded, Follows, Form}
 use Rattle.trace.specs.declared.Op.{Op}
 use Rattle.trace.specs.declared.Op.the-variants as op
 use Rattle.trace.specs.declared.Record.{Record}
 use Rattle.trace.specs.declared.Trace.{Trace}
+use Rattle.trace.proofs.Places.{pushed-room, pushed-places}
 use Rattle.trace.proofs.WellFormed.{follows-iff, form-iff}
 use Rattle.trace.proofs.Growth.{empty-well, pushed-well, upTo-none, upTo-all, upTo-len, upTo-more, upTo-follows}
 use Rattle.reader.specs.Bounds.{TEXT, FEED}
@@ -36,7 +41,7 @@ use Rattle.reader.specs.Lines.{Line, ahead, lines}
 use Rattle.reader.specs.Form.{rawOf, renderOp}
 use Rattle.reader.specs.Answer.{inBounds, opOf, turned}
 use Rattle.reader.specs.Read.{readLines, readText, renderRecords, renderTrace}
-use Rattle.reader.specs.Cases.{Says, Past, TwoAddresses, Before, Case, Clean, Took, none, next}
+use Rattle.reader.specs.Cases.{Says, Past, TwoAddresses, WritesFirst, WritesAgain, Case, Clean, Took, none, next}
 use Rattle.reader.specs.declared.Raw.{Raw}
 use Rattle.reader.specs.declared.Raw.the-variants.{Load, Store, Swap, Fence}
 use Rattle.reader.specs.declared.Reason.{Reason}
@@ -59,21 +64,14 @@ in-bounds (op.Swap t a r w) =
     (λ s. let p = e .0 s in omega arith, λ b. e .1 (omega arith))
 in-bounds (op.Fence t) = let e = so-lt {m = t} {n = THREADS} in (λ s. let p = e .0 s in omega arith, λ b. e .1 (omega arith))
 
--- what a record that may not follow writes
-abbrev First : Trace → Op → Type 0
-First t o = So (writes o) × (written o ≡ first t (address o))
-
-abbrev Again : Trace → Op → Type 0
-Again t o = So (writes o) × Before t (address o) (written o)
-
 pub clean-follows : (t : Trace) (l : Line) (o : Op) → Clean t l o → (t .len < RECORDS) × Follows t (t .len) o
 clean-follows t l o c = (
   room,
   record {
     keeps = keeps;
     fresh = λ w. record {
-      later = λ q. c .0 FirstValue (rawOf o, c .1, subst (First t) (sym (op-raw o)) (w, q));
-      once = λ j h x. c .0 Twice (rawOf o, c .1, subst (Again t) (sym (op-raw o)) (w, (j, h, x)));
+      later = λ q. c .0 FirstValue (rawOf o, c .1, subst (WritesFirst t) (sym (op-raw o)) (w, q));
+      once = λ j h x. c .0 Twice (rawOf o, c .1, subst (WritesAgain t) (sym (op-raw o)) (w, (j, h, x)));
     };
   },
 )
@@ -108,9 +106,9 @@ follows-clean t o room f = (never, refl)
     never NoForm (inr n) = n (rawOf o) refl
     never PastBound c = false≢true (sym (past-iff (rawOf o) .1 (own Past c)) ∙ in-bounds o .1 (f .keeps))
     never Addresses c = one-address o (own TwoAddresses c)
-    never FirstValue c = let k = subst (First t) (op-raw o) (own (λ raw. First t (opOf raw)) c) in f .fresh (k .0) .later (k .1)
+    never FirstValue c = let k = subst (WritesFirst t) (op-raw o) (own (λ raw. WritesFirst t (opOf raw)) c) in f .fresh (k .0) .later (k .1)
     never TooMany c = let h = c .2 in omega arith
-    never Twice c = let k = subst (Again t) (op-raw o) (own (λ raw. Again t (opOf raw)) c) in f .fresh (k .0) .once (k .1 .0) (k .1 .1) (k .1 .2)
+    never Twice c = let k = subst (WritesAgain t) (op-raw o) (own (λ raw. WritesAgain t (opOf raw)) c) in f .fresh (k .0) .once (k .1 .0) (k .1 .1) (k .1 .2)
 
 -- ---- the lines of a text
 pub lines-line : (bs rest : List ℕ) → count FEED bs ≡ 0 → lines (bs ++ FEED ∷ rest) ≡ record { bytes = bs; ended = true } ∷ lines rest
@@ -191,3 +189,46 @@ read-well text = elim (decLt TEXT (length text)) [
   | yes h ↦ rw (read-long text h) empty-well
   | no h ↦ rw (read-lines text (omega arith)) (reads-well 1 empty (lines text) empty-well)
 ]
+
+-- ---- what was read is written again
+
+abbrev pub join : List Line → List ℕ
+join [] = []
+join (l ∷ ls) = l .bytes ++ (cond (l .ended) (FEED ∷ []) [] ++ join ls)
+
+join-ahead : (b : ℕ) (ls : List Line) → join (ahead b ls) ≡ b ∷ join ls
+unfolding ahead
+join-ahead b [] = refl
+join-ahead b (l ∷ ls) = refl
+
+pub join-lines : (text : List ℕ) → join (lines text) ≡ text
+unfolding lines
+join-lines [] = refl
+join-lines (b ∷ bs) = elim (test (eqb b FEED)) [
+  | inl h ↦ rw h (ap (λ cs. FEED ∷ cs) (join-lines bs) ∙ ap (λ c. c ∷ bs) (sym (eqb-true b FEED h)))
+  | inr h ↦ rw h (join-ahead b (lines bs) ∙ ap (λ cs. b ∷ cs) (join-lines bs))
+]
+
+records-snoc : (rs : List Record) (r : Record) → renderRecords (rs ++ (r ∷ [])) ≡ renderRecords rs ++ (renderOp (r .op) ++ FEED ∷ [])
+unfolding renderRecords
+records-snoc [] r = refl
+records-snoc (q ∷ rs) r = rw (records-snoc rs r) (sym (append-assoc (renderOp (q .op)) (FEED ∷ renderRecords rs) (renderOp (r .op) ++ FEED ∷ [])))
+
+pushed-text : (t : Trace) (o : Op) → t .len < RECORDS → length (t .records) ≡ RECORDS → renderTrace (pushed t o) ≡ renderTrace t ++ (renderOp o ++ FEED ∷ [])
+pushed-text t o room full =
+    rw (pushed-room t o room, add-one, take-suc-set (t .records) (t .len) (record { op = o }) (omega arith)) (records-snoc (take (t .len) (t .records)) (record { op = o }))
+
+took-text : {t u : Trace} {ls : List Line} → Took t ls u → length (t .records) ≡ RECORDS → renderTrace u ≡ renderTrace t ++ join ls
+took-text (none {t}) full = sym (append-nil (renderTrace t))
+took-text (next {t} {u} {l} {ls} o c k) full =
+    let room = clean-follows t l o c .0 in
+    let whole : l .ended ≡ true = elim (test (l .ended)) [ inl h ↦ h | inr h ↦ absurd (c .0 NoForm (inl h)) ] in
+    took-text k (pushed-places t o room ∙ full) ∙ ap (λ cs. cs ++ join ls) (pushed-text t o room full) ∙ rw (whole, c .1) (simp append-assoc)
+
+pub read-text : (text : List ℕ) (t : Trace) → readText text ≡ record { answer = answer.Good; trace = t } → renderTrace t ≡ text
+unfolding renderRecords
+read-text text t e = took-text (read-good text t .0 e .1) (form-iff empty .0 empty-well .places) ∙ join-lines text
+
+pub read-exactly : (text : List ℕ) (t : Trace) → (readText text ≡ record { answer = answer.Good; trace = t }) ↔ (So (wellFormed t) × (text ≡ renderTrace t))
+read-exactly text t =
+    (λ e. (subst (λ r. So (wellFormed (r .trace))) e (read-well text), sym (read-text text t e)), λ p. rw (p .1) (round-trip t (p .0)))

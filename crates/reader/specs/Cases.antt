@@ -3,7 +3,8 @@
 --   Says l P             == the line is the rendering of a raw record of which P holds
 --   Past raw             == its thread, an address or a value is past its bound
 --   TwoAddresses raw     == a swap whose two addresses differ
---   Before t a v         == some record of the trace writes v to address a
+--   WritesFirst t o      == o writes the first value of its address
+--   WritesAgain t o      == o writes a value that was written before at its address
 --   Case reason t l      == the case of a reason's number: the line l, behind the trace t so far
 --   Below reason t l     == no lower number's case holds
 --   Lowest reason t l    == the case holds, and no lower number's
@@ -48,8 +49,11 @@ TwoAddresses (Store t a w) = ⊥
 TwoAddresses (Swap t a r b w) = a ≢ b
 TwoAddresses (Fence t) = ⊥
 
-abbrev pub Before : Trace → ℕ → ℕ → Type 0
-Before t a v = (i : ℕ) × (i < t .len) × Writes (at t i) a v
+abbrev pub WritesFirst : Trace → Op → Type 0
+WritesFirst t o = So (writes o) × (written o ≡ first t (address o))
+
+abbrev pub WritesAgain : Trace → Op → Type 0
+WritesAgain t o = So (writes o) × ((i : ℕ) × (i < t .len) × Writes (at t i) (address o) (written o))
 
 -- a text that is too long is no matter of a line
 abbrev pub Case : Reason → Trace → Line → Type 0
@@ -58,9 +62,9 @@ Case LongLine t l = LINE < length (l .bytes)
 Case NoForm t l = (l .ended ≡ false) ⊎ ((raw : Raw) → l .bytes ≡ render raw → ⊥)
 Case PastBound t l = Says l Past
 Case Addresses t l = Says l TwoAddresses
-Case FirstValue t l = Says l (λ raw. So (writes (opOf raw)) × (written (opOf raw) ≡ first t (address (opOf raw))))
+Case FirstValue t l = Says l (λ raw. WritesFirst t (opOf raw))
 Case TooMany t l = Says l (λ raw. RECORDS ≤ t .len)
-Case Twice t l = Says l (λ raw. So (writes (opOf raw)) × Before t (address (opOf raw)) (written (opOf raw)))
+Case Twice t l = Says l (λ raw. WritesAgain t (opOf raw))
 
 abbrev pub Below : Reason → Trace → Line → Type 0
 Below reason t l = (other : Reason) → numberOf other < numberOf reason → Case other t l → ⊥
