@@ -7,3 +7,7 @@ pub mod Warshall
 pub mod Sums
 pub mod Growth
 pub mod Counts
+pub mod Dict
+pub mod Lowest
+pub mod Sorted
+pub mod Bits

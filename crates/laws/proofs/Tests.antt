@@ -2,6 +2,7 @@
 --
 --   off, so-not, test           == a test that does not pass; a test passes or it is false
 --   and-iff, or-iff, not-iff    == joined tests say what their parts say, joined
+--   yes-iff, no-iff, test-one   == a test whose answer is known; two tests that say the same are one
 --   so-eq, so-lt, so-le         == the tests of numbers
 --   eq?, three, last?           == cases on numbers
 --   so-all, so-any              == the tests over all numbers below a bound
@@ -47,6 +48,16 @@ same-iff = (λ t. t, λ t. t)
 pub imp-iff : {a b : Bool} {B : Type 0} → So b ↔ B → So (a ⇒ b) ↔ (So a → B)
 imp-iff {a = true} q = (λ t u. q .0 t, λ t. q .1 (t refl))
 imp-iff {a = false} q = (λ t u. absurd (false≢true u), λ t. refl)
+
+pub yes-iff : {A : Type 0} → A → So true ↔ A
+yes-iff a = (λ t. a, λ t. refl)
+
+pub no-iff : {A : Type 0} → (A → ⊥) → So false ↔ A
+no-iff n = (λ t. absurd (false≢true t), λ a. absurd (n a))
+
+pub test-one : {a b : Bool} {A : Type 0} → So a ↔ A → So b ↔ A → a ≡ b
+test-one {a = true} p q = sym (q .1 (p .0 refl))
+test-one {a = false} p q = sym (off (λ t. false≢true (p .1 (q .0 t))))
 
 pub so-eq : {m n : ℕ} → So (eqb m n) ↔ (m ≡ n)
 so-eq {m} {n} = (eqb-true m n, eq-eqb m n)

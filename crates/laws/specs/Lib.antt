@@ -6,3 +6,7 @@ pub mod Relation
 pub mod Warshall
 pub mod Sums
 pub mod Growth
+pub mod Dict
+pub mod Lowest
+pub mod Sorted
+pub mod Bits

@@ -42,7 +42,7 @@ use Rattle.reader.specs.declared.Turn.the-variants as turn
 use Rattle.reader.specs.declared.Answer.{Answer}
 use Rattle.reader.specs.declared.Answer.the-variants as answer
 use Rattle.reader.specs.declared.Reading.{Reading}
-use Rattle.reader.proofs.Forms.{form-only, no-form, render-one, render-op-one}
+use Rattle.reader.proofs.Rendering.{form-only, no-form, render-one, render-op-one}
 
 -- the reason of a number
 abbrev reasonOf : ℕ → Reason

@@ -1,5 +1,10 @@
+pub mod Lines
+pub mod Classes
+pub mod Numbers
+pub mod Fits
+pub mod Chosen
 pub mod Decimal
 pub mod Template
-pub mod Forms
+pub mod Rendering
 pub mod Cases
 pub mod RoundTrip

@@ -49,7 +49,7 @@ use Rattle.reader.specs.declared.Reason.the-variants.{LongText, LongLine
 use Rattle.reader.specs.declared.Turn.{Turn}
 use Rattle.reader.specs.declared.Turn.the-variants as turn
 use Rattle.reader.specs.declared.Answer.the-variants as answer
-use Rattle.reader.proofs.Forms.{render-one, render-feed, op-raw, LONGEST, render-long}
+use Rattle.reader.proofs.Rendering.{render-one, render-feed, op-raw, LONGEST, render-long}
 use Rattle.reader.proofs.Cases.{past-iff, turned-taken, read-long, read-lines, read-good}
 
 three-low : (t a v : ℕ) → So (ltb t THREADS && ltb a ADDRESSES && ltb v VALUES) ↔ (((t < THREADS) × (a < ADDRESSES)) × (v < VALUES))

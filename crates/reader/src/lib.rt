@@ -1,6 +1,11 @@
 // Text to trace: any text whatever gets the trace that it writes, or the number of what is wrong with it and the line.
 
 use trace::Op;
+
+pub mod digits;
+pub mod forms;
+pub mod walk;
+
 use trace::Trace;
 
 // What a byte of a line is.

@@ -1,0 +1,9 @@
+-- What the rules force, over any table of kept pairs.
+pub mod Rules
+pub mod Tests
+pub mod Closing
+pub mod Circle
+pub mod Walk
+pub mod ShownCircle
+pub mod Missing
+pub mod Clear

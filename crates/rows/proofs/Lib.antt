@@ -1,0 +1,5 @@
+pub mod Rows
+pub mod Pair
+pub mod Whole
+pub mod Closing
+pub mod One

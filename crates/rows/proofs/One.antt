@@ -1,0 +1,62 @@
+-- No second answer fits: each theorem speaks of a public function's contract as the checker reads it, so a clause that is weakened
+-- breaks its theorem.
+--
+--   Settles Post     == the contract settles what comes back
+--   Leaves look Post == the contract settles what is left in lent memory, seen by `look`
+use mathlib.Core.Path.{_≡_, sym, _∙_}
+use mathlib.Core.List.{List}
+use Prim.Native.Nat.{ℕ}
+use contract.Lifetimes.{Lfts}
+use denote.Ref.{now}
+use denote.Triple.Clauses.{AtExit}
+use borrow.Fn.Kinds.{PK, RK, Dens, Out, resT, endedOf}
+use Rattle.laws.proofs.Tests.{test-one}
+use Rattle.rows.proofs.Closing.{chained-one}
+use Rattle.rows.proofs.test.Reads as test
+use Rattle.rows.proofs.test.Kinds as test-kinds
+use Rattle.rows.proofs.put.Reads as put
+use Rattle.rows.proofs.put.Kinds as put-kinds
+use Rattle.rows.proofs.clear.Reads as clear
+use Rattle.rows.proofs.clear.Kinds as clear-kinds
+use Rattle.rows.proofs.empty.Reads as empty
+use Rattle.rows.proofs.empty.Kinds as empty-kinds
+use Rattle.rows.proofs.copy.Reads as copy
+use Rattle.rows.proofs.copy.Kinds as copy-kinds
+use Rattle.rows.proofs.equal.Reads as equal
+use Rattle.rows.proofs.equal.Kinds as equal-kinds
+use Rattle.rows.proofs.reflexive.Reads as reflexive
+use Rattle.rows.proofs.reflexive.Kinds as reflexive-kinds
+use Rattle.rows.proofs.chains.Reads as chains
+use Rattle.rows.proofs.chains.Kinds as chains-kinds
+
+module _ (n : ℕ) (ps : List (PK n)) (r : RK n) where
+  abbrev pub Settles : Out n ps r → Type 0
+  Settles Post = (κs : Lfts n) (a : Dens κs ps) (x y : resT r κs .Denot) (s t : AtExit (endedOf n ps r) κs) → Post κs a x s → Post κs a y t → x ≡ y
+
+  abbrev pub Leaves : ((κs : Lfts n) → AtExit (endedOf n ps r) κs → List ℕ) → Out n ps r → Type 0
+  Leaves look Post =
+      (κs : Lfts n) (a : Dens κs ps) (x y : resT r κs .Denot) (s t : AtExit (endedOf n ps r) κs) → Post κs a x s → Post κs a y t → look κs s ≡ look κs t
+
+pub test-settles : Settles 1 test-kinds.ps test-kinds.r test.Post
+test-settles κs a x y s t p q = p ∙ sym q
+
+pub put-leaves : Leaves 1 put-kinds.ps put-kinds.r (λ κs s. now (s .0)) put.Post
+put-leaves κs a x y s t p q = p ∙ sym q
+
+pub clear-leaves : Leaves 1 clear-kinds.ps clear-kinds.r (λ κs s. now (s .0)) clear.Post
+clear-leaves κs a x y s t p q = p ∙ sym q
+
+pub empty-settles : Settles 0 empty-kinds.ps empty-kinds.r empty.Post
+empty-settles κs a x y s t p q = p ∙ sym q
+
+pub copy-leaves : Leaves 2 copy-kinds.ps copy-kinds.r (λ κs s. now (s .1 .0)) copy.Post
+copy-leaves κs a x y s t p q = p ∙ sym q
+
+pub equal-settles : Settles 2 equal-kinds.ps equal-kinds.r equal.Post
+equal-settles κs a x y s t p q = test-one p q
+
+pub reflexive-settles : Settles 1 reflexive-kinds.ps reflexive-kinds.r reflexive.Post
+reflexive-settles κs a x y s t p q = p ∙ sym q
+
+pub chains-leaves : Leaves 1 chains-kinds.ps chains-kinds.r (λ κs s. now (s .0)) chains.Post
+chains-leaves κs a x y s t p q = chained-one (now (a .0)) (now (s .0)) (now (t .0)) p q

@@ -1,0 +1,120 @@
+-- Rows with one pair more.
+--
+--   mark-bit, put-bit     == the relation has the pair and what it had
+--   mark-long, put-long   == as many words as before
+--   mark-words, put-words == words stay words
+--   put-in, put-left, put-right, put-past == within the records the pair is marked; elsewhere nothing changes
+use mathlib.Core.Path.{_≡_, refl, sym, ap, ap₂, _∙_}
+use mathlib.Core.Logic.{_↔_, inl, inr}
+use mathlib.Core.Bool.{Bool, true, false, So, cond, _||_, _&&_, or-false}
+use mathlib.Core.List.{List}
+use Prim.Native.Nat.{ℕ, _%_, _^_, _<_, _≤_}
+use native.Mathlib.Decide.{decLt}
+use native.Mathlib.Omega.{arith}
+use borrow.Author.Tests.{le-ltb}
+use lib.Bits.{bitOr, or-lt}
+use lib.Dec.{eqb, ltb}
+use lib.ListN.{length, getD, set, length-set}
+use lib.Pow.{pow-lt}
+use lib.Seq.{getD-set-same, getD-set-other, set-out}
+use Rattle.laws.specs.Bits.{bitOf}
+use Rattle.laws.proofs.Bits.{bitOf-or, bitOf-power}
+use Rattle.laws.proofs.Tests.{off, test-one, and-iff, so-eq, so-lt, eq?}
+use Rattle.trace.specs.Bounds.{RECORDS}
+use Rattle.rows.specs.Bounds.{WIDTH, CELLS}
+use Rattle.rows.specs.Rows.{place, bit, Words}
+use Rattle.rows.specs.Put.{markOf, putOf}
+use Rattle.rows.proofs.Rows.{bit-at, bit-left, bit-right, place-in}
+
+module _ (rows : List ℕ) (x y : ℕ) where
+  pub mark-long : length (markOf rows x y) ≡ length rows
+  unfolding markOf
+  mark-long = length-set rows (place x y) _
+
+  pub mark-words : Words rows → Words (markOf rows x y)
+  unfolding markOf
+  mark-words w i = elim (eq? i (place x y)) [
+    | inl e ↦ rw e (elim (decLt (place x y) (length rows)) [
+      | yes l ↦ rw (getD-set-same rows (place x y) v 0 l) (or-lt WIDTH (getD rows (place x y) 0) (2 ^ (y % WIDTH)) (w (place x y)) (pow-lt {i = y % WIDTH} {j = WIDTH} (omega arith)))
+      | no l ↦ rw (set-out rows (place x y) v (omega arith)) (w (place x y))
+    ])
+    | inr d ↦ rw (getD-set-other rows (place x y) i v 0 d) (w i)
+  ]
+    where
+      v : ℕ
+      v = bitOr (getD rows (place x y) 0) (2 ^ (y % WIDTH))
+
+  -- the words, bit by bit
+  mark-word : place x y < length rows → (i j : ℕ) → bitOf (getD (markOf rows x y) i 0) j ≡ (bitOf (getD rows i 0) j || (eqb i (place x y) && eqb j (y % WIDTH)))
+  unfolding markOf
+  mark-word l i j = elim (eq? i (place x y)) [
+    | inl e ↦ rw (e, getD-set-same rows (place x y) v 0 l, bitOf-or, bitOf-power, so-eq {m = place x y} {n = place x y} .1 refl) refl
+    | inr d ↦ rw (getD-set-other rows (place x y) i v 0 d, off (λ t. d (so-eq .0 t)), or-false) refl
+  ]
+    where
+      v : ℕ
+      v = bitOr (getD rows (place x y) 0) (2 ^ (y % WIDTH))
+
+  module _ (hx : x < RECORDS) (hy : y < RECORDS) where
+    pub put-in : putOf rows x y ≡ markOf rows x y
+    unfolding putOf
+    put-in = rw (so-lt .1 hx, so-lt .1 hy) refl
+
+    -- a pair is x, y
+    is-pair : {i j : ℕ} → So (eqb i x && eqb j y) ↔ ((i ≡ x) × (j ≡ y))
+    is-pair = and-iff so-eq so-eq
+
+    no-pair : (i j : ℕ) → ((i ≡ x) × (j ≡ y) → ⊥) → (eqb i x && eqb j y) ≡ false
+    no-pair i j d = off (λ t. d (is-pair .0 t))
+
+    -- two pairs have one bit only if they are one
+    one-bit : (i j : ℕ) → i < RECORDS → j < RECORDS → (eqb (place i j) (place x y) && eqb (j % WIDTH) (y % WIDTH)) ≡ (eqb i x && eqb j y)
+    one-bit i j hi hj =
+        test-one {A = (i ≡ x) × (j ≡ y)}
+        (let q : So (eqb (place i j) (place x y) && eqb (j % WIDTH) (y % WIDTH)) ↔ ((place i j ≡ place x y) × (j % WIDTH ≡ y % WIDTH)) = and-iff so-eq so-eq in
+        (λ t. let e = q .0 t in (omega arith, omega arith), λ e. q .1 (omega arith, omega arith)))
+        is-pair
+
+    pub mark-bit : place x y < length rows → (i j : ℕ) → bit (markOf rows x y) i j ≡ (bit rows i j || (eqb i x && eqb j y))
+    mark-bit l i j = elim (decLt i RECORDS) [
+      | yes hi ↦ elim (decLt j RECORDS) [
+        | yes hj ↦ rw (bit-at (markOf rows x y) i j hi hj, bit-at rows i j hi hj, mark-word l (place i j) (j % WIDTH), one-bit i j hi hj) refl
+        | no hj ↦ rw (bit-right (markOf rows x y) i j (omega arith), bit-right rows i j (omega arith), no-pair i j (λ e. omega arith)) refl
+      ]
+      | no hi ↦ rw (bit-left (markOf rows x y) i j (omega arith), bit-left rows i j (omega arith), no-pair i j (λ e. omega arith)) refl
+    ]
+
+    pub put-bit : CELLS ≤ length rows → (i j : ℕ) → bit (putOf rows x y) i j ≡ (bit rows i j || (eqb i x && eqb j y))
+    put-bit l i j = rw put-in (mark-bit (place-in hx hy l) i j)
+
+  pub put-left : RECORDS ≤ x → putOf rows x y ≡ rows
+  unfolding putOf
+  put-left h = rw (le-ltb x RECORDS h) refl
+
+  pub put-right : RECORDS ≤ y → putOf rows x y ≡ rows
+  unfolding putOf
+  put-right h = rw (off {b = ltb x RECORDS && ltb y RECORDS} (λ t. let e = and-iff (so-lt {m = x} {n = RECORDS}) (so-lt {m = y} {n = RECORDS}) .0 t in omega arith)) refl
+
+  pub put-past : length rows ≤ place x y → putOf rows x y ≡ rows
+  unfolding putOf markOf
+  put-past h = either (ltb x RECORDS && ltb y RECORDS)
+    where
+      either : (b : Bool) → cond b (markOf rows x y) rows ≡ rows
+      either true = set-out rows (place x y) _ h
+      either false = refl
+
+  pub put-long : length (putOf rows x y) ≡ length rows
+  unfolding putOf
+  put-long = either (ltb x RECORDS && ltb y RECORDS)
+    where
+      either : (b : Bool) → length (cond b (markOf rows x y) rows) ≡ length rows
+      either true = mark-long
+      either false = refl
+
+  pub put-words : Words rows → Words (putOf rows x y)
+  unfolding putOf
+  put-words w = either (ltb x RECORDS && ltb y RECORDS)
+    where
+      either : (b : Bool) → Words (cond b (markOf rows x y) rows)
+      either true = mark-words w
+      either false = w

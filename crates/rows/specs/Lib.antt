@@ -1,0 +1,8 @@
+-- A relation on record numbers, kept as rows of bits. Bounds and Rows have how it is kept; nothing above this crate looks at that.
+pub mod Bounds
+pub mod Rows
+pub mod Empty
+pub mod Put
+pub mod Copy
+pub mod Joined
+pub mod Chained

@@ -1,0 +1,176 @@
+// A relation on record numbers, kept as rows of bits: RECORDS rows of WORDS words. Every promise speaks of the relation, `bit` of
+// specs/Rows.antt, so that no crate above knows which bit of which word a pair has.
+ghost use mathlib.Core.Path.{_≡_};
+ghost use mathlib.Core.Bool.{So};
+ghost use mathlib.Core.Logic.{_↔_};
+ghost use Prim.Native.Nat.{_<_, _≤_};
+ghost use lib.ListN.{length};
+ghost use Rattle.laws.specs.Tests.{any};
+ghost use Rattle.trace.specs.Bounds.{RECORDS};
+ghost use Rattle.rows.specs.Bounds.{CELLS};
+ghost use Rattle.rows.specs.Rows.{bit, place};
+ghost use Rattle.rows.specs.Empty.{emptyOf};
+ghost use Rattle.rows.specs.Put.{markOf, putOf};
+ghost use Rattle.rows.specs.Copy.{copyOf};
+ghost use Rattle.rows.specs.Joined.{Joined, Passed};
+ghost use Rattle.rows.specs.Chained.{Chained};
+
+// The bits of a word.
+pub const WIDTH: usize = 64;
+
+// The words of a row: enough for RECORDS bits.
+pub const WORDS: usize = 1;
+
+// The words of all rows.
+pub const CELLS: usize = trace::RECORDS * WORDS;
+
+// The bit of a pair that the rows have a place for.
+fn has(rows: &[u64], x: usize, y: usize) -> bool
+    requires { ⌜ (x < RECORDS) × (y < RECORDS) × (place x y < length (now rows)) ⌝ }
+    ensures { λ r. ⌜ r ≡ bit (now (rows .entry)) x y ⌝ }
+{
+    let word = rows[x * WORDS + y / WIDTH] >> (y % WIDTH);
+    word % 2 == 1
+}
+
+// Whether the relation has the pair x, y; a number past the records is in no pair.
+pub fn test(rows: &[u64], x: usize, y: usize) -> bool
+    ensures { λ r. ⌜ r ≡ bit (now (rows .entry)) x y ⌝ }
+{
+    if x < trace::RECORDS {
+        if y < trace::RECORDS {
+            if x * WORDS + y / WIDTH < rows.len() {
+                return has(rows, x, y);
+            }
+        }
+    }
+    false
+}
+
+// Sets the bit of a pair that the rows have a place for.
+fn mark(rows: &mut [u64], x: usize, y: usize)
+    requires { ⌜ (x < RECORDS) × (y < RECORDS) × (place x y < length (now rows)) ⌝ }
+    ensures { λ r. ⌜ now (rows .exit) ≡ markOf (now (rows .entry)) x y ⌝ }
+{
+    let i = x * WORDS + y / WIDTH;
+    let word = rows[i];
+    rows[i] = word | (1u64 << (y % WIDTH));
+}
+
+// Adds the pair x, y to the relation; a number past the records, or a pair past the end of the rows, changes nothing.
+pub fn put(rows: &mut [u64], x: usize, y: usize)
+    ensures { λ r. ⌜ now (rows .exit) ≡ putOf (now (rows .entry)) x y ⌝ }
+{
+    if x < trace::RECORDS {
+        if y < trace::RECORDS {
+            if x * WORDS + y / WIDTH < rows.len() {
+                mark(rows, x, y);
+            }
+        }
+    }
+}
+
+// Leaves no pair.
+pub fn clear(rows: &mut [u64])
+    ensures { λ r. ⌜ now (rows .exit) ≡ emptyOf (length (now (rows .entry))) ⌝ }
+{
+    let mut i: usize = 0;
+    while i < rows.len() {
+        rows[i] = 0;
+        i += 1;
+    }
+}
+
+// The relation with no pair.
+pub fn empty() -> [u64; CELLS]
+    ensures { λ r. ⌜ r ≡ emptyOf CELLS ⌝ }
+{
+    [0u64; CELLS]
+}
+
+// Makes `to` what `from` is; rows of another length are left as they are.
+pub fn copy(from: &[u64], to: &mut [u64])
+    ensures { λ r. ⌜ now (to .exit) ≡ copyOf (now (from .entry)) (now (to .entry)) ⌝ }
+{
+    if from.len() != to.len() {
+        return;
+    }
+    let mut i: usize = 0;
+    while i < to.len() {
+        to[i] = from[i];
+        i += 1;
+    }
+}
+
+// Whether two lists of words are the same; of rows of the full length, whether they hold the same relation.
+pub fn equal(a: &[u64], b: &[u64]) -> bool
+    ensures { λ r. ⌜ So r ↔ (now (a .entry) ≡ now (b .entry)) ⌝ }
+{
+    if a.len() != b.len() {
+        return false;
+    }
+    let mut i: usize = 0;
+    while i < a.len() {
+        if a[i] != b[i] {
+            return false;
+        }
+        i += 1;
+    }
+    true
+}
+
+// Whether some number is in a pair with itself.
+pub fn reflexive(rows: &[u64]) -> bool
+    ensures { λ r. ⌜ r ≡ any RECORDS (λ x. bit (now (rows .entry)) x x) ⌝ }
+{
+    let mut x: usize = 0;
+    while x < trace::RECORDS {
+        if test(rows, x, x) {
+            return true;
+        }
+        x += 1;
+    }
+    false
+}
+
+// Adds to row x the pairs that row k has, bit by bit.
+fn join(rows: &mut [u64], x: usize, k: usize)
+    requires { ⌜ (x < RECORDS) × (k < RECORDS) × (length (now rows) ≡ CELLS) ⌝ }
+    ensures { λ r. ⌜ Joined (now (rows .entry)) x k (now (rows .exit)) ⌝ }
+{
+    let mut y: usize = 0;
+    while y < trace::RECORDS {
+        if has(rows, k, y) {
+            mark(rows, x, y);
+        }
+        y += 1;
+    }
+}
+
+// Adds every pair that leads through k.
+fn pass(rows: &mut [u64], k: usize)
+    requires { ⌜ (k < RECORDS) × (length (now rows) ≡ CELLS) ⌝ }
+    ensures { λ r. ⌜ Passed (now (rows .entry)) k (now (rows .exit)) ⌝ }
+{
+    let mut x: usize = 0;
+    while x < trace::RECORDS {
+        if has(rows, x, k) {
+            join(rows, x, k);
+        }
+        x += 1;
+    }
+}
+
+// Makes the relation that of its chains, one or more pairs in a row; rows of another length are left as they are.
+pub fn chains(rows: &mut [u64])
+    ensures { λ r. ⌜ Chained (now (rows .entry)) (now (rows .exit)) ⌝ }
+{
+    if rows.len() != CELLS {
+        return;
+    }
+    let mut k: usize = 0;
+    while k < trace::RECORDS {
+        pass(rows, k);
+        k += 1;
+    }
+}
