@@ -81,14 +81,12 @@ so-ge : {m n : ℕ} → (ltb m n ≡ false) ↔ (n ≤ m)
 so-ge {m} {n} = (ltb-false m n, le-ltb m n)
 
 pub past-iff : (raw : Raw) → (inBounds raw ≡ false) ↔ Past raw
-unfolding inBounds
 past-iff (Load t a r) = out-iff (out-iff so-ge so-ge) so-ge
 past-iff (Store t a w) = out-iff (out-iff so-ge so-ge) so-ge
 past-iff (Swap t a r b w) = out-iff (out-iff (out-iff (out-iff so-ge so-ge) so-ge) so-ge) so-ge
 past-iff (Fence t) = so-ge
 
 two-iff : (raw : Raw) → (oneAddress raw ≡ false) ↔ TwoAddresses raw
-unfolding oneAddress
 two-iff (Load t a r) = (λ t. false≢true (sym t), λ u. absurd u)
 two-iff (Store t a w) = (λ t. false≢true (sym t), λ u. absurd u)
 two-iff (Swap t a r b w) = (eqb-false a b, ne-eqb a b)
@@ -96,7 +94,6 @@ two-iff (Fence t) = (λ t. false≢true (sym t), λ u. absurd u)
 
 -- a swap of one address is that of a record
 raw-op : (raw : Raw) → So (oneAddress raw) → raw ≡ rawOf (opOf raw)
-unfolding oneAddress
 raw-op (Load t a r) h = refl
 raw-op (Store t a w) h = refl
 raw-op (Swap t a r b w) h = ap (λ b. Swap t a r b w) (sym (eqb-true a b h))

@@ -3,6 +3,8 @@ pub mod Classes
 pub mod Numbers
 pub mod Fits
 pub mod Chosen
+pub mod Bounded
+pub mod Steps
 pub mod Decimal
 pub mod Template
 pub mod Rendering

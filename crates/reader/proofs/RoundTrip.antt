@@ -56,7 +56,6 @@ three-low : (t a v : ℕ) → So (ltb t THREADS && ltb a ADDRESSES && ltb v VALU
 three-low t a v = and-iff (and-iff so-lt so-lt) so-lt
 
 pub in-bounds : (o : Op) → So (inBounds (rawOf o)) ↔ Bounded o
-unfolding inBounds
 in-bounds (op.Load t a r) = let e = three-low t a r in (λ s. let p = e .0 s in omega arith, λ b. e .1 (omega arith))
 in-bounds (op.Store t a w) = let e = three-low t a w in (λ s. let p = e .0 s in omega arith, λ b. e .1 (omega arith))
 in-bounds (op.Swap t a r w) =

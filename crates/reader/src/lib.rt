@@ -4,6 +4,7 @@ use trace::Op;
 
 pub mod digits;
 pub mod forms;
+pub mod turns;
 pub mod walk;
 
 use trace::Trace;
