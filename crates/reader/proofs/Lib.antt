@@ -6,3 +6,8 @@ pub mod Chosen
 pub mod Bounded
 pub mod Steps
 pub mod Walks
+pub mod Decimal
+pub mod Template
+pub mod Rendering
+pub mod Cases
+pub mod RoundTrip

@@ -7,3 +7,4 @@ pub mod Template
 pub mod Form
 pub mod Answer
 pub mod Read
+pub mod Cases
