@@ -34,7 +34,6 @@ zeros n i = elim (decLt i n) [
 ]
 
 pub empty-bit : (n x y : ℕ) → bit (emptyOf n) x y ≡ false
-unfolding bit
 empty-bit n x y = elim (decLt x RECORDS) [
   | yes h ↦ elim (decLt y RECORDS) [
     | yes l ↦ bit-at (emptyOf n) x y h l ∙ rw zeros (bitOf-zero (y % WIDTH))
