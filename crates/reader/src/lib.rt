@@ -48,7 +48,7 @@ pub enum Number {
 // Whether a line is of a form, and its numbers; unused places are 0.
 pub struct Fit {
     pub fits: bool,
-    pub numbers: [u32; 5],
+    pub numbers: [u32; 4],
 }
 
 // A line of one of the four forms, its numbers not yet held to their bounds.
