@@ -10,9 +10,10 @@ pub mod turns;
 pub mod walk;
 
 use trace::Op;
+use trace::RECORDS;
+use trace::Record;
 use trace::Trace;
 use trace::empty;
-use trace::pushed;
 use turns::turned;
 use walk::line_end;
 
@@ -129,7 +130,11 @@ fn walked(text: &[u8]) -> Stand
         let ended = end < text.len();
         match turned(trace, &text[at..end], ended) {
             Turn::Taken(op) => {
-                trace = pushed(trace, op);
+                let n = trace.len;
+                if n < RECORDS {
+                    trace.records[n] = Record { op };
+                    trace.len = n + 1;
+                }
             }
             Turn::Refused(reason) => {
                 let answer = Answer::Refused { reason, line };
