@@ -4,6 +4,7 @@
 --   store-makes, load-makes, swap-makes, fence-makes == the makers of the four forms
 --   fit-taken  == a template that gives the line behind its thread makes the record
 --   fit-left   == one that does not leaves the line to the others
+--   plain-first, swap-first, fence-first, none-first == the first byte behind the thread tells which form can be meant
 --   thread-cut == the thread may be cut before the rest is looked at
 --   colon-there, colon-none, colon-inside == a colon and a space at a place
 --   no-thread, no-colon, with-thread == what the beginning of a line says of its form
@@ -13,14 +14,15 @@ use mathlib.Core.List.{List, [], _∷_, map}
 use Prim.Native.Nat.{ℕ, zero, suc, _+_, _<_, _≤_}
 use native.Mathlib.Decide.{decLt}
 use lib.Dec.{eqb}
+use borrow.Author.Tests.{ne-eqb}
 use lib.Seq.{drop-drop}
 use native.Mathlib.Omega.{arith}
 use lib.ListN.{length, drop, getD, replicate, List·getD-map}
 use Rattle.trace.specs.Bounds.{VALUES}
 use Rattle.reader.specs.Number.{digits, value, isNumber, cut}
-use Rattle.reader.specs.Template.{NUMBERS, Hit, hit, miss, also, begins, found, fitFrom, fitted}
+use Rattle.reader.specs.Template.{HOLE, NUMBERS, Hit, hit, miss, also, begins, found, fitFrom, fitted}
 use Rattle.reader.specs.Form.{begun, storeRest, loadRest, swapRest, sync, orElse, cutRaw, cutForm, storeOf, loadOf, swapOf, fenceOf, formOf}
-use Rattle.reader.specs.Behind.{fenceElse, swapElse, loadElse, firstOf, behindOf}
+use Rattle.reader.specs.Behind.{fenceElse, swapElse, loadElse, plainOf, exchangeOf, syncOf, firstOf, behindOf}
 use Rattle.reader.specs.declared.Fit.{Fit}
 use Rattle.reader.specs.declared.Raw.{Raw}
 use Rattle.reader.specs.declared.Form.{Form}
@@ -84,6 +86,34 @@ thread-cut v rest =
     (one-cut loadOf load-makes v (found loadRest rest) (swapElse (cut v) rest) (swapElse v rest)
     (one-cut swapOf swap-makes v (found swapRest rest) (fenceElse (cut v) rest) (fenceElse v rest)
     (one-cut fenceOf fence-makes v (found sync rest) Nothing Nothing refl)))
+
+-- a template gives nothing that begins with another byte than it
+other-byte : (t : ℕ) (ts s : List ℕ) → (t ≡ HOLE → ⊥) → begins t s ≡ false → found (t ∷ ts) s ≡ miss
+unfolding found
+other-byte t ts s h e = rw (ne-eqb t HOLE h, e)
+
+module _ (thread : ℕ) (s : List ℕ) (i : ℕ) where
+  -- the byte at the place, if it is b, is no other
+  not-there : (b t : ℕ) → i < length s → getD s i 0 ≡ b → (b ≡ t → ⊥) → begins t (drop i s) ≡ false
+  not-there b t h e d = begins-at t s i h ∙ ne-eqb (getD s i 0) t (λ q. d (sym e ∙ q))
+
+  pub plain-first : i < length s → getD s i 0 ≡ 77 → plainOf thread (drop i s) ≡ firstOf thread (drop i s)
+  plain-first h e =
+      rw (other-byte 123 _ (drop i s) (λ q. omega arith) (not-there 77 123 h e (λ q. omega arith)), other-byte 0x73 _ (drop i s) (λ q. omega arith) (not-there 77 0x73 h e (λ q. omega arith)))
+
+  pub swap-first : i < length s → getD s i 0 ≡ 123 → exchangeOf thread (drop i s) ≡ firstOf thread (drop i s)
+  swap-first h e =
+      let m : begins 77 (drop i s) ≡ false = not-there 123 77 h e (λ q. omega arith) in
+      rw (other-byte 77 (91 ∷ 35 ∷ 93 ∷ 32 ∷ 58 ∷ 61 ∷ 32 ∷ 35 ∷ []) (drop i s) (λ q. omega arith) m, other-byte 77 (91 ∷ 35 ∷ 93 ∷ 32 ∷ 61 ∷ 61 ∷ 32 ∷ 35 ∷ []) (drop i s) (λ q. omega arith) m, other-byte 0x73 _ (drop i s) (λ q. omega arith) (not-there 123 0x73 h e (λ q. omega arith)))
+
+  pub fence-first : begins 77 (drop i s) ≡ false → begins 123 (drop i s) ≡ false → syncOf thread (drop i s) ≡ firstOf thread (drop i s)
+  fence-first m b =
+      rw (other-byte 77 (91 ∷ 35 ∷ 93 ∷ 32 ∷ 58 ∷ 61 ∷ 32 ∷ 35 ∷ []) (drop i s) (λ q. omega arith) m, other-byte 77 (91 ∷ 35 ∷ 93 ∷ 32 ∷ 61 ∷ 61 ∷ 32 ∷ 35 ∷ []) (drop i s) (λ q. omega arith) m, other-byte 123 _ (drop i s) (λ q. omega arith) b)
+
+  pub none-first : length s ≤ i → Nothing ≡ firstOf thread (drop i s)
+  none-first h =
+      sym (ap (λ (f : Hit). orElse (also thread f) fenceOf Nothing) (other-byte 0x73 _ (drop i s) (λ q. omega arith) (begins-past 0x73 s i h)))
+      ∙ fence-first (begins-past 77 s i h) (begins-past 123 s i h)
 
 -- a colon and a space at a place
 module _ (s : List ℕ) (i : ℕ) where

@@ -1,6 +1,7 @@
 -- A line behind its thread and colon. Every form begins with those, so the code reads them once.
 --
 --   loadElse, swapElse, fenceElse == what is left to the second form, the third, the last
+--   plainOf, exchangeOf, syncOf   == the same where only a store or load, only a swap, only a fence can be meant
 --   firstOf thread rest  == the raw record of the first form that gives `rest` behind the thread
 --   behindOf thread rest == the same with its numbers cut, as the code holds it
 use mathlib.Core.List.{List}
@@ -22,6 +23,16 @@ loadElse thread rest = orElse (also thread (found loadRest rest)) loadOf (swapEl
 
 abbrev pub firstOf : ℕ → List ℕ → Form
 firstOf thread rest = orElse (also thread (found storeRest rest)) storeOf (loadElse thread rest)
+
+-- the first byte tells which form can be meant
+abbrev pub plainOf : ℕ → List ℕ → Form
+plainOf thread rest = orElse (also thread (found storeRest rest)) storeOf (orElse (also thread (found loadRest rest)) loadOf Nothing)
+
+abbrev pub exchangeOf : ℕ → List ℕ → Form
+exchangeOf thread rest = orElse (also thread (found swapRest rest)) swapOf Nothing
+
+abbrev pub syncOf : ℕ → List ℕ → Form
+syncOf thread rest = fenceElse thread rest
 
 abbrev pub behindOf : ℕ → List ℕ → Form
 behindOf thread rest = cutForm (firstOf thread rest)

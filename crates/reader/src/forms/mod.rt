@@ -6,7 +6,7 @@ ghost use lib.ListN.{set, drop};
 ghost use Rattle.trace.specs.Bounds.{VALUES};
 ghost use Rattle.reader.specs.Template.{begins, fitted, stepAt, missed};
 ghost use Rattle.reader.specs.Form.{formOf, cutForm};
-ghost use Rattle.reader.specs.Behind.{behindOf};
+ghost use Rattle.reader.specs.Behind.{plainOf, exchangeOf, syncOf, behindOf};
 use crate::Fit;
 use crate::Form;
 use crate::Number;
@@ -94,10 +94,10 @@ fn colon_at(line: &[u8], at: usize) -> bool
     false
 }
 
-// What stands behind the thread and its colon.
-fn behind(line: &[u8], at: usize, thread: u32) -> Form
+// A store or a load behind its thread.
+fn plain_at(line: &[u8], at: usize, thread: u32) -> Form
     requires { ⌜ thread ≤ VALUES ⌝ }
-    ensures { λ r. ⌜ r ≡ behindOf thread (drop at (now (line .entry))) ⌝ }
+    ensures { λ r. ⌜ r ≡ cutForm (plainOf thread (drop at (now (line .entry)))) ⌝ }
 {
     let store = fit(b"M[#] := #", line, at);
     if store.fits {
@@ -117,6 +117,14 @@ fn behind(line: &[u8], at: usize, thread: u32) -> Form
             read: n[1],
         });
     }
+    Form::Nothing
+}
+
+// A swap behind its thread.
+fn swap_at(line: &[u8], at: usize, thread: u32) -> Form
+    requires { ⌜ thread ≤ VALUES ⌝ }
+    ensures { λ r. ⌜ r ≡ cutForm (exchangeOf thread (drop at (now (line .entry)))) ⌝ }
+{
     let swap = fit(b"{ M[#] == #; M[#] := # }", line, at);
     if swap.fits {
         let n = swap.numbers;
@@ -128,9 +136,35 @@ fn behind(line: &[u8], at: usize, thread: u32) -> Form
             written: n[3],
         });
     }
+    Form::Nothing
+}
+
+// A fence behind its thread.
+fn fence_at(line: &[u8], at: usize, thread: u32) -> Form
+    requires { ⌜ thread ≤ VALUES ⌝ }
+    ensures { λ r. ⌜ r ≡ cutForm (syncOf thread (drop at (now (line .entry)))) ⌝ }
+{
     let fence = fit(b"sync", line, at);
     if fence.fits {
         return Form::Of(Raw::Fence { thread });
+    }
+    Form::Nothing
+}
+
+// What stands behind the thread and its colon; its first byte tells which form can be meant.
+fn behind(line: &[u8], at: usize, thread: u32) -> Form
+    requires { ⌜ thread ≤ VALUES ⌝ }
+    ensures { λ r. ⌜ r ≡ behindOf thread (drop at (now (line .entry))) ⌝ }
+{
+    if at < line.len() {
+        let b = line[at];
+        if b == b'M' {
+            return plain_at(line, at, thread);
+        }
+        if b == b'{' {
+            return swap_at(line, at, thread);
+        }
+        return fence_at(line, at, thread);
     }
     Form::Nothing
 }
