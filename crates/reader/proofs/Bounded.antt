@@ -14,7 +14,7 @@ use borrow.Author.Tests.{lt-ltb, le-ltb}
 use Rattle.laws.proofs.Tests.{and-iff, so-lt, test}
 use Rattle.trace.specs.Bounds.{THREADS, ADDRESSES, VALUES}
 use Rattle.trace.specs.declared.Trace.{Trace}
-use Rattle.reader.specs.Number.{cut}
+use Rattle.text.specs.Number.{cut}
 use Rattle.reader.specs.Form.{cutRaw, cutForm}
 use Rattle.reader.specs.Answer.{inBounds, oneAddress, checked, checkedForm}
 use Rattle.reader.specs.declared.Raw.{Raw}

@@ -26,7 +26,7 @@ use Rattle.trace.specs.declared.Op.{Op}
 use Rattle.trace.specs.declared.Trace.{Trace}
 use Rattle.trace.proofs.WellFormed.{written-before-iff}
 use Rattle.reader.specs.Bounds.{TEXT, LINE}
-use Rattle.reader.specs.Lines.{Line, lines}
+use Rattle.text.specs.Lines.{Line, lines}
 use Rattle.reader.specs.Form.{render, formOf, rawOf}
 use Rattle.reader.specs.Answer.{numberOf, inBounds, oneAddress, opOf, joined, checked, checkedForm, turned}
 use Rattle.reader.specs.Read.{refusal, readLines, readText, badLines, badLineOf}

@@ -19,15 +19,15 @@ use lib.Seq.{drop-drop}
 use native.Mathlib.Omega.{arith}
 use lib.ListN.{length, drop, getD, replicate, List·getD-map}
 use Rattle.trace.specs.Bounds.{VALUES}
-use Rattle.reader.specs.Number.{digits, value, isNumber, cut}
-use Rattle.reader.specs.Template.{HOLE, NUMBERS, Hit, hit, miss, also, begins, found, fitFrom, fitted}
+use Rattle.text.specs.Number.{digits, value, isNumber, cut}
+use Rattle.text.specs.Template.{HOLE, NUMBERS, Hit, hit, miss, also, begins, found, fitFrom, fitted}
 use Rattle.reader.specs.Form.{begun, storeRest, loadRest, swapRest, sync, orElse, cutRaw, cutForm, storeOf, loadOf, swapOf, fenceOf, formOf}
 use Rattle.reader.specs.Behind.{fenceElse, swapElse, loadElse, plainOf, exchangeOf, syncOf, firstOf, behindOf}
-use Rattle.reader.specs.declared.Fit.{Fit}
+use Rattle.text.specs.declared.Fit.{Fit}
 use Rattle.reader.specs.declared.Raw.{Raw}
 use Rattle.reader.specs.declared.Form.{Form}
 use Rattle.reader.specs.declared.Form.the-variants.{Of, Nothing}
-use Rattle.reader.proofs.Fits.{number-is, begins-at, begins-past}
+use Rattle.text.proofs.Fits.{number-is, begins-at, begins-past}
 
 unfoldable pub Makes : (List ℕ → Raw) → Type 0
 Makes make = (ns ms : List ℕ) → ((i : ℕ) → i < suc NUMBERS → getD ms i 0 ≡ cut (getD ns i 0)) → make ms ≡ cutRaw (make ns)

@@ -1,13 +1,7 @@
-pub mod Lines
-pub mod Classes
-pub mod Numbers
-pub mod Fits
 pub mod Chosen
 pub mod Bounded
 pub mod Steps
 pub mod Walks
-pub mod Decimal
-pub mod Template
 pub mod Rendering
 pub mod Cases
 pub mod RoundTrip

@@ -25,17 +25,18 @@ use Rattle.trace.specs.Form.{Bounded}
 use Rattle.trace.specs.declared.Op.{Op}
 use Rattle.trace.specs.declared.Op.the-variants as op
 use Rattle.trace.proofs.WellFormed.{bounded-iff}
-use Rattle.reader.specs.Bounds.{LINE, FEED}
-use Rattle.reader.specs.Number.{decimal}
-use Rattle.reader.specs.Template.{Hit, hit, miss, fill, found}
+use Rattle.reader.specs.Bounds.{LINE}
+use Rattle.text.specs.Bounds.{FEED}
+use Rattle.text.specs.Number.{decimal}
+use Rattle.text.specs.Template.{Hit, hit, miss, fill, found}
 use Rattle.reader.specs.Form.{storeForm, loadForm, swapForm, fenceForm, render, orElse, storeOf, loadOf, swapOf, fenceOf, formOf, rawOf, renderOp}
 use Rattle.reader.specs.Answer.{opOf}
 use Rattle.reader.specs.declared.Raw.{Raw}
 use Rattle.reader.specs.declared.Raw.the-variants.{Load, Store, Swap, Fence}
 use Rattle.reader.specs.declared.Form.{Form}
 use Rattle.reader.specs.declared.Form.the-variants.{Of, Nothing}
-use Rattle.reader.proofs.Decimal.{decimal-length}
-use Rattle.reader.proofs.Template.{holes, nothing, found-fill, found-same, found-apart, fill-count, fill-length}
+use Rattle.text.proofs.Decimal.{decimal-length}
+use Rattle.text.proofs.Template.{holes, nothing, found-fill, found-same, found-apart, fill-count, fill-length}
 
 pub form-render : (r : Raw) → formOf (render r) ≡ Of r
 unfolding formOf render

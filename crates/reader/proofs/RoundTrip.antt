@@ -36,8 +36,9 @@ use Rattle.trace.specs.declared.Trace.{Trace}
 use Rattle.trace.proofs.Places.{pushed-room, pushed-places}
 use Rattle.trace.proofs.WellFormed.{follows-iff, form-iff}
 use Rattle.trace.proofs.Growth.{empty-well, pushed-well, upTo-none, upTo-all, upTo-len, upTo-more, upTo-follows}
-use Rattle.reader.specs.Bounds.{TEXT, FEED}
-use Rattle.reader.specs.Lines.{Line, ahead, lines}
+use Rattle.reader.specs.Bounds.{TEXT}
+use Rattle.text.specs.Bounds.{FEED}
+use Rattle.text.specs.Lines.{Line, ahead, lines}
 use Rattle.reader.specs.Form.{rawOf, renderOp}
 use Rattle.reader.specs.Answer.{inBounds, opOf, turned}
 use Rattle.reader.specs.Read.{readLines, readText, renderRecords, renderTrace}

@@ -8,7 +8,7 @@ use Prim.Native.Nat.{ℕ, _+_}
 use Rattle.trace.specs.Trace.{pushed}
 use Rattle.trace.specs.declared.Op.{Op}
 use Rattle.trace.specs.declared.Trace.{Trace}
-use Rattle.reader.specs.Lines.{Line}
+use Rattle.text.specs.Lines.{Line}
 use Rattle.reader.specs.Answer.{turned}
 use Rattle.reader.specs.Read.{refusal, readLines, badLines}
 use Rattle.reader.specs.declared.Reason.{Reason}

@@ -19,7 +19,7 @@ use Rattle.trace.specs.declared.Op.{Op}
 use Rattle.trace.specs.declared.Op.the-variants as op
 use Rattle.trace.specs.declared.Trace.{Trace}
 use Rattle.reader.specs.Bounds.{LINE}
-use Rattle.reader.specs.Lines.{Line}
+use Rattle.text.specs.Lines.{Line}
 use Rattle.reader.specs.Form.{formOf}
 use Rattle.reader.specs.declared.Raw.{Raw}
 use Rattle.reader.specs.declared.Raw.the-variants.{Load, Store, Swap, Fence}

@@ -6,7 +6,7 @@
 --   behindOf thread rest == the same with its numbers cut, as the code holds it
 use mathlib.Core.List.{List}
 use Prim.Native.Nat.{ℕ}
-use Rattle.reader.specs.Template.{also, found}
+use Rattle.text.specs.Template.{also, found}
 use Rattle.reader.specs.Form.{storeRest, loadRest, swapRest, sync, orElse, storeOf, loadOf, swapOf, fenceOf, cutForm}
 use Rattle.reader.specs.declared.Form.{Form}
 use Rattle.reader.specs.declared.Form.the-variants.{Nothing}

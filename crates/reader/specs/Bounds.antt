@@ -2,7 +2,6 @@
 --
 --   TEXT == how many bytes a text has at the most
 --   LINE == how many bytes a line has at the most, without its line feed
---   FEED == the byte that ends a line
 use Prim.Native.Nat.{ℕ}
 
 abbrev pub TEXT : ℕ
@@ -10,6 +9,3 @@ TEXT = 8192
 
 abbrev pub LINE : ℕ
 LINE = 80
-
-abbrev pub FEED : ℕ
-FEED = 0x0A

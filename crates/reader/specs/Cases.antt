@@ -26,7 +26,7 @@ use Rattle.trace.specs.Form.{Writes}
 use Rattle.trace.specs.declared.Op.{Op}
 use Rattle.trace.specs.declared.Trace.{Trace}
 use Rattle.reader.specs.Bounds.{TEXT, LINE}
-use Rattle.reader.specs.Lines.{Line, lines}
+use Rattle.text.specs.Lines.{Line, lines}
 use Rattle.reader.specs.Form.{render, renderOp}
 use Rattle.reader.specs.Answer.{numberOf, opOf}
 use Rattle.reader.specs.declared.Raw.{Raw}

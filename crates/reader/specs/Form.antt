@@ -12,8 +12,8 @@ use Prim.Native.Nat.{ℕ}
 use lib.ListN.{getD}
 use Rattle.trace.specs.declared.Op.{Op}
 use Rattle.trace.specs.declared.Op.the-variants as op
-use Rattle.reader.specs.Number.{cut}
-use Rattle.reader.specs.Template.{Hit, hit, miss, fill, found}
+use Rattle.text.specs.Number.{cut}
+use Rattle.text.specs.Template.{Hit, hit, miss, fill, found}
 use Rattle.reader.specs.declared.Raw.{Raw}
 use Rattle.reader.specs.declared.Raw.the-variants.{Load, Store, Swap, Fence}
 use Rattle.reader.specs.declared.Form.{Form}

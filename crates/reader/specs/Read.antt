@@ -14,8 +14,9 @@ use lib.ListN.{length, take}
 use Rattle.trace.specs.Trace.{empty, pushed}
 use Rattle.trace.specs.declared.Record.{Record}
 use Rattle.trace.specs.declared.Trace.{Trace}
-use Rattle.reader.specs.Bounds.{TEXT, FEED}
-use Rattle.reader.specs.Lines.{Line, lines}
+use Rattle.reader.specs.Bounds.{TEXT}
+use Rattle.text.specs.Bounds.{FEED}
+use Rattle.text.specs.Lines.{Line, lines}
 use Rattle.reader.specs.Form.{renderOp}
 use Rattle.reader.specs.Answer.{turned}
 use Rattle.reader.specs.declared.Reason.{Reason}

@@ -1,56 +1,23 @@
 // Text to trace: any text whatever gets the trace that it writes, or the number of what is wrong with it and the line.
 ghost use mathlib.Core.Path.{_≡_};
 ghost use Rattle.trace.specs.Trace.{empty};
-ghost use Rattle.reader.specs.Lines.{lines, lineAt};
+ghost use Rattle.text.specs.Lines.{lines, lineAt};
 ghost use Rattle.reader.specs.Read.{readLines, badLines, readText, badLineOf};
 
-pub mod digits;
 pub mod forms;
 pub mod turns;
-pub mod walk;
 
+use text::Cursor;
+use text::walk::line_end;
 use trace::Op;
 use trace::RECORDS;
 use trace::Record;
 use trace::Trace;
 use trace::empty;
 use turns::turned;
-use walk::line_end;
 
 // How many bytes a text has at the most.
 const TEXT: usize = 8192;
-
-// What a byte of a line is.
-pub enum Class {
-    Digit,
-    Space,
-    Mark,
-    Letter,
-    Other,
-}
-
-// A place in a lent text.
-pub struct Cursor {
-    pub at: usize,
-}
-
-// The digits at a place: their value, cut at the first number past every bound, and where they end.
-pub struct Run {
-    pub value: u32,
-    pub end: usize,
-}
-
-// The number at a place, or that none stands there.
-pub enum Number {
-    At { value: u32, end: usize },
-    Missing,
-}
-
-// Whether a line is of a form, and its numbers; unused places are 0.
-pub struct Fit {
-    pub fits: bool,
-    pub numbers: [u32; 4],
-}
 
 // A line of one of the four forms, its numbers not yet held to their bounds.
 pub enum Raw {

@@ -10,13 +10,13 @@ use lib.ListN.{length, drop}
 use Rattle.trace.specs.Bounds.{RECORDS}
 use Rattle.trace.specs.Trace.{empty, pushed}
 use Rattle.trace.proofs.Places.{pushed-room}
-use Rattle.reader.specs.Lines.{Line, lines, lineAt, endAt}
+use Rattle.text.specs.Lines.{Line, lines, lineAt, endAt}
 use Rattle.trace.specs.declared.Trace.{Trace}
 use Rattle.reader.specs.Answer.{turned}
 use Rattle.reader.specs.Read.{readLines, badLines}
 use Rattle.reader.specs.declared.Answer.the-variants.{Refused}
 use Rattle.reader.specs.declared.Reading.{Reading}
-use Rattle.reader.proofs.Lines.{lines-on, lines-over, line-none, line-part, end-within}
+use Rattle.text.proofs.Lines.{lines-on, lines-over, line-none, line-part, end-within}
 use Rattle.reader.proofs.Walks.{read-taken, bad-taken, read-refused, bad-refused}
 use borrow.Author.Needs.{needs}
 use Rattle.reader.proofs.walked.Statement.{statement}

@@ -1,85 +1,17 @@
-// The four forms of a line, as templates with a hole for each number.
+// The four forms of a line. Each begins with the thread and a colon; what stands behind is a template.
 ghost use mathlib.Core.Path.{_≡_};
 ghost use mathlib.Core.Bool.{_&&_};
 ghost use Prim.Native.Nat.{_≤_};
-ghost use lib.ListN.{set, drop};
+ghost use lib.ListN.{drop};
 ghost use Rattle.trace.specs.Bounds.{VALUES};
-ghost use Rattle.reader.specs.Template.{begins, fitted, stepAt, missed};
+ghost use Rattle.text.specs.Template.{begins};
 ghost use Rattle.reader.specs.Form.{formOf, cutForm};
 ghost use Rattle.reader.specs.Behind.{plainOf, exchangeOf, syncOf, behindOf};
-use crate::Fit;
 use crate::Form;
-use crate::Number;
 use crate::Raw;
-use crate::digits::number_at;
-
-const HOLE: u8 = b'#';
-
-// One byte of a template against a place in the line: a hole takes a number, any other byte itself.
-fn step_at(t: u8, line: &[u8], at: usize) -> Number
-    ensures { λ r. ⌜ r ≡ stepAt t (now (line .entry)) at ⌝ }
-{
-    if t == HOLE {
-        return number_at(line, at);
-    }
-    if at < line.len() {
-        if line[at] == t {
-            return Number::At {
-                value: 0,
-                end: at + 1,
-            };
-        }
-    }
-    Number::Missing
-}
-
-// A number put into its place; there is no place past the last.
-fn put(numbers: &mut [u32], n: usize, value: u32)
-    ensures { λ _. ⌜ now (numbers .exit) ≡ set (now (numbers .entry)) n value ⌝ }
-{
-    if n < numbers.len() {
-        numbers[n] = value;
-    }
-}
-
-// A line that is not of the form.
-fn missed() -> Fit
-    ensures { λ r. ⌜ r ≡ missed ⌝ }
-{
-    Fit {
-        fits: false,
-        numbers: [0; 4],
-    }
-}
-
-// Whether a template gives the line from a place on, and with which numbers.
-pub fn fit(template: &[u8], line: &[u8], at: usize) -> Fit
-    ensures { λ r. ⌜ r ≡ fitted (now (template .entry)) (drop at (now (line .entry))) ⌝ }
-{
-    let mut numbers = [0u32; 4];
-    let mut n: usize = 0;
-    let mut i = at;
-    let mut k: usize = 0;
-    while k < template.len() {
-        let t = template[k];
-        let Number::At { value, end } = step_at(t, line, i) else {
-            return missed();
-        };
-        if t == HOLE {
-            put(&mut numbers, n, value);
-            n += 1;
-        }
-        i = end;
-        k += 1;
-    }
-    if i < line.len() {
-        return missed();
-    }
-    Fit {
-        fits: true,
-        numbers,
-    }
-}
+use text::Number;
+use text::digits::number_at;
+use text::templates::fit;
 
 // Whether a colon and a space stand at a place.
 fn colon_at(line: &[u8], at: usize) -> bool

@@ -2,7 +2,7 @@
 use mathlib.Core.Path.{_≡_, sym, ap, _∙_}
 use borrow.Author.Tests.{ne-eqb}
 use Rattle.reader.specs.Form.{cutForm}
-use Rattle.reader.proofs.Fits.{begins-at}
+use Rattle.text.proofs.Fits.{begins-at}
 use Rattle.reader.proofs.Chosen.{plain-first, swap-first, fence-first, none-first}
 use borrow.Author.Needs.{needs}
 use Rattle.reader.proofs.forms.behind.Statement.{statement}

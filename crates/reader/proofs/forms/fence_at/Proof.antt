@@ -2,7 +2,7 @@
 use mathlib.Core.Path.{_≡_, sym, ap, _∙_}
 use lib.ListN.{drop}
 use Rattle.reader.specs.Form.{cutForm, storeRest, loadRest, swapRest, sync, storeOf, loadOf, swapOf, fenceOf, orElse}
-use Rattle.reader.specs.Template.{also, found}
+use Rattle.text.specs.Template.{also, found}
 use Rattle.reader.specs.declared.Form.the-variants.{Nothing}
 use Rattle.reader.proofs.Chosen.{store-makes, load-makes, swap-makes, fence-makes, fit-taken, fit-left}
 use borrow.Author.Needs.{needs}

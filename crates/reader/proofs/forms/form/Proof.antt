@@ -7,11 +7,11 @@ use native.Mathlib.Nat.{zero-add}
 use native.Mathlib.Omega.{arith}
 use lib.ListN.{length, drop}
 use lib.Seq.{drop-drop}
-use Rattle.reader.specs.Number.{digits, value, cut}
-use Rattle.reader.specs.Template.{begins}
+use Rattle.text.specs.Number.{digits, value, cut}
+use Rattle.text.specs.Template.{begins}
 use Rattle.reader.specs.Form.{cutForm}
 use Rattle.reader.specs.Behind.{behindOf}
-use Rattle.reader.proofs.Numbers.{number-known, number-unknown}
+use Rattle.text.proofs.Numbers.{number-known, number-unknown}
 use Rattle.reader.proofs.Chosen.{thread-cut, colon-inside, no-thread, no-colon, with-thread}
 use borrow.Author.Needs.{needs}
 use Rattle.reader.proofs.forms.form.Statement.{statement}
