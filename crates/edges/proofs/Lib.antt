@@ -12,3 +12,5 @@ pub mod Missing
 pub mod Clear
 pub mod Sorted
 pub mod Counter
+pub mod Added
+pub mod Further

@@ -7,3 +7,7 @@ pub mod Walk
 pub mod ShownCircle
 pub mod Missing
 pub mod Clear
+pub mod Added
+pub mod Least
+pub mod Reach
+pub mod ShownIn
