@@ -1,8 +1,9 @@
 -- Rows to which pairs are added turn by turn.
 --
 --   Some n B            == the pairs of B at some number below n
---   added-one           == one pair is put in, on some condition
+--   added-one           == one pair is put in
 --   added-same          == the same pairs, said otherwise
+--   added-when          == pairs added on a condition that holds
 --   added-none          == before the first turn
 --   added-turn          == a turn adds the pairs of its number
 --   added-skip          == or there are none
@@ -28,15 +29,10 @@ use Rattle.edges.specs.Added.{Exactly, Added}
 abbrev pub Some : ℕ → (ℕ → Rel) → Rel
 Some n B x y = (m : ℕ) × (m < n) × B m x y
 
-pub added-one : (rows : List ℕ) (x y : ℕ) (C : Type 0) → x < RECORDS → y < RECORDS → length rows ≡ CELLS → C → Added rows (λ i j. (i ≡ x) × (j ≡ y) × C) (putOf rows x y)
-added-one rows x y C hx hy l c = record {
+pub added-one : (rows : List ℕ) (x y : ℕ) → x < RECORDS → y < RECORDS → length rows ≡ CELLS → Added rows (λ i j. (i ≡ x) × (j ≡ y)) (putOf rows x y)
+added-one rows x y hx hy l = record {
   long = put-long rows x y;
-  pairs = λ i j.
-      let parts = or-iff (same-iff {a = bit rows i j}) (and-iff (so-eq {m = i} {n = x}) (so-eq {m = j} {n = y})) in
-      rw (put-bit rows x y hx hy (omega arith) i j) (
-        λ t. elim (parts .0 t) [ inl e ↦ inl e | inr q ↦ inr (q .0, q .1, c) ],
-        λ s. parts .1 (elim s [ inl e ↦ inl e | inr q ↦ inr (q .0, q .1) ]),
-      );
+  pairs = λ i j. rw (put-bit rows x y hx hy (omega arith) i j) (or-iff (same-iff {a = bit rows i j}) (and-iff (so-eq {m = i} {n = x}) (so-eq {m = j} {n = y})));
 }
 
 module _ (before : List ℕ) where
@@ -48,6 +44,9 @@ module _ (before : List ℕ) where
       λ s. a .pairs x y .1 (elim s [ inl e ↦ inl e | inr b ↦ inr (q x y .1 b) ]),
     );
   }
+
+  pub added-when : (A : Rel) (C : Type 0) (after : List ℕ) → C → Added before A after → Added before (λ x y. A x y × C) after
+  added-when A C after c = added-same A (λ x y. A x y × C) after (λ x y. (λ a. (a, c), λ a. a .0))
 
   module _ (B : ℕ → Rel) where
     pub added-none : Added before (Some 0 B) before

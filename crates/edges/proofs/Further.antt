@@ -16,24 +16,24 @@ use Rattle.edges.specs.Added.{Through}
 use Rattle.edges.proofs.Added.{Some}
 
 abbrev pub RowTurn : List ℕ → ℕ → ℕ → ℕ → Rel
-RowTurn W m x y i j = (i ≡ x) × (j ≡ y) × Edges W m y
+RowTurn W m x y i j = ((i ≡ x) × (j ≡ y)) × Edges W m y
 
 abbrev pub RowsTurn : List ℕ → List ℕ → ℕ → ℕ → Rel
-RowsTurn E W x m i j = (i ≡ x) × (Edges E x m × Edges W m j)
+RowsTurn E W x m i j = ((i ≡ x) × Edges W m j) × Edges E x m
 
 abbrev pub AllTurn : List ℕ → List ℕ → ℕ → Rel
 AllTurn E W x i j = (i ≡ x) × Through (Edges E) (Edges W) x j
 
 pub row-all : (W : List ℕ) (m x i j : ℕ) → Some RECORDS (RowTurn W m x) i j ↔ ((i ≡ x) × Edges W m j)
 row-all W m x i j = (
-  λ s. (s .2 .0, subst (Edges W m) (sym (s .2 .1)) (s .2 .2)),
-  λ e. (j, bit-bounds W m j (e .1) .1, (e .0, refl, e .1)),
+  λ s. (s .2 .0 .0, subst (Edges W m) (sym (s .2 .0 .1)) (s .2 .1)),
+  λ e. (j, bit-bounds W m j (e .1) .1, ((e .0, refl), e .1)),
 )
 
 pub rows-all : (E W : List ℕ) (x i j : ℕ) → Some RECORDS (RowsTurn E W x) i j ↔ ((i ≡ x) × Through (Edges E) (Edges W) x j)
 rows-all E W x i j = (
-  λ s. (s .2 .0, (s .0, s .2 .1 .0, s .2 .1 .1)),
-  λ e. (e .1 .0, bit-bounds E x (e .1 .0) (e .1 .1) .1, (e .0, (e .1 .1, e .1 .2))),
+  λ s. (s .2 .0 .0, (s .0, s .2 .1, s .2 .0 .1)),
+  λ e. (e .1 .0, bit-bounds E x (e .1 .0) (e .1 .1) .1, ((e .0, e .1 .2), e .1 .1)),
 )
 
 pub all-all : (E W : List ℕ) (i j : ℕ) → Some RECORDS (AllTurn E W) i j ↔ Through (Edges E) (Edges W) i j

@@ -14,3 +14,7 @@ pub mod Sorted
 pub mod Counter
 pub mod Added
 pub mod Further
+pub mod Lowest
+pub mod Least
+pub mod Reach
+pub mod Tracing

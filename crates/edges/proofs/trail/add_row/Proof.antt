@@ -10,7 +10,7 @@ use Rattle.trace.specs.Bounds.{RECORDS}
 use Rattle.rows.specs.Put.{putOf}
 use Rattle.rows.specs.Rows.{Edges}
 use Rattle.edges.specs.Added.{Added}
-use Rattle.edges.proofs.Added.{Some, added-one, added-same, added-none, added-turn, added-skip}
+use Rattle.edges.proofs.Added.{Some, added-one, added-same, added-when, added-none, added-turn, added-skip}
 use Rattle.edges.proofs.Further.{RowTurn, row-all}
 use borrow.Author.Needs.{needs}
 use Rattle.edges.proofs.trail.add_row.Statement.{statement}
@@ -48,13 +48,14 @@ loop-again c =
       ⊎-elim
           (λ w.
           let e : c .if1 .next ≡ putOf (l .loop .next) (a .x) (l .loop .y) = w .5 ∙ w .2 .ensures in
+          let has : Edges (a .walks .now) (a .m) (l .loop .y) = sym (c .before .test .ensures) ∙ w .0 .taken in
           rw e
           (added-turn (a .next .now) B (l .loop .y) (l .loop .next) _ now
-          (added-one (l .loop .next) (a .x) (l .loop .y) (Edges (a .walks .now) (a .m) (l .loop .y)) (s .pre .0) (omega arith) (now .long ∙ s .pre .1)
-          (sym (c .before .test .ensures) ∙ w .0 .taken))))
+          (added-when (l .loop .next) _ _ _ has
+          (added-one (l .loop .next) (a .x) (l .loop .y) (s .pre .0) (omega arith) (now .long ∙ s .pre .1)))))
           (λ w.
           let e : c .if1 .next ≡ l .loop .next = w .1 in
-          rw e (added-skip (a .next .now) B (l .loop .y) (l .loop .next) now (λ i j b. false≢true (sym (w .0 .left) ∙ c .before .test .ensures ∙ b .2))))
+          rw e (added-skip (a .next .now) B (l .loop .y) (l .loop .next) now (λ i j b. false≢true (sym (w .0 .left) ∙ c .before .test .ensures ∙ b .1))))
           (c .if1 .came),
     )
 

@@ -9,7 +9,7 @@ use lib.ListN.{length}
 use Rattle.trace.specs.Bounds.{RECORDS}
 use Rattle.rows.specs.Rows.{Edges}
 use Rattle.edges.specs.Added.{Added}
-use Rattle.edges.proofs.Added.{Some, added-same, added-none, added-turn, added-skip}
+use Rattle.edges.proofs.Added.{Some, added-same, added-when, added-none, added-turn, added-skip}
 use Rattle.edges.proofs.Further.{RowsTurn, rows-all}
 use borrow.Author.Needs.{needs}
 use Rattle.edges.proofs.trail.add_rows.Statement.{statement}
@@ -47,11 +47,12 @@ loop-again c =
       ⊎-elim
           (λ w.
           let done : Added (l .loop .next) (λ i j. (i ≡ a .x) × Edges (a .walks .now) (l .loop .m) j) (c .if1 .next) = rw (w .5) (w .2 .ensures) in
+          let has : Edges (a .edges .now) (a .x) (l .loop .m) = sym (c .before .test .ensures) ∙ w .0 .taken in
           added-turn (a .next .now) B (l .loop .m) (l .loop .next) (c .if1 .next) now
-          (added-same (l .loop .next) _ _ (c .if1 .next) (λ i j. (λ q. (q .0, (sym (c .before .test .ensures) ∙ w .0 .taken, q .1)), λ q. (q .0, q .1 .1))) done))
+          (added-when (l .loop .next) _ _ (c .if1 .next) has done))
           (λ w.
           let e : c .if1 .next ≡ l .loop .next = w .1 in
-          rw e (added-skip (a .next .now) B (l .loop .m) (l .loop .next) now (λ i j b. false≢true (sym (w .0 .left) ∙ c .before .test .ensures ∙ b .1 .0))))
+          rw e (added-skip (a .next .now) B (l .loop .m) (l .loop .next) now (λ i j b. false≢true (sym (w .0 .left) ∙ c .before .test .ensures ∙ b .1))))
           (c .if1 .came),
     )
 
