@@ -1,13 +1,13 @@
 -- Rows to which pairs are added turn by turn.
 --
---   Some n B            == the pairs of B at some number below n
---   added-one           == one pair is put in
---   added-same          == the same pairs, said otherwise
---   added-when          == pairs added on a condition that holds
---   added-none          == before the first turn
---   added-turn          == a turn adds the pairs of its number
---   added-skip          == or there are none
---   added-exactly       == what rows that had no pair hold in the end
+--   Some n B      == the pairs of B at some number below n
+--   added-one     == one pair is put in
+--   added-same    == the same pairs, said otherwise
+--   added-when    == pairs added on a condition that holds
+--   added-none    == before the first turn
+--   added-turn    == a turn adds the pairs of its number
+--   added-skip    == or there are none
+--   added-exactly == what rows that had no pair hold in the end
 use mathlib.Core.Path.{_≡_, refl, sym, _∙_, subst}
 use mathlib.Core.Logic.{_⊎_, inl, inr, _↔_}
 use mathlib.Core.Bool.{So, false≢true}

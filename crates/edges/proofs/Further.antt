@@ -1,8 +1,8 @@
 -- Walks that are made an edge longer, turn by turn.
 --
---   RowTurn W m x y      == what the turn of y adds: the pair x, y, where row m of W has y
---   RowsTurn E W x m     == what the turn of m adds: where an edge from x to m and then a walk leads
---   AllTurn E W x        == what the turn of x adds: where an edge from x and then a walk leads
+--   RowTurn W m x y            == what the turn of y adds: the pair x, y, where row m of W has y
+--   RowsTurn E W x m           == what the turn of m adds: where an edge from x to m and then a walk leads
+--   AllTurn E W x              == what the turn of x adds: where an edge from x and then a walk leads
 --   row-all, rows-all, all-all == all turns together
 use mathlib.Core.Path.{_≡_, refl, sym, subst}
 use mathlib.Core.Logic.{_↔_}

@@ -1,8 +1,8 @@
 -- The least length of a closed walk, tried from 1 on.
 --
---   Trying E k walks      == no closed walk is shorter than k, and the rows have the walks of length k
---   try-first, try-next   == the edges are the walks of length 1; and one length more
---   try-found, try-past   == a pair of a number with itself is a closed walk; once all lengths up to RECORDS are tried there is no circle
+--   Trying E k walks    == no closed walk is shorter than k, and the rows have the walks of length k
+--   try-first, try-next == the edges are the walks of length 1; and one length more
+--   try-found, try-past == a pair of a number with itself is a closed walk; once all lengths up to RECORDS are tried there is no circle
 use mathlib.Core.Path.{_≡_, refl, sym, _∙_, subst}
 use mathlib.Core.Bool.{false, So, false≢true}
 use mathlib.Core.List.{List}

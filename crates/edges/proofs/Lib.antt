@@ -18,3 +18,5 @@ pub mod Lowest
 pub mod Least
 pub mod Reach
 pub mod Tracing
+pub mod ShownIn
+pub mod OneCircle

@@ -1,9 +1,9 @@
 -- From where an operation is reached.
 --
---   StepBack E R j   == row j + 1 gets what has an edge to something that row j of R has
---   Reach E s k rows == row j has the operations from which s is reached in exactly j steps, for each j below k
---   Followed E rows s k room   == there is a walk of k steps from s back to s, the rows say from where s is reached, and the room is enough
---   Laid E s k before after    == the first k places have the lowest such walk, place by place; the others are as before
+--   StepBack E R j           == row j + 1 gets what has an edge to something that row j of R has
+--   Reach E s k rows         == row j has the operations from which s is reached in exactly j steps, for each j below k
+--   Followed E rows s k room == k steps lead from s back to s, the rows say from where s is reached, and there is room for the way
+--   Laid E s k before after  == the first k places have the way by the lowest such steps; the others are as before
 use mathlib.Core.Path.{_≡_}
 use mathlib.Core.List.{List}
 use Prim.Native.Nat.{ℕ, _+_, _<_, _≤_}

@@ -1,8 +1,8 @@
 -- The circle shown, laid into a buffer.
 --
---   circleOf len out            == the first len numbers, or no circle where len is 0
---   ShownIn edges room len out  == the buffer begins with the circle shown of the edges, of this length, and is 0 past it; nothing is
---                                  shown of rows that are not of the full length, or in a buffer without a place for each record
+--   circleOf len out           == the first len numbers, or no circle where len is 0
+--   ShownIn edges room len out == the buffer begins with the circle shown of the edges, of this length, and is 0 past it; nothing is
+--                                 shown of rows that are not of the full length, or in a buffer without a place for each record
 use mathlib.Core.Path.{_≡_}
 use mathlib.Core.Logic.{_≢_, _⊎_}
 use mathlib.Core.List.{List}

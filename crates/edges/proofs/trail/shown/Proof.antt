@@ -1,85 +1,97 @@
+-- `trail::shown`: the least length, the lowest start and the lowest steps are those of the circle shown.
+use mathlib.Core.Path.{_≡_, ap, sym, _∙_}
+use Prim.Native.Nat.{ℕ, _<_}
+use native.Mathlib.Omega.{arith}
 use borrow.Author.Needs.{needs}
+use lib.ListN.{length}
+use Rattle.edges.proofs.ShownIn.{shown-nothing, closed-lowest, shown-laid}
 use Rattle.edges.proofs.trail.shown.Statement.{statement}
 use Rattle.edges.proofs.trail.shown.Tie as tie
-use Rattle.edges.proofs.trail.shown.Reads as reads
-use Rattle.edges.proofs.trail.shown.Lts as lts
-use Rattle.edges.proofs.trail.closed_at.Reads as closed-at-reads
-use Rattle.edges.proofs.trail.follow.Reads as follow-reads
-use Rattle.edges.proofs.trail.least.Reads as least-reads
-use Rattle.edges.proofs.trail.reach.Reads as reach-reads
-use Rattle.edges.proofs.trail.wipe.Reads as wipe-reads
 
--- src/trail/mod.rt:163:5
 wipe-requires : tie.Need-wipe-requires
 wipe-requires c κs = search needs
 
--- src/trail/mod.rt:165:9
 same-length : tie.Need-same-length
 same-length c = search needs
 
--- src/trail/mod.rt:165:9
 returns : tie.Need-returns
-returns c = ?
+returns c =
+    let w = c .before .before .before in
+    let a = w .before .before .before .before .args in
+    shown-nothing (a .edges .now) (length (a .out .now)) (w .wipe .last .0) (w .wipe .ensures) (λ l _. absurd (c .if1 .taken l))
 
--- src/trail/mod.rt:168:9
 same-length-2 : tie.Need-same-length-2
 same-length-2 c = search needs
 
--- src/trail/mod.rt:168:9
 returns-2 : tie.Need-returns-2
-returns-2 c = ?
+returns-2 c =
+    let w = c .before .before .before .before in
+    let a = w .before .before .before .before .args in
+    shown-nothing (a .edges .now) (length (a .out .now)) (w .wipe .last .0) (w .wipe .ensures) (λ _ r. absurd (c .if2 .taken (w .wipe .kept .0 ∙ r)))
 
--- src/trail/mod.rt:172:26
 slice-aggregate-least : tie.Need-slice-aggregate-least
 slice-aggregate-least c = search needs
 
--- src/trail/mod.rt:172:38
 slice-aggregate-least-2 : tie.Need-slice-aggregate-least-2
 slice-aggregate-least-2 c = search needs
 
--- src/trail/mod.rt:172:9
 least-requires : tie.Need-least-requires
 least-requires c κs = search needs
 
--- src/trail/mod.rt:174:9
 same-length-3 : tie.Need-same-length-3
 same-length-3 c = search needs
 
--- src/trail/mod.rt:174:9
 returns-3 : tie.Need-returns-3
-returns-3 c = ?
+returns-3 c =
+    let l = c .before .before .before in
+    let w = l .before .before .before .before .before .before .before in
+    let a = w .before .before .before .before .args in
+    shown-nothing (a .edges .now) (length (a .out .now)) (w .wipe .last .0) (w .wipe .ensures) (λ _ _. l .least .ensures .clear (c .if3 .taken))
 
--- src/trail/mod.rt:176:23
 slice-aggregate-closed-at : tie.Need-slice-aggregate-closed-at
 slice-aggregate-closed-at c = search needs
 
--- src/trail/mod.rt:176:9
 closed-at-requires : tie.Need-closed-at-requires
 closed-at-requires c κs = search needs
 
--- src/trail/mod.rt:177:24
 slice-aggregate-reach : tie.Need-slice-aggregate-reach
 slice-aggregate-reach c = search needs
 
--- src/trail/mod.rt:177:5
 reach-requires : tie.Need-reach-requires
-reach-requires c κs = ?
+reach-requires c κs =
+    let l = c .before .before .before .before .before .before in
+    let a = l .before .before .before .before .before .before .before .before .before .before .before .args in
+    let p : 0 < l .least .result = omega (arith, c .before .before .before .if3 .left) in
+    let s = closed-lowest (a .edges .now) (l .least .last .1 .0) (l .least .result) (c .before .closed-at .result) p (l .least .ensures) (c .before .closed-at .ensures) in
+    (s .0, p, l .least .ensures .within, l .least .kept .1 .1 .0)
 
--- src/trail/mod.rt:178:19
 slice-aggregate-follow : tie.Need-slice-aggregate-follow
 slice-aggregate-follow c = search needs
 
--- src/trail/mod.rt:178:5
 follow-requires : tie.Need-follow-requires
-follow-requires c κs = ?
+follow-requires c κs =
+    let r = c .before .before .before in
+    let k = r .before .before in
+    let l = k .before .before .before .before .before in
+    let w = l .before .before .before .before .before .before .before in
+    let a = w .before .before .before .before .args in
+    let p : 0 < l .least .result = omega (arith, k .before .before .if3 .left) in
+    let s = closed-lowest (a .edges .now) (l .least .last .1 .0) (l .least .result) (k .closed-at .result) p (l .least .ensures) (k .closed-at .ensures) in
+    record { start = s .0; some = p; fits = omega (arith, l .least .ensures .within, l .before .before .before .if2 .left); reach = r .reach .ensures; closed = s .1 .0 }
 
--- src/trail/mod.rt:160:1
 same-length-4 : tie.Need-same-length-4
 same-length-4 c = search needs
 
--- src/trail/mod.rt:160:1
 returns-4 : tie.Need-returns-4
-returns-4 c = ?
+returns-4 c =
+    let f = c .before .before in
+    let k = f .before .before .before .before .before .before in
+    let l = k .before .before .before .before .before in
+    let w = l .before .before .before .before .before .before .before in
+    let a = w .before .before .before .before .args in
+    let p : 0 < l .least .result = omega (arith, k .before .before .if3 .left) in
+    shown-laid (a .edges .now) (l .least .last .1 .0) (l .least .result) (k .closed-at .result) p (l .least .ensures) (k .closed-at .ensures)
+    (length (a .out .now)) (w .wipe .last .0) (f .follow .last .1 .1 .1 .1 .0) (l .before .before .before .before .if1 .left) (sym (w .wipe .kept .0) ∙ l .before .before .before .if2 .left) (w .wipe .ensures) (f .follow .ensures)
 
 pub shown-spec : {M : Type 1} → statement M
 shown-spec =

@@ -44,11 +44,11 @@ loop-again c =
     let l = c .before .before .before .loop in (
       omega arith,
       below-more _ (l .y) (l .inv .1)
-      (λ t.
-      ⊎-elim
-      (λ w. false≢true (sym (w .2 .left) ∙ w .1 .ensures ∙ t .1))
-      (λ w. false≢true (sym (w .left) ∙ c .before .test .ensures ∙ t .0))
-      (c .if1 .came)),
+          (λ t.
+          ⊎-elim
+          (λ w. false≢true (sym (w .2 .left) ∙ w .1 .ensures ∙ t .1))
+          (λ w. false≢true (sym (w .left) ∙ c .before .test .ensures ∙ t .0))
+          (c .if1 .came)),
     )
 
 returns-2 : tie.Need-returns-2 Inv-loop μ-loop
