@@ -1,3 +1,4 @@
+pub mod Kept
 pub mod Orders
 pub mod Sound
 pub mod Rounds
@@ -20,3 +21,4 @@ pub mod Reach
 pub mod Tracing
 pub mod ShownIn
 pub mod OneCircle
+pub mod Picked

@@ -1,2 +1,4 @@
-// The edges that the rules force, the chains they make and the circle that is shown. Definitions are in specs/, laws in proofs/.
+// The edges that the rules force, the chains they make and the circle that is shown.
+pub mod pairs;
+pub mod rule;
 pub mod trail;
