@@ -22,3 +22,4 @@ pub mod Tracing
 pub mod ShownIn
 pub mod OneCircle
 pub mod Picked
+pub mod Named

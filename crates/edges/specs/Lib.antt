@@ -13,3 +13,4 @@ pub mod Least
 pub mod Reach
 pub mod Third
 pub mod ShownIn
+pub mod Named
