@@ -1,8 +1,10 @@
 -- The circle shown, laid into a buffer.
 --
+--   zeros         == a buffer of 0 is 0 everywhere, past its end too
 --   shown-nothing == nothing is laid: for rows or a buffer of another length, and where there is no circle
 --   closed-lowest == the lowest pair of a number with itself is the lowest start of a closed walk
 --   shown-laid    == the walk that was laid is the circle shown
+--   same-used     == two buffers that agree where they are used, and elsewhere too
 --   shown-in-one  == no second answer fits
 use mathlib.Core.Path.{_≡_, refl, sym, ap, _∙_, subst}
 use mathlib.Core.Logic.{_≢_, _⊎_, inl, inr}
@@ -28,8 +30,7 @@ use Rattle.edges.proofs.Circle.{shown-one}
 use Rattle.edges.proofs.Shown.{traced-shown}
 use Rattle.edges.proofs.Lowest.{lowest-some}
 
--- a buffer of 0 is 0 everywhere, past its end too
-zeros : (n i : ℕ) → _≡_ {A = ℕ} (getD (replicate n 0) i 0) 0
+pub zeros : (n i : ℕ) → _≡_ {A = ℕ} (getD (replicate n 0) i 0) 0
 zeros n i = elim (decLt i n) [
   | yes h ↦ getD-replicate n i 0 0 h
   | no h ↦ List·getD-eq-default (replicate n 0) 0 (omega (arith, length-replicate {A = ℕ} n 0))
@@ -78,8 +79,16 @@ circle-one room (suc m) (suc n) a b la lb hm hn e =
     let l : suc m ≡ suc n = omega (arith, ap length q, length-take-le (suc m) a (omega arith), length-take-le (suc n) b (omega arith)) in
     (l, q ∙ ap (λ k. take k b) (sym l))
 
+pub same-used : (m : ℕ) (a b : List ℕ) → length a ≡ length b → take m a ≡ take m b → ((i : ℕ) → m ≤ i → getD a i 0 ≡ getD b i 0) → a ≡ b
+same-used m a b l q rest =
+    ext-getD 0 a b l
+    (λ i h. elim (decLt i m) [
+      | yes s ↦ sym (getD-take m a i 0 s) ∙ ap (λ c. getD c i 0) q ∙ getD-take m b i 0 s
+      | no s ↦ rest i (omega arith)
+    ])
+
 pub shown-in-one : (edges : List ℕ) (room m n : ℕ) (a b : List ℕ) → ShownIn edges room m a → ShownIn edges room n b → (m ≡ n) × (a ≡ b)
-shown-in-one edges room m n a b p q = (len, ext-getD 0 a b (p .long ∙ sym (q .long)) at)
+shown-in-one edges room m n a b p q = (both .0, same-used m a b (p .long ∙ sym (q .long)) (both .1) (λ i h. p .rest i h ∙ sym (q .rest i (omega (arith, both .0)))))
   where
     both : (m ≡ n) × (take m a ≡ take m b)
     both = elim (eq? (length edges) CELLS) [
@@ -92,12 +101,3 @@ shown-in-one edges room m n a b p q = (len, ext-getD 0 a b (p .long ∙ sym (q .
       where
         none : (length edges ≢ CELLS) ⊎ (room ≢ RECORDS) → (m ≡ n) × (take m a ≡ take m b)
         none d = let z : m ≡ 0 = p .other d in (z ∙ sym (q .other d), rw z refl)
-
-    len : m ≡ n
-    len = both .0
-
-    at : (i : ℕ) → i < length a → getD a i 0 ≡ getD b i 0
-    at i h = elim (decLt i m) [
-      | yes l ↦ sym (getD-take m a i 0 l) ∙ ap (λ c. getD c i 0) (both .1) ∙ getD-take m b i 0 l
-      | no l ↦ p .rest i (omega arith) ∙ sym (q .rest i (omega (arith, len)))
-    ]

@@ -75,30 +75,30 @@ fn least(edges: &[u64], walks: &mut [u64], next: &mut [u64]) -> usize
 fn closed_at(walks: &[u64]) -> usize
     ensures { λ r. ⌜ LowestBelow RECORDS (λ x. Edges (now (walks .entry)) x x) r ⌝ }
 {
-    let mut x: usize = 0;
-    while x < trace::RECORDS {
-        if rows::test(walks, x, x) {
-            return x;
+    let mut s: usize = 0;
+    while s < trace::RECORDS {
+        if rows::test(walks, s, s) {
+            return s;
         }
-        x += 1;
+        s += 1;
     }
-    x
+    s
 }
 
 // The lowest number that x has an edge to and that row j has; RECORDS where there is none.
 fn step_to(edges: &[u64], reach: &[u64], x: usize, j: usize) -> usize
     ensures { λ r. ⌜ LowestBelow RECORDS (λ y. Edges (now (edges .entry)) x y × Edges (now (reach .entry)) j y) r ⌝ }
 {
-    let mut y: usize = 0;
-    while y < trace::RECORDS {
-        if rows::test(edges, x, y) {
-            if rows::test(reach, j, y) {
-                return y;
+    let mut to: usize = 0;
+    while to < trace::RECORDS {
+        if rows::test(edges, x, to) {
+            if rows::test(reach, j, to) {
+                return to;
             }
         }
-        y += 1;
+        to += 1;
     }
-    y
+    to
 }
 
 // Adds to row j + 1 the operations that have an edge to one of row j.

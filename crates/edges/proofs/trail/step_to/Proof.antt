@@ -1,4 +1,4 @@
--- `trail::step_to`: no number below y is one that x has an edge to and that row j has.
+-- `trail::step_to`: no number below to is one that x has an edge to and that row j has.
 use mathlib.Core.Path.{_≡_, sym, _∙_}
 use mathlib.Core.Logic.{⊎-elim}
 use mathlib.Core.Bool.{false≢true}
@@ -14,10 +14,10 @@ use Rattle.edges.proofs.trail.step_to.Statement.{statement}
 use Rattle.edges.proofs.trail.step_to.Tie as tie
 
 abbrev Inv-loop : tie.InvT-loop
-Inv-loop edges reach x j y₀ y = (y ≤ RECORDS) × ((z : ℕ) → z < y → Edges edges x z × Edges reach j z → ⊥)
+Inv-loop edges reach x j to₀ to = (to ≤ RECORDS) × ((z : ℕ) → z < to → Edges edges x z × Edges reach j z → ⊥)
 
 abbrev μ-loop : tie.MeasureT-loop
-μ-loop edges reach x j y₀ y = RECORDS - y
+μ-loop edges reach x j to₀ to = RECORDS - to
 
 loop-holds : tie.Need-loop-holds Inv-loop μ-loop
 loop-holds c = (omega arith, λ z h. absurd (omega arith))
@@ -31,10 +31,10 @@ test-requires-2 c κs = search needs
 returns : tie.Need-returns Inv-loop μ-loop
 returns c =
     let l = c .before .before .before .before .before .loop in
-    lowest-found RECORDS _ (l .y) (omega arith) (l .inv .1) (sym (c .before .before .before .test .ensures) ∙ c .before .before .if1 .taken, sym (c .before .test2 .ensures) ∙ c .if2 .taken)
+    lowest-found RECORDS _ (l .to) (omega arith) (l .inv .1) (sym (c .before .before .before .test .ensures) ∙ c .before .before .if1 .taken, sym (c .before .test2 .ensures) ∙ c .if2 .taken)
 
-add-y : tie.Need-add-y Inv-loop μ-loop
-add-y c = omega arith
+add-to : tie.Need-add-to Inv-loop μ-loop
+add-to c = omega arith
 
 loop-less : tie.Need-loop-less Inv-loop μ-loop
 loop-less c = omega arith
@@ -43,7 +43,7 @@ loop-again : tie.Need-loop-again Inv-loop μ-loop
 loop-again c =
     let l = c .before .before .before .loop in (
       omega arith,
-      below-more _ (l .y) (l .inv .1)
+      below-more _ (l .to) (l .inv .1)
           (λ t.
           ⊎-elim
           (λ w. false≢true (sym (w .2 .left) ∙ w .1 .ensures ∙ t .1))
@@ -55,7 +55,7 @@ returns-2 : tie.Need-returns-2 Inv-loop μ-loop
 returns-2 c =
     let l = c .before in
     let a = l .before .before .before .args in
-    lowest-past RECORDS _ (λ y t. bit-bounds (a .edges .now) (a .x) y (t .0) .1) (l .loop .y) (omega arith) (l .loop .inv .1)
+    lowest-past RECORDS _ (λ y t. bit-bounds (a .edges .now) (a .x) y (t .0) .1) (l .loop .to) (omega arith) (l .loop .inv .1)
 
 pub step-to-spec : {M : Type 1} → statement M
 step-to-spec =
@@ -67,7 +67,7 @@ step-to-spec =
     test-requires
     test-requires-2
     returns
-    add-y
+    add-to
     loop-less
     loop-again
     returns-2)
