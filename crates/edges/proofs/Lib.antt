@@ -1,4 +1,11 @@
 pub mod Kept
+pub mod Supposed
+pub mod SourceOf
+pub mod Adds
+pub mod Drawn
+pub mod Turns
+pub mod Ended
+pub mod Answers
 pub mod Orders
 pub mod Sound
 pub mod Rounds
@@ -23,3 +30,4 @@ pub mod ShownIn
 pub mod OneCircle
 pub mod Picked
 pub mod Named
+pub mod CircleOf

@@ -6,6 +6,13 @@ pub mod Closing
 pub mod Circle
 pub mod Walk
 pub mod ShownCircle
+pub mod Adds
+pub mod Supposed
+pub mod SourceOf
+pub mod Drawn
+pub mod Ended
+pub mod Turns
+pub mod Answers
 pub mod Missing
 pub mod Clear
 pub mod Added
@@ -14,3 +21,4 @@ pub mod Reach
 pub mod Third
 pub mod ShownIn
 pub mod Named
+pub mod CircleOf

@@ -1,5 +1,6 @@
--- Notions about tests, lists and relations that no crate above owns.
+-- Notions about tests, contracts, lists and relations that no crate above owns.
 pub mod Tests
+pub mod Settles
 pub mod Places
 pub mod Relation
 pub mod Warshall

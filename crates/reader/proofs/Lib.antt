@@ -3,3 +3,12 @@ pub mod Classes
 pub mod Numbers
 pub mod Fits
 pub mod Chosen
+pub mod Bounded
+pub mod Steps
+pub mod Walks
+pub mod Decimal
+pub mod Template
+pub mod Rendering
+pub mod Cases
+pub mod RoundTrip
+pub mod One

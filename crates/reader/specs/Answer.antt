@@ -40,13 +40,13 @@ numberOf FirstValue = 6
 numberOf TooMany = 7
 numberOf Twice = 8
 
-unfoldable pub inBounds : Raw → Bool
+abbrev pub inBounds : Raw → Bool
 inBounds (Load t a r) = ltb t THREADS && ltb a ADDRESSES && ltb r VALUES
 inBounds (Store t a w) = ltb t THREADS && ltb a ADDRESSES && ltb w VALUES
 inBounds (Swap t a r b w) = ltb t THREADS && ltb a ADDRESSES && ltb r VALUES && ltb b ADDRESSES && ltb w VALUES
 inBounds (Fence t) = ltb t THREADS
 
-unfoldable pub oneAddress : Raw → Bool
+abbrev pub oneAddress : Raw → Bool
 oneAddress (Load t a r) = true
 oneAddress (Store t a w) = true
 oneAddress (Swap t a r b w) = eqb a b

@@ -1,12 +1,24 @@
 // Text to trace: any text whatever gets the trace that it writes, or the number of what is wrong with it and the line.
-
-use trace::Op;
+ghost use mathlib.Core.Path.{_≡_};
+ghost use Rattle.trace.specs.Trace.{empty};
+ghost use Rattle.reader.specs.Lines.{lines, lineAt};
+ghost use Rattle.reader.specs.Read.{readLines, badLines, readText, badLineOf};
 
 pub mod digits;
 pub mod forms;
+pub mod turns;
 pub mod walk;
 
+use trace::Op;
+use trace::RECORDS;
+use trace::Record;
 use trace::Trace;
+use trace::empty;
+use turns::turned;
+use walk::line_end;
+
+// How many bytes a text has at the most.
+const TEXT: usize = 8192;
 
 // What a byte of a line is.
 pub enum Class {
@@ -37,7 +49,7 @@ pub enum Number {
 // Whether a line is of a form, and its numbers; unused places are 0.
 pub struct Fit {
     pub fits: bool,
-    pub numbers: [u32; 5],
+    pub numbers: [u32; 4],
 }
 
 // A line of one of the four forms, its numbers not yet held to their bounds.
@@ -98,4 +110,69 @@ pub enum Answer {
 pub struct Reading {
     pub answer: Answer,
     pub trace: Trace,
+}
+
+// A reading, and where the line stands that it is about; the end of the text, or past it, where it is about none.
+struct Stand {
+    reading: Reading,
+    at: usize,
+}
+
+// Reads line by line from the top, up to the first bad line.
+fn walked(text: &[u8]) -> Stand
+    ensures { λ r. ⌜ (r .reading ≡ readLines 1 empty (lines (now (text .entry)))) × (lineAt (now (text .entry)) (r .at) ≡ badLines empty (lines (now (text .entry)))) ⌝ }
+{
+    let mut trace = empty();
+    let mut at: usize = 0;
+    let mut line: usize = 1;
+    while at < text.len() {
+        let end = line_end(text, at);
+        let ended = end < text.len();
+        match turned(trace, &text[at..end], ended) {
+            Turn::Taken(op) => {
+                let n = trace.len;
+                if n < RECORDS {
+                    trace.records[n] = Record { op };
+                    trace.len = n + 1;
+                }
+            }
+            Turn::Refused(reason) => {
+                let answer = Answer::Refused { reason, line };
+                let trace = empty();
+                let reading = Reading { answer, trace };
+                return Stand { reading, at };
+            }
+        }
+        at = end + 1;
+        line += 1;
+    }
+    let answer = Answer::Good;
+    let reading = Reading { answer, trace };
+    Stand { reading, at }
+}
+
+// The trace that a text writes, or why it is turned back.
+pub fn read(text: &[u8]) -> Reading
+    ensures { λ r. ⌜ r ≡ readText (now (text .entry)) ⌝ }
+{
+    if TEXT < text.len() {
+        let answer = Answer::Refused {
+            reason: Reason::LongText,
+            line: 0,
+        };
+        let trace = empty();
+        return Reading { answer, trace };
+    }
+    walked(text).reading
+}
+
+// The line that `read` turns back, without its line feed: a part of the lent text, empty where no line is to blame.
+pub fn bad_line<'a>(text: &'a [u8]) -> &'a [u8]
+    ensures { λ r. ⌜ now r ≡ badLineOf (now (text .entry)) ⌝ }
+{
+    if TEXT < text.len() {
+        return &text[..0];
+    }
+    let at = walked(text).at;
+    Cursor { at }.line(text)
 }

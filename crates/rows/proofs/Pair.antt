@@ -1,11 +1,12 @@
 -- Rows with one pair more.
 --
---   mark-bit, put-bit     == the relation has the pair and what it had
+--   mark-bit, put-bit     == the relation has the pair and what it had, as a test
+--   mark-iff, put-iff     == the same as a relation
 --   mark-long, put-long   == as many words as before
 --   mark-words, put-words == words stay words
 --   put-in, put-left, put-right, put-past == within the records the pair is marked; elsewhere nothing changes
-use mathlib.Core.Path.{_≡_, refl, sym, ap, ap₂, _∙_}
-use mathlib.Core.Logic.{_↔_, inl, inr}
+use mathlib.Core.Path.{_≡_, refl}
+use mathlib.Core.Logic.{_⊎_, _↔_, inl, inr}
 use mathlib.Core.Bool.{Bool, true, false, So, cond, _||_, _&&_, or-false}
 use mathlib.Core.List.{List}
 use Prim.Native.Nat.{ℕ, _%_, _^_, _<_, _≤_}
@@ -14,19 +15,23 @@ use native.Mathlib.Omega.{arith}
 use borrow.Author.Tests.{le-ltb}
 use lib.Bits.{bitOr, or-lt}
 use lib.Dec.{eqb, ltb}
-use lib.ListN.{length, getD, set, length-set}
+use lib.ListN.{length, getD, length-set}
 use lib.Pow.{pow-lt}
 use lib.Seq.{getD-set-same, getD-set-other, set-out}
 use Rattle.laws.specs.Bits.{bitOf}
 use Rattle.laws.proofs.Bits.{bitOf-or, bitOf-power}
-use Rattle.laws.proofs.Tests.{off, test-one, and-iff, so-eq, so-lt, eq?}
+use Rattle.laws.proofs.Tests.{off, test-one, and-iff, or-iff, same-iff, so-eq, so-lt, eq?}
 use Rattle.trace.specs.Bounds.{RECORDS}
 use Rattle.rows.specs.Bounds.{WIDTH, CELLS}
-use Rattle.rows.specs.Rows.{place, bit, Words}
+use Rattle.rows.specs.Rows.{place, bit, Edges, Words}
 use Rattle.rows.specs.Put.{markOf, putOf}
 use Rattle.rows.proofs.Rows.{bit-at, bit-left, bit-right, place-in}
 
 module _ (rows : List ℕ) (x y : ℕ) where
+  -- the word of the pair, with its bit
+  abbrev word : ℕ
+  word = bitOr (getD rows (place x y) 0) (2 ^ (y % WIDTH))
+
   pub mark-long : length (markOf rows x y) ≡ length rows
   unfolding markOf
   mark-long = length-set rows (place x y) _
@@ -35,25 +40,19 @@ module _ (rows : List ℕ) (x y : ℕ) where
   unfolding markOf
   mark-words w i = elim (eq? i (place x y)) [
     | inl e ↦ rw e (elim (decLt (place x y) (length rows)) [
-      | yes l ↦ rw (getD-set-same rows (place x y) v 0 l) (or-lt WIDTH (getD rows (place x y) 0) (2 ^ (y % WIDTH)) (w (place x y)) (pow-lt {i = y % WIDTH} {j = WIDTH} (omega arith)))
-      | no l ↦ rw (set-out rows (place x y) v (omega arith)) (w (place x y))
+      | yes l ↦ rw (getD-set-same rows (place x y) word 0 l) (or-lt WIDTH (getD rows (place x y) 0) (2 ^ (y % WIDTH)) (w (place x y)) (pow-lt {i = y % WIDTH} {j = WIDTH} (omega arith)))
+      | no l ↦ rw (set-out rows (place x y) word (omega arith)) (w (place x y))
     ])
-    | inr d ↦ rw (getD-set-other rows (place x y) i v 0 d) (w i)
+    | inr d ↦ rw (getD-set-other rows (place x y) i word 0 d) (w i)
   ]
-    where
-      v : ℕ
-      v = bitOr (getD rows (place x y) 0) (2 ^ (y % WIDTH))
 
   -- the words, bit by bit
   mark-word : place x y < length rows → (i j : ℕ) → bitOf (getD (markOf rows x y) i 0) j ≡ (bitOf (getD rows i 0) j || (eqb i (place x y) && eqb j (y % WIDTH)))
   unfolding markOf
   mark-word l i j = elim (eq? i (place x y)) [
-    | inl e ↦ rw (e, getD-set-same rows (place x y) v 0 l, bitOf-or, bitOf-power, so-eq {m = place x y} {n = place x y} .1 refl) refl
-    | inr d ↦ rw (getD-set-other rows (place x y) i v 0 d, off (λ t. d (so-eq .0 t)), or-false) refl
+    | inl e ↦ rw (e, getD-set-same rows (place x y) word 0 l, bitOf-or, bitOf-power, so-eq {m = place x y} {n = place x y} .1 refl) refl
+    | inr d ↦ rw (getD-set-other rows (place x y) i word 0 d, off (λ t. d (so-eq .0 t)), or-false) refl
   ]
-    where
-      v : ℕ
-      v = bitOr (getD rows (place x y) 0) (2 ^ (y % WIDTH))
 
   module _ (hx : x < RECORDS) (hy : y < RECORDS) where
     pub put-in : putOf rows x y ≡ markOf rows x y
@@ -84,8 +83,14 @@ module _ (rows : List ℕ) (x y : ℕ) where
       | no hi ↦ rw (bit-left (markOf rows x y) i j (omega arith), bit-left rows i j (omega arith), no-pair i j (λ e. omega arith)) refl
     ]
 
+    pub mark-iff : place x y < length rows → (i j : ℕ) → So (bit (markOf rows x y) i j) ↔ (Edges rows i j ⊎ ((i ≡ x) × (j ≡ y)))
+    mark-iff l i j = rw (mark-bit l i j) (or-iff same-iff is-pair)
+
     pub put-bit : CELLS ≤ length rows → (i j : ℕ) → bit (putOf rows x y) i j ≡ (bit rows i j || (eqb i x && eqb j y))
     put-bit l i j = rw put-in (mark-bit (place-in hx hy l) i j)
+
+    pub put-iff : CELLS ≤ length rows → (i j : ℕ) → So (bit (putOf rows x y) i j) ↔ (Edges rows i j ⊎ ((i ≡ x) × (j ≡ y)))
+    put-iff l i j = rw put-in (mark-iff (place-in hx hy l) i j)
 
   pub put-left : RECORDS ≤ x → putOf rows x y ≡ rows
   unfolding putOf
@@ -95,26 +100,21 @@ module _ (rows : List ℕ) (x y : ℕ) where
   unfolding putOf
   put-right h = rw (off {b = ltb x RECORDS && ltb y RECORDS} (λ t. let e = and-iff (so-lt {m = x} {n = RECORDS}) (so-lt {m = y} {n = RECORDS}) .0 t in omega arith)) refl
 
-  pub put-past : length rows ≤ place x y → putOf rows x y ≡ rows
-  unfolding putOf markOf
-  put-past h = either (ltb x RECORDS && ltb y RECORDS)
+  -- what holds of the marked rows and of the rows holds either way
+  put-either : (P : List ℕ → Type 0) → P (markOf rows x y) → P rows → P (putOf rows x y)
+  unfolding putOf
+  put-either P marked same = either (ltb x RECORDS && ltb y RECORDS)
     where
-      either : (b : Bool) → cond b (markOf rows x y) rows ≡ rows
-      either true = set-out rows (place x y) _ h
-      either false = refl
+      either : (b : Bool) → P (cond b (markOf rows x y) rows)
+      either true = marked
+      either false = same
+
+  pub put-past : length rows ≤ place x y → putOf rows x y ≡ rows
+  unfolding markOf
+  put-past h = put-either (λ r. r ≡ rows) (set-out rows (place x y) _ h) refl
 
   pub put-long : length (putOf rows x y) ≡ length rows
-  unfolding putOf
-  put-long = either (ltb x RECORDS && ltb y RECORDS)
-    where
-      either : (b : Bool) → length (cond b (markOf rows x y) rows) ≡ length rows
-      either true = mark-long
-      either false = refl
+  put-long = put-either (λ r. length r ≡ length rows) mark-long refl
 
   pub put-words : Words rows → Words (putOf rows x y)
-  unfolding putOf
-  put-words w = either (ltb x RECORDS && ltb y RECORDS)
-    where
-      either : (b : Bool) → Words (cond b (markOf rows x y) rows)
-      either true = mark-words w
-      either false = w
+  put-words w = put-either Words (mark-words w) w

@@ -4,10 +4,10 @@
 --   copy-same, copy-other, copied-more          == rows that take over what others hold
 --   rows-one, rows-same                         == rows of the full length are settled by their relation
 use mathlib.Core.Path.{_≡_, refl, sym, ap, _∙_}
-use mathlib.Core.Logic.{_≢_, _↔_, inl, inr}
+use mathlib.Core.Logic.{_≢_, _↔_}
 use mathlib.Core.Bool.{false, cond}
 use mathlib.Core.List.{List, _++_, append-nil}
-use Prim.Native.Nat.{ℕ, _+_, _*_, _/_, _%_, _<_, _≤_}
+use Prim.Native.Nat.{ℕ, _+_, _*_, _/_, _%_, _<_}
 use native.Mathlib.Decide.{decLt}
 use native.Mathlib.Omega.{arith}
 use borrow.Author.Count.{below-more}
@@ -34,7 +34,6 @@ zeros n i = elim (decLt i n) [
 ]
 
 pub empty-bit : (n x y : ℕ) → bit (emptyOf n) x y ≡ false
-unfolding bit
 empty-bit n x y = elim (decLt x RECORDS) [
   | yes h ↦ elim (decLt y RECORDS) [
     | yes l ↦ bit-at (emptyOf n) x y h l ∙ rw zeros (bitOf-zero (y % WIDTH))

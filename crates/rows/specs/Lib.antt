@@ -4,5 +4,5 @@ pub mod Rows
 pub mod Empty
 pub mod Put
 pub mod Copy
-pub mod Joined
+pub mod Added
 pub mod Chained

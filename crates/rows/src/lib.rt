@@ -3,7 +3,7 @@
 ghost use mathlib.Core.Path.{_≡_};
 ghost use mathlib.Core.Bool.{So};
 ghost use mathlib.Core.Logic.{_↔_};
-ghost use Prim.Native.Nat.{_<_, _≤_};
+ghost use Prim.Native.Nat.{_<_};
 ghost use lib.ListN.{length};
 ghost use Rattle.laws.specs.Tests.{any};
 ghost use Rattle.trace.specs.Bounds.{RECORDS};
@@ -12,7 +12,7 @@ ghost use Rattle.rows.specs.Rows.{bit, place};
 ghost use Rattle.rows.specs.Empty.{emptyOf};
 ghost use Rattle.rows.specs.Put.{markOf, putOf};
 ghost use Rattle.rows.specs.Copy.{copyOf};
-ghost use Rattle.rows.specs.Joined.{Joined, Passed};
+ghost use Rattle.rows.specs.Added.{Added, Row, Through};
 ghost use Rattle.rows.specs.Chained.{Chained};
 
 // The bits of a word.
@@ -136,7 +136,7 @@ pub fn reflexive(rows: &[u64]) -> bool
 // Adds to row x the pairs that row k has, bit by bit.
 fn join(rows: &mut [u64], x: usize, k: usize)
     requires { ⌜ (x < RECORDS) × (k < RECORDS) × (length (now rows) ≡ CELLS) ⌝ }
-    ensures { λ r. ⌜ Joined (now (rows .entry)) x k (now (rows .exit)) ⌝ }
+    ensures { λ r. ⌜ Added (now (rows .entry)) (Row (now (rows .entry)) x k) (now (rows .exit)) ⌝ }
 {
     let mut y: usize = 0;
     while y < trace::RECORDS {
@@ -150,7 +150,7 @@ fn join(rows: &mut [u64], x: usize, k: usize)
 // Adds every pair that leads through k.
 fn pass(rows: &mut [u64], k: usize)
     requires { ⌜ (k < RECORDS) × (length (now rows) ≡ CELLS) ⌝ }
-    ensures { λ r. ⌜ Passed (now (rows .entry)) k (now (rows .exit)) ⌝ }
+    ensures { λ r. ⌜ Added (now (rows .entry)) (Through (now (rows .entry)) k) (now (rows .exit)) ⌝ }
 {
     let mut x: usize = 0;
     while x < trace::RECORDS {

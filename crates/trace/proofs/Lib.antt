@@ -3,3 +3,5 @@ pub mod Places
 pub mod WellFormed
 pub mod Meaning
 pub mod Good
+pub mod Growth
+pub mod One

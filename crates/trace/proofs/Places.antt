@@ -1,15 +1,80 @@
 -- What stands at the places of a trace.
 --
---   at-past == past the array's end stands nothing that writes
-use mathlib.Core.Path.{_≡_, ap}
-use Prim.Native.Nat.{ℕ, _≤_}
+--   at-past                                                         == past the array's end stands a load, which writes nothing
+--   same-trace                                                      == traces that agree in length and at every place are one
+--   empty-rest                                                      == every place of the empty trace is idle
+--   pushed-room, pushed-len, pushed-places, pushed-last, pushed-other == what pushed gives where there is room, its length and its places
+--   upTo-places, upTo-used, upTo-rest                               == the places of the first k records
+use mathlib.Core.Path.{_≡_, ap, ap₂, sym, _∙_}
+use mathlib.Core.Logic.{_≢_}
+use mathlib.Core.List.{List}
+use Prim.Native.Nat.{ℕ, _+_, _-_, _<_, _≤_}
 use native.Mathlib.Omega.{arith}
-use lib.ListN.{length, List·getD-eq-default}
+use borrow.Author.Tests.{lt-ltb}
+use lib.ListN.{length, take, set, replicate, length-append, length-set, length-replicate, getD-replicate, List·getD-eq-default, List·getD-append}
+use lib.Seq.{length-take-le, getD-append-add, getD-set-same, getD-set-other, getD-take, ext-getD}
 use Rattle.trace.specs.Bounds.{RECORDS}
-use Rattle.trace.specs.Trace.{at}
+use Rattle.trace.specs.Trace.{at, idle, empty, pushed, upTo}
+use Rattle.trace.specs.declared.Op.{Op}
 use Rattle.trace.specs.declared.Op.the-variants.{Load}
 use Rattle.trace.specs.declared.Record.{Record}
 use Rattle.trace.specs.declared.Trace.{Trace}
 
+abbrev op : Record → Op
+op r = r .op
+
+abbrev place : Op → Record
+place o = record { op = o }
+
+-- what `at` gives past the array's end
+abbrev past : Record
+past = place (Load 0 0 0)
+
 pub at-past : (t : Trace) → length (t .records) ≡ RECORDS → (i : ℕ) → RECORDS ≤ i → at t i ≡ Load 0 0 0
-at-past t full i h = ap (λ (r : Record). r .op) (List·getD-eq-default (t .records) _ {n = i} (omega arith))
+at-past t full i h = ap op (List·getD-eq-default (t .records) past {n = i} (omega arith))
+
+pub same-trace : (t u : Trace) → t .len ≡ u .len → length (t .records) ≡ RECORDS → length (u .records) ≡ RECORDS → ((i : ℕ) → i < RECORDS → at t i ≡ at u i) → t ≡ u
+same-trace t u n l m h =
+    ap₂ (λ (r : List Record) (k : ℕ). record { records = r; len = k })
+    (ext-getD past (t .records) (u .records) (l ∙ sym m) (λ i b. ap place (h i (omega arith))))
+    n
+
+pub empty-rest : (i : ℕ) → i < RECORDS → at empty i ≡ idle
+empty-rest i h = ap op (getD-replicate RECORDS i (place idle) past h)
+
+module _ (t : Trace) (o : Op) (room : t .len < RECORDS) where
+  pub pushed-room : pushed t o ≡ record { records = set (t .records) (t .len) (place o); len = t .len + 1 }
+  unfolding pushed
+  pushed-room = simp (lt-ltb (t .len) RECORDS room)
+
+  pub pushed-len : pushed t o .len ≡ t .len + 1
+  pushed-len = rw pushed-room
+
+  pub pushed-places : length (pushed t o .records) ≡ length (t .records)
+  pushed-places = rw pushed-room (length-set (t .records) (t .len) (place o))
+
+  pub pushed-last : length (t .records) ≡ RECORDS → at (pushed t o) (t .len) ≡ o
+  pushed-last full = rw pushed-room (ap op (getD-set-same (t .records) (t .len) (place o) past (omega arith)))
+
+  pub pushed-other : (i : ℕ) → i ≢ t .len → at (pushed t o) i ≡ at t i
+  pushed-other i d = rw pushed-room (ap op (getD-set-other (t .records) (t .len) i (place o) past d))
+
+module _ (t : Trace) (full : length (t .records) ≡ RECORDS) (k : ℕ) (h : k ≤ RECORDS) where
+  front : length (take k (t .records)) ≡ k
+  front = length-take-le k (t .records) (omega arith)
+
+  pub upTo-places : length (upTo t k .records) ≡ RECORDS
+  unfolding upTo
+  upTo-places = rw (length-append, front, length-replicate) (omega arith)
+
+  pub upTo-used : (i : ℕ) → i < k → at (upTo t k) i ≡ at t i
+  unfolding upTo
+  upTo-used i l =
+      ap op (List·getD-append (take k (t .records)) (replicate (RECORDS - k) (place idle)) past i (rw front l) ∙ getD-take k (t .records) i past l)
+
+  pub upTo-rest : (i : ℕ) → k ≤ i → i < RECORDS → at (upTo t k) i ≡ idle
+  unfolding upTo
+  upTo-rest i l b =
+      let e : i ≡ length (take k (t .records)) + (i - k) = rw front (omega arith) in
+      rw e
+      (ap op (getD-append-add (take k (t .records)) (replicate (RECORDS - k) (place idle)) (i - k) past ∙ getD-replicate (RECORDS - k) (i - k) (place idle) past (omega arith)))

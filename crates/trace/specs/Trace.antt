@@ -4,15 +4,16 @@
 --   idle       == what an unused place holds: a fence of thread 0
 --   empty      == the trace of no records
 --   pushed t o == the trace with one record more; a full trace stays as it is
+--   upTo t k   == the trace of the first k records of t
 --   first t a  == the value that address a begins with
 use mathlib.Core.Bool.{cond}
-use Prim.Native.Nat.{ℕ, _+_}
+use mathlib.Core.List.{_++_}
+use Prim.Native.Nat.{ℕ, _+_, _-_}
 use lib.Dec.{ltb}
-use lib.ListN.{getD, set, replicate}
+use lib.ListN.{getD, set, take, replicate}
 use Rattle.trace.specs.Bounds.{RECORDS}
 use Rattle.trace.specs.declared.Op.{Op}
 use Rattle.trace.specs.declared.Op.the-variants.{Load, Fence}
-use Rattle.trace.specs.declared.Record.{Record}
 use Rattle.trace.specs.declared.Trace.{Trace}
 
 -- past the array's end the language has the first variant at zeros
@@ -27,6 +28,9 @@ empty = record { records = replicate RECORDS (record { op = idle }); len = 0 }
 
 unfoldable pub pushed : Trace → Op → Trace
 pushed t o = cond (ltb (t .len) RECORDS) (record { records = set (t .records) (t .len) (record { op = o }); len = t .len + 1 }) t
+
+unfoldable pub upTo : Trace → ℕ → Trace
+upTo t k = record { records = take k (t .records) ++ replicate (RECORDS - k) (record { op = idle }); len = k }
 
 -- every address begins at 0
 unfoldable pub first : Trace → ℕ → ℕ

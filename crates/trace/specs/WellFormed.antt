@@ -6,7 +6,7 @@
 --   follows t n o         == o may stand after the first n records
 --   isIdle o              == o is what an unused place holds
 --   wellFormed t          == the trace is well formed
-use mathlib.Core.Bool.{Bool, true, false, not, _&&_}
+use mathlib.Core.Bool.{Bool, not, _&&_}
 use Prim.Native.Nat.{ℕ}
 use lib.Dec.{eqb, ltb, leb}
 use lib.ListN.{length}

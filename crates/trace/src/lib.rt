@@ -160,9 +160,10 @@ pub fn pushed(t: Trace, op: Op) -> Trace
 {
     let at = t.len;
     if at < RECORDS {
+        let next = at + 1;
         let mut u = t;
         u.records[at] = Record { op };
-        u.len = at + 1;
+        u.len = next;
         return u;
     }
     t

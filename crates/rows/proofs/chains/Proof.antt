@@ -1,8 +1,6 @@
 -- `rows::chains`: the rows hold the chains through numbers below k.
-use Prim.Native.Nat.{ℕ, _+_, _≤_, _-_}
+use Prim.Native.Nat.{_≤_, _-_}
 use native.Mathlib.Omega.{arith}
-use borrow.Author.Needs.{needs}
-use lib.ListN.{length}
 use Rattle.trace.specs.Bounds.{RECORDS}
 use Rattle.rows.proofs.Closing.{Stage, stage-none, stage-more, chained, unchained}
 use Rattle.rows.proofs.chains.Statement.{statement}

@@ -1,11 +1,9 @@
 -- `rows::join`: row x has what row k has below y.
 use mathlib.Core.Path.{_≡_, sym, _∙_}
 use mathlib.Core.Logic.{⊎-elim}
-use mathlib.Core.List.{List}
-use Prim.Native.Nat.{ℕ, _+_, _≤_, _-_}
+use Prim.Native.Nat.{_≤_, _-_}
 use native.Mathlib.Omega.{arith}
 use borrow.Author.Needs.{needs}
-use lib.ListN.{length}
 use Rattle.trace.specs.Bounds.{RECORDS}
 use Rattle.rows.specs.Put.{markOf}
 use Rattle.rows.proofs.Closing.{Joining, join-none, join-mark, join-skip, joined}

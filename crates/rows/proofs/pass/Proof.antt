@@ -1,13 +1,10 @@
 -- `rows::pass`: the pairs that lead through k from below x are there.
 use mathlib.Core.Path.{_≡_, sym, _∙_}
 use mathlib.Core.Logic.{⊎-elim}
-use mathlib.Core.List.{List}
-use Prim.Native.Nat.{ℕ, _+_, _≤_, _-_}
+use Prim.Native.Nat.{_≤_, _-_}
 use native.Mathlib.Omega.{arith}
-use borrow.Author.Needs.{needs}
-use lib.ListN.{length}
 use Rattle.trace.specs.Bounds.{RECORDS}
-use Rattle.rows.specs.Joined.{Joined}
+use Rattle.rows.specs.Added.{Added, Row}
 use Rattle.rows.proofs.Closing.{Passing, pass-none, pass-join, pass-skip, passed}
 use Rattle.rows.proofs.pass.Statement.{statement}
 use Rattle.rows.proofs.pass.Tie as tie
@@ -41,7 +38,7 @@ loop-again c =
       omega arith,
       ⊎-elim
           (λ w.
-          let done : Joined (l .loop .rows) (l .loop .x) (a .k) (c .if1 .rows) = rw (w .5) (w .2 .ensures) in
+          let done : Added (l .loop .rows) (Row (l .loop .rows) (l .loop .x) (a .k)) (c .if1 .rows) = rw (w .5) (w .2 .ensures) in
           pass-join (a .rows .now) (l .loop .rows) (a .k) (l .loop .x) now (c .if1 .rows) (sym (c .before .has .ensures) ∙ w .0 .taken) done)
           (λ w.
           let e : c .if1 .rows ≡ l .loop .rows = w .1 in

@@ -5,14 +5,14 @@ use Rattle.trace.specs.Trace.{pushed}
 use Rattle.trace.proofs.pushed.Statement.{statement}
 use Rattle.trace.proofs.pushed.Tie as tie
 
-mul-t7 : tie.Need-mul-t7
-mul-t7 c = search needs
+add-next : tie.Need-add-next
+add-next c = search needs
+
+mul-t8 : tie.Need-mul-t8
+mul-t8 c = search needs
 
 element-set-from-u : tie.Need-element-set-from-u
 element-set-from-u c = search needs
-
-add-u : tie.Need-add-u
-add-u c = search needs
 
 returns : tie.Need-returns
 unfolding pushed
@@ -23,4 +23,4 @@ unfolding pushed
 returns-2 c = simp (le-ltb _ _ (c .if1 .left))
 
 pub pushed-spec : {M : Type 1} → statement M
-pushed-spec = tie.close (tie.spec mul-t7 element-set-from-u add-u returns returns-2)
+pushed-spec = tie.close (tie.spec add-next mul-t8 element-set-from-u returns returns-2)

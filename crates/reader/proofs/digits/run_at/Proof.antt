@@ -38,7 +38,7 @@ here : (c : tie.Else1 Inv-loop μ-loop) → isDigit (getD (c .before .before .be
 here c = sym (c .before .is-digit .ensures) ∙ not-false _ (c .if1 .left)
 
 with-digit-requires : tie.Need-with-digit-requires Inv-loop μ-loop
-with-digit-requires c κs = let b = digit-bounds _ (here c) in (omega arith, b .0, b .1)
+with-digit-requires c κs = (c .before .before .before .before .loop .inv .0, digit-bounds _ (here c) .0, digit-bounds _ (here c) .1)
 
 add-i : tie.Need-add-i Inv-loop μ-loop
 add-i c = search needs

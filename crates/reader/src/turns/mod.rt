@@ -1,0 +1,171 @@
+// What one line gets: the record that it writes, or the lowest number that turns it back.
+ghost use mathlib.Core.Path.{_≡_};
+ghost use mathlib.Core.Bool.{So};
+ghost use Rattle.reader.specs.Answer.{numberOf, inBounds, oneAddress, opOf, joined, checked, turned};
+use crate::Form;
+use crate::Raw;
+use crate::Reason;
+use crate::Turn;
+use crate::forms::form;
+use trace::ADDRESSES;
+use trace::Op;
+use trace::RECORDS;
+use trace::THREADS;
+use trace::Trace;
+use trace::VALUES;
+use trace::first;
+use trace::form::written_before;
+
+const LINE: usize = 80;
+
+// Document 01's number of a reason.
+pub fn number(reason: Reason) -> u8
+    ensures { λ r. ⌜ r ≡ numberOf reason ⌝ }
+{
+    match reason {
+        Reason::LongText => 1,
+        Reason::LongLine => 2,
+        Reason::NoForm => 3,
+        Reason::PastBound => 4,
+        Reason::Addresses => 5,
+        Reason::FirstValue => 6,
+        Reason::TooMany => 7,
+        Reason::Twice => 8,
+    }
+}
+
+// Whether the numbers of a raw record keep their bounds.
+pub fn in_bounds(raw: Raw) -> bool
+    ensures { λ r. ⌜ r ≡ inBounds raw ⌝ }
+{
+    let threads = THREADS as u32;
+    let addresses = ADDRESSES as u32;
+    match raw {
+        Raw::Load { thread, addr, read } => (thread < threads)
+            & (addr < addresses)
+            & (read < VALUES),
+        Raw::Store {
+            thread,
+            addr,
+            written,
+        } => (thread < threads) & (addr < addresses) & (written < VALUES),
+        Raw::Swap {
+            thread,
+            addr,
+            read,
+            second,
+            written,
+        } => {
+            (thread < threads)
+                & (addr < addresses)
+                & (read < VALUES)
+                & (second < addresses)
+                & (written < VALUES)
+        }
+        Raw::Fence { thread } => thread < threads,
+    }
+}
+
+// Whether a swap names one address only.
+pub fn one_address(raw: Raw) -> bool
+    ensures { λ r. ⌜ r ≡ oneAddress raw ⌝ }
+{
+    match raw {
+        Raw::Load { .. } => true,
+        Raw::Store { .. } => true,
+        Raw::Swap { addr, second, .. } => addr == second,
+        Raw::Fence { .. } => true,
+    }
+}
+
+// The record that a raw one stands for.
+fn op_of(raw: Raw) -> Op
+    requires { ⌜ So (inBounds raw) ⌝ }
+    ensures { λ r. ⌜ r ≡ opOf raw ⌝ }
+{
+    match raw {
+        Raw::Load { thread, addr, read } => Op::Load {
+            thread: thread as u8,
+            addr: addr as u8,
+            read: read as u16,
+        },
+        Raw::Store {
+            thread,
+            addr,
+            written,
+        } => Op::Store {
+            thread: thread as u8,
+            addr: addr as u8,
+            written: written as u16,
+        },
+        Raw::Swap {
+            thread,
+            addr,
+            read,
+            written,
+            ..
+        } => {
+            Op::Swap {
+                thread: thread as u8,
+                addr: addr as u8,
+                read: read as u16,
+                written: written as u16,
+            }
+        }
+        Raw::Fence { thread } => Op::Fence {
+            thread: thread as u8,
+        },
+    }
+}
+
+// A record of good numbers behind the trace so far.
+pub fn joined(t: Trace, op: Op) -> Turn
+    ensures { λ r. ⌜ r ≡ joined t op ⌝ }
+{
+    let writes = op.writes();
+    let addr = op.address();
+    let written = op.written();
+    let start = first(t, addr);
+    if writes & (written == start) {
+        return Turn::Refused(Reason::FirstValue);
+    }
+    let len = t.len;
+    if RECORDS <= len {
+        return Turn::Refused(Reason::TooMany);
+    }
+    if writes {
+        if written_before(t, len, addr, written) {
+            return Turn::Refused(Reason::Twice);
+        }
+    }
+    Turn::Taken(op)
+}
+
+// A raw record behind the trace so far.
+pub fn checked(t: Trace, raw: Raw) -> Turn
+    ensures { λ r. ⌜ r ≡ checked t raw ⌝ }
+{
+    if in_bounds(raw) {
+        if one_address(raw) {
+            return joined(t, op_of(raw));
+        }
+        return Turn::Refused(Reason::Addresses);
+    }
+    Turn::Refused(Reason::PastBound)
+}
+
+// A line behind the trace so far.
+pub fn turned(t: Trace, bytes: &[u8], ended: bool) -> Turn
+    ensures { λ r. ⌜ r ≡ turned t (record { bytes = now (bytes .entry); ended = ended }) ⌝ }
+{
+    if LINE < bytes.len() {
+        return Turn::Refused(Reason::LongLine);
+    }
+    if !ended {
+        return Turn::Refused(Reason::NoForm);
+    }
+    match form(bytes) {
+        Form::Of(raw) => checked(t, raw),
+        Form::Nothing => Turn::Refused(Reason::NoForm),
+    }
+}
