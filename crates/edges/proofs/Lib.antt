@@ -1,3 +1,11 @@
+pub mod Kept
+pub mod Supposed
+pub mod SourceOf
+pub mod Adds
+pub mod Drawn
+pub mod Turns
+pub mod Ended
+pub mod Answers
 pub mod Orders
 pub mod Sound
 pub mod Rounds
@@ -12,3 +20,14 @@ pub mod Missing
 pub mod Clear
 pub mod Sorted
 pub mod Counter
+pub mod Added
+pub mod Further
+pub mod Lowest
+pub mod Least
+pub mod Reach
+pub mod Tracing
+pub mod ShownIn
+pub mod OneCircle
+pub mod Picked
+pub mod Named
+pub mod CircleOf
