@@ -15,10 +15,3 @@ pub mod Turns
 pub mod Answers
 pub mod Missing
 pub mod Clear
-pub mod Added
-pub mod Least
-pub mod Reach
-pub mod Third
-pub mod ShownIn
-pub mod Named
-pub mod CircleOf

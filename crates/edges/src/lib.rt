@@ -1,9 +1,6 @@
-// The edges that the rules force, the chains they make and the circle that is shown.
+// The edges that the rules force, and what is held when they are closed round by round.
 pub mod force;
 pub mod pairs;
-pub mod rule;
-pub mod show;
-pub mod trail;
 
 // What the rules force from kept and supposed pairs: whether they contradict each other, and the held edges as rows, none while contradicted.
 pub struct Forced {

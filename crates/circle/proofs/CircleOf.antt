@@ -1,0 +1,160 @@
+-- The circle shown for a trace under a model, with its rules.
+--
+--   shown-same     == what is shown goes by the edges alone
+--   none-supposed  == rows with no pair suppose nothing
+--   circled-none   == rounds that end without a circle have none
+--   circled-some   == the circle of the round at which they end, with the rules that were named, is the one shown
+--   circle-none-of == nothing was laid where the last round has no circle
+--   circle-laid    == what was laid is the circle shown
+--   circle-of-one  == no second answer fits
+use mathlib.Core.Path.{_≡_, refl, sym, ap, ap₂, _∙_, subst}
+use mathlib.Core.Logic.{inl, inr, _↔_}
+use mathlib.Core.Bool.{Bool, true, false, So, _&&_, false≢true}
+use mathlib.Core.List.{List, [], _∷_}
+use mathlib.Core.Option.{Option, none, some, Option·some-injective}
+use Prim.Native.Nat.{ℕ, zero, suc, _≤_, _<_}
+use native.Mathlib.Omega.{arith}
+use lib.ListN.{length, getD, take, replicate, length-replicate}
+use lib.Seq.{length-take-le, getD-take}
+use Rattle.laws.specs.Relation.{Rel, Table}
+use Rattle.laws.proofs.Tests.{off, test, and-iff, same-iff}
+use Rattle.trace.specs.Bounds.{RECORDS}
+use Rattle.trace.specs.Frame.{Frame, Good}
+use Rattle.trace.specs.Meaning.{frameOf}
+use Rattle.trace.specs.WellFormed.{wellFormed}
+use Rattle.trace.specs.declared.Trace.{Trace}
+use Rattle.trace.proofs.Good.{good}
+use Rattle.rows.specs.Rows.{bit, Edges}
+use Rattle.rows.specs.Empty.{emptyOf}
+use Rattle.rows.proofs.Whole.{empty-bit}
+use Rattle.edges.specs.Kept.{modelled, keptOf}
+use Rattle.edges.specs.Rules.{Edge, nothing}
+use Rattle.edges.specs.Supposed.{supposedOf}
+use Rattle.edges.specs.Circle.{Run, Circle as Ring, Shown, after}
+use Rattle.edges.specs.ShownCircle.{Ruled, ShownCircle, Circled}
+use Rattle.edges.specs.Ended.{Ends, Ended}
+use Rattle.circle.specs.ShownIn.{circleOf, ShownIn}
+use Rattle.circle.specs.Named.{Named}
+use Rattle.edges.specs.Answers.{answered, Rounded}
+use Rattle.circle.specs.CircleOf.{ruledOf, CircleOf}
+use Rattle.circle.specs.declared.show.Circle.{Circle}
+use Rattle.edges.specs.declared.force.Round.{Round}
+use Rattle.edges.proofs.Supposed.{supposed-iff}
+use Rattle.edges.proofs.Circle.{circle-none, circle-iff}
+use Rattle.edges.proofs.Closing.{last-clear}
+use Rattle.edges.proofs.ShownCircle.{rule-computed, circled-one}
+use Rattle.circle.proofs.ShownIn.{zeros, same-used}
+
+-- What is shown goes by the edges alone -----------------------------------------------------------------------------------------------------
+
+run-mono : (E F : Rel) → ((x y : ℕ) → E x y → F x y) → (a : ℕ) (xs : List ℕ) (z : ℕ) → Run E a xs z → Run F a xs z
+run-mono E F h a [] z r = h a z r
+run-mono E F h a (b ∷ bs) z r = (h a b (r .0), run-mono E F h b bs z (r .1))
+
+circle-mono : (E F : Rel) → ((x y : ℕ) → E x y → F x y) → (c : List ℕ) → Ring E c → Ring F c
+circle-mono E F h [] c = c
+circle-mono E F h (x ∷ xs) c = run-mono E F h x xs x c
+
+pub shown-same : (E F : Rel) → ((x y : ℕ) → E x y ↔ F x y) → (a : Option (List ℕ)) → Shown E a → Shown F a
+shown-same E F q none s = λ d c. s d (circle-mono F E (λ x y. q x y .1) d c)
+shown-same E F q (some c) s = (circle-mono E F (λ x y. q x y .0) c (s .0), λ d e. s .1 d (circle-mono F E (λ x y. q x y .1) d e))
+
+-- The rounds of a trace ----------------------------------------------------------------------------------------------------------------------
+
+pub none-supposed : (t : Trace) (n : ℕ) → supposedOf t (emptyOf n) ≡ nothing
+none-supposed t n = λ i x y. off {b = supposedOf t (emptyOf n) x y} (λ s. false≢true (sym (empty-bit n x y) ∙ supposed-iff t (emptyOf n) x y .0 s .1)) i
+
+module _ (f : Frame) (g : Good f) (K : Table) (before edges chains : List ℕ) where
+  pub circled-none : Ended f K nothing false before edges chains → Circled f K none
+  circled-none (k, e) = λ m. circle-none (Edge f K nothing m) .1 (λ x c. last-clear f K nothing k (e .last false≢true) (λ x d. false≢true (e .circle-is .1 (x, d))) (x, (suc m, c)))
+
+  pub circled-some : (len : ℕ) (os rs zero-rules : List ℕ) → Ended f K nothing true before edges chains → len ≤ length os → len ≤ length rs → Shown (Edges edges) (circleOf len os)
+      → Named f K (bit before) (take len os) len zero-rules rs → Circled f K (ruledOf len os rs)
+  unfolding circleOf ruledOf
+  circled-some len os rs zero-rules (k, e) lo lr shown named = go len lo lr (shown-same (Edges edges) (Edge f K nothing k) (e .edges-has) (circleOf len os) shown) named
+    where
+      go : (len : ℕ) → len ≤ length os → len ≤ length rs → Shown (Edge f K nothing k) (circleOf len os) → Named f K (bit before) (take len os) len zero-rules rs → Circled f K (ruledOf len os rs)
+      go zero lo lr s n = let (x, c) = e .circle-is .0 refl in absurd (circle-none (Edge f K nothing k) .0 s x c)
+      go (suc m) lo lr s n = (
+        k,
+        record {
+          earlier = λ j l. circle-none (Edge f K nothing j) .1 (e .earlier j l .clear);
+          shown = s;
+          rules = record {
+            long = length-take-le (suc m) rs lr ∙ sym long;
+            lowest = λ i l.
+                let h : i < suc m = omega (arith, long) in
+                rw (getD-take (suc m) rs i 0 h ∙ n .each i h) (rule-computed f g K nothing (bit before) k (e .before-has) (getD c i 0) (after c i) (circle-iff (Edge f K nothing k) c .0 (s .0) .1 i l));
+          };
+        },
+      )
+        where
+          c : List ℕ
+          c = take (suc m) os
+
+          long : length c ≡ suc m
+          long = length-take-le (suc m) os lo
+
+-- What comes back ----------------------------------------------------------------------------------------------------------------------------
+
+module _ (t : Trace) (m : ℕ) (n : ℕ) (supposed : List ℕ) (last : Round) (e : supposed ≡ emptyOf n) (d : Rounded t m supposed last) where
+  -- nothing is supposed
+  bare : So (answered m t) → Ended (frameOf t) (keptOf m t) nothing (last .circle) (last .before) (last .edges) (last .chains)
+  bare s = subst (λ (P : Table). Ended (frameOf t) (keptOf m t) P (last .circle) (last .before) (last .edges) (last .chains)) (ap (supposedOf t) e ∙ none-supposed t n) (d .ended s)
+
+  well : So (answered m t) → Good (frameOf t)
+  well s = good t (and-iff (same-iff {a = wellFormed t}) (same-iff {a = modelled m}) .0 s .0)
+
+  pub circle-none-of : last .circle ≡ false → (r : Circle) → r .len ≡ 0 → r .operations ≡ replicate RECORDS 0 → r .rules ≡ replicate RECORDS 0 → CircleOf t m r
+  unfolding ruledOf
+  circle-none-of c r z eo er = record {
+    fits = omega arith;
+    long = (ap length eo ∙ length-replicate {A = ℕ} RECORDS 0, ap length er ∙ length-replicate {A = ℕ} RECORDS 0);
+    rest = λ i _. (ap (λ l. getD l i 0) eo ∙ zeros RECORDS i, ap (λ l. getD l i 0) er ∙ zeros RECORDS i);
+    circle = λ s. rw z (circled-none (frameOf t) (well s) (keptOf m t) (last .before) (last .edges) (last .chains)
+        (subst (λ (b : Bool). Ended (frameOf t) (keptOf m t) nothing b (last .before) (last .edges) (last .chains)) c (bare s)));
+    nothing = λ _. z;
+  }
+
+  pub circle-laid : (r : Circle) (wiped : List ℕ) → last .circle ≡ true → ShownIn (last .edges) RECORDS (r .len) (r .operations) → wiped ≡ replicate RECORDS 0
+      → Named (frameOf t) (keptOf m t) (bit (last .before)) (take (r .len) (r .operations)) (r .len) wiped (r .rules) → CircleOf t m r
+  circle-laid r wiped c shown z named = record {
+    fits = shown .fits;
+    long = (shown .long, long);
+    rest = λ i l. (shown .rest i l, named .rest i l ∙ ap (λ z. getD z i 0) z ∙ zeros RECORDS i);
+    circle = λ s.
+        circled-some (frameOf t) (well s) (keptOf m t) (last .before) (last .edges) (last .chains) (r .len) (r .operations) (r .rules) wiped
+        (subst (λ (b : Bool). Ended (frameOf t) (keptOf m t) nothing b (last .before) (last .edges) (last .chains)) c (bare s))
+        (omega (arith, shown .fits, shown .long)) (omega (arith, shown .fits, long)) (shown .shown (bare s .1 .edges-full .long) refl) named;
+    nothing = λ a. absurd (false≢true (sym (d .none a .0) ∙ c));
+  }
+    where
+      long : length (r .rules) ≡ RECORDS
+      long = named .long ∙ ap length z ∙ length-replicate {A = ℕ} RECORDS 0
+
+-- what is laid is settled by the circle and its rules
+ruled-one : (m n : ℕ) (os rs ps qs : List ℕ) → m ≤ length os → n ≤ length ps → ruledOf m os rs ≡ ruledOf n ps qs → (m ≡ n) × (take m os ≡ take m ps) × (take m rs ≡ take m qs)
+unfolding ruledOf
+ruled-one zero zero os rs ps qs lm ln e = (refl, refl, refl)
+ruled-one zero (suc n) os rs ps qs lm ln e = absurd (let z : _≡_ {A = ℕ} 0 1 = cc in omega arith)
+ruled-one (suc m) zero os rs ps qs lm ln e = absurd (let z : _≡_ {A = ℕ} 0 1 = cc in omega arith)
+ruled-one (suc m) (suc n) os rs ps qs lm ln e =
+    let q = Option·some-injective _ _ e in
+    let l : suc m ≡ suc n = omega (arith, ap (λ c. length (c .0)) q, length-take-le (suc m) os lm, length-take-le (suc n) ps ln) in
+    (l, ap (λ c. c .0) q ∙ ap (λ k. take k ps) (sym l), ap (λ c. c .1) q ∙ ap (λ k. take k qs) (sym l))
+
+-- what the fields settle
+abbrev circle-with : ℕ → List ℕ × List ℕ → Circle
+circle-with n p = record { len = n; operations = p .0; rules = p .1 }
+
+pub circle-of-one : (t : Trace) (m : ℕ) (r s : Circle) → CircleOf t m r → CircleOf t m s → r ≡ s
+circle-of-one t m r s p q = ap₂ circle-with (both .0) (ap₂ (λ x y. (x, y))
+    (same-used (r .len) (r .operations) (s .operations) (p .long .0 ∙ sym (q .long .0)) (both .1) (λ i h. p .rest i h .0 ∙ sym (q .rest i (omega (arith, both .0)) .0)))
+    (same-used (r .len) (r .rules) (s .rules) (p .long .1 ∙ sym (q .long .1)) (both .2) (λ i h. p .rest i h .1 ∙ sym (q .rest i (omega (arith, both .0)) .1))))
+  where
+    both : (r .len ≡ s .len) × (take (r .len) (r .operations) ≡ take (r .len) (s .operations)) × (take (r .len) (r .rules) ≡ take (r .len) (s .rules))
+    both = elim (test (answered m t)) [
+      | inl a ↦ ruled-one (r .len) (s .len) (r .operations) (r .rules) (s .operations) (s .rules) (omega (arith, p .fits, p .long .0)) (omega (arith, q .fits, q .long .0))
+          (circled-one (frameOf t) (keptOf m t) _ _ (p .circle a) (q .circle a))
+      | inr n ↦ let z : r .len ≡ 0 = p .nothing n in (z ∙ sym (q .nothing n), rw z refl, rw z refl)
+    ]

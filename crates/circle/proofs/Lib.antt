@@ -1,0 +1,11 @@
+pub mod Added
+pub mod Further
+pub mod Lowest
+pub mod Least
+pub mod Reach
+pub mod Tracing
+pub mod ShownIn
+pub mod OneCircle
+pub mod Picked
+pub mod Named
+pub mod CircleOf

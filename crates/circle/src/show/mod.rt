@@ -1,0 +1,73 @@
+// The circle that is shown for a trace, with the rule of each of its edges.
+ghost use mathlib.Core.Path.{_≡_};
+ghost use Prim.Native.Nat.{_<_, _≤_};
+ghost use lib.ListN.{length, take};
+ghost use Rattle.trace.specs.Meaning.{frameOf};
+ghost use Rattle.rows.specs.Rows.{bit};
+ghost use Rattle.edges.specs.Kept.{keptOf};
+ghost use Rattle.edges.specs.Circle.{after};
+ghost use Rattle.circle.specs.Named.{Named};
+ghost use Rattle.circle.specs.CircleOf.{CircleOf};
+use crate::rule::lowest_rule;
+use crate::trail::shown;
+use edges::force::last_round;
+use trace::RECORDS;
+use trace::Trace;
+
+// The circle that is shown: the first len operations, each with the rule of the edge that leads on from it. Unused places are 0.
+pub struct Circle {
+    pub len: usize,
+    pub operations: [u8; RECORDS],
+    pub rules: [u8; RECORDS],
+}
+
+// What follows place i of a circle: the first follows the last.
+fn next_of(operations: &[u8], len: usize, i: usize) -> usize
+    requires { ⌜ (i < len) × (len ≤ length (now operations)) ⌝ }
+    ensures { λ r. ⌜ r ≡ after (take len (now (operations .entry))) i ⌝ }
+{
+    if i + 1 < len {
+        return operations[i + 1] as usize;
+    }
+    operations[0] as usize
+}
+
+// Lays the lowest rule of each edge of the circle into `rules`, from the chains of the round before.
+fn name_rules(t: Trace, model: u8, chains: &[u64], len: usize, operations: &[u8], rules: &mut [u8])
+    requires { ⌜ (len ≤ length (now operations)) × (len ≤ length (now rules)) ⌝ }
+    ensures { λ r. ⌜ Named (frameOf t) (keptOf model t) (bit (now (chains .entry))) (take len (now (operations .entry))) len (now (rules .entry)) (now (rules .exit)) ⌝ }
+{
+    let mut i: usize = 0;
+    while i < len {
+        let x = operations[i] as usize;
+        rules[i] = lowest_rule(t, model, chains, x, next_of(operations, len, i));
+        i += 1;
+    }
+}
+
+// The circle that is shown for a trace under a model, of the first round that has one, with the lowest rule of each edge by that round. There is
+// none where no round has one, for a trace that is not well formed, and under a model that does not exist.
+pub fn circle_of(t: Trace, model: u8) -> Circle
+    ensures { λ r. ⌜ CircleOf t model r ⌝ }
+{
+    let mut operations = [0u8; RECORDS];
+    let mut rules = [0u8; RECORDS];
+    let supposed = [0u64; rows::CELLS];
+    let last = last_round(t, model, &supposed);
+    if last.circle {
+        let edges = last.edges;
+        let before = last.before;
+        let len = shown(&edges, &mut operations);
+        name_rules(t, model, &before, len, &operations, &mut rules);
+        return Circle {
+            len,
+            operations,
+            rules,
+        };
+    }
+    Circle {
+        len: 0,
+        operations,
+        rules,
+    }
+}
