@@ -1,6 +1,8 @@
 -- `edges::force::advance`: the next round is drawn aside, and taken over where it differs.
 use mathlib.Core.Path.{refl, _∙_, sym}
 use mathlib.Core.Bool.{false≢true}
+use Rattle.rows.specs.Bounds.{CELLS}
+use Rattle.rows.specs.Empty.{emptyOf}
 use Rattle.rows.proofs.Whole.{copy-same}
 use Rattle.edges.specs.Turns.{Advanced, stays, grows}
 use Rattle.edges.proofs.Ended.{stayed-at, grown-at}
@@ -35,7 +37,7 @@ returns c =
     let d = q .before .before .before .before in
     let p = d .before .before .before in
     let s = p .before .before .before .before .before .before .before .before in
-    stays refl refl (stayed-at (s .args .edges .now) _ _ _ _ (s .pre .4) refl (p .copy .ensures) (d .draw-settled .ensures) (q .equal .ensures .0 (c .if1 .taken)))
+    stays refl refl (stayed-at (s .args .edges .now) (emptyOf CELLS) (p .copy .last .1 .0) (d .draw-settled .last .1 .1 .1 .1 .0) _ (s .pre .4) refl (p .copy .ensures) (d .draw-settled .ensures) (q .equal .ensures .0 (c .if1 .taken)))
 
 copy-requires-2 : tie.Need-copy-requires-2
 copy-requires-2 c κs = search needs
@@ -60,7 +62,7 @@ returns-2 c =
     let d = q .before .before .before .before in
     let p = d .before .before .before in
     let s = p .before .before .before .before .before .before .before .before in
-    let g = grown-at (s .args .edges .now) _ _ _ _ (s .pre .4) refl (p .copy .ensures) (d .draw-settled .ensures) _ (k .copy3 .ensures) (λ e. false≢true (sym (b .before .before .if1 .left) ∙ q .equal .ensures .1 e)) in
+    let g = grown-at (s .args .edges .now) (emptyOf CELLS) (p .copy .last .1 .0) (d .draw-settled .last .1 .1 .1 .1 .0) _ (s .pre .4) refl (p .copy .ensures) (d .draw-settled .ensures) _ (k .copy3 .ensures) (λ e. false≢true (sym (b .before .before .if1 .left) ∙ q .equal .ensures .1 e)) in
     grows (b .copy2 .ensures ∙ copy-same (s .args .chains .now) (s .args .before .now) (s .pre .2 ∙ sym (s .pre .3))) (g .0) (g .1)
 
 pub advance-spec : {M : Type 1} → statement M
