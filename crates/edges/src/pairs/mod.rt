@@ -140,6 +140,9 @@ pub fn source_of(t: Trace, load: usize) -> usize
 {
     let n = t.len;
     let b = op_at(t, load);
+    if !b.reads() {
+        return RECORDS;
+    }
     let begins = first(t, b.address());
     let mut i: usize = 0;
     while i < RECORDS {
