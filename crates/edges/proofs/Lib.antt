@@ -20,3 +20,4 @@ pub mod Missing
 pub mod Clear
 pub mod Sorted
 pub mod Counter
+pub mod One

@@ -4,6 +4,7 @@
 --   source-of-found, source-of-none  == what a loop over the records learns
 --   source-of-is                     == a record that it is, is a source
 --   source-of-has                    == in a good frame a source is the one
+--   source-of-idle                   == what does not read has none
 use mathlib.Core.Path.{_≡_, sym, ap, _∙_}
 use mathlib.Core.Bool.{false, So, not, _&&_, false≢true}
 use mathlib.Core.Option.{Option, none, some}
@@ -12,7 +13,7 @@ use native.Mathlib.Decide.{decLt}
 use native.Mathlib.Omega.{arith}
 use lib.Dec.{eqb, ltb}
 use Rattle.laws.specs.Lowest.{Lowest, lowest}
-use Rattle.laws.proofs.Tests.{and-iff, not-iff, same-iff, so-eq, so-lt, test-one}
+use Rattle.laws.proofs.Tests.{off, and-iff, not-iff, same-iff, so-eq, so-lt, test-one}
 use Rattle.laws.proofs.Lowest.{lowest-one, lowest-iff}
 use Rattle.trace.specs.Bounds.{RECORDS}
 use Rattle.trace.specs.Op.{address, reads, writes}
@@ -84,3 +85,8 @@ module _ (f : Frame) (L : ℕ) where
       go : (o : Option ℕ) → Lowest Below o → pick o ≡ S
       go (some R) b = source-one f g R S L (b .0 .1) s
       go none b = absurd (b S (h, s))
+
+-- what does not read has no source
+pub source-of-idle : (t : Trace) (L : ℕ) → reads (at t L) ≡ false → sourceOf (frameOf t) L ≡ RECORDS
+source-of-idle t L r =
+    source-of-none (frameOf t) L (λ k h. off (λ s. false≢true (sym r ∙ reads-iff t L .0 (source-iff (frameOf t) k L .0 s .reads) .1)))

@@ -4,9 +4,9 @@
 --   settled-gives    == what is drawn from chains is what rules 6 and 7 give
 --   next-edges       == added to a round, it makes the next one
 --   writers-noted    == the writers that are noted are the writers
-use mathlib.Core.Path.{_≡_, refl, sym, _∙_, subst}
+use mathlib.Core.Path.{_≡_, refl, sym, _∙_}
 use mathlib.Core.Logic.{_↔_, _⊎_, inl, inr}
-use mathlib.Core.Bool.{Bool, So, not, _&&_, _||_}
+use mathlib.Core.Bool.{So, not, _&&_, _||_}
 use mathlib.Core.List.{List}
 use Prim.Native.Nat.{ℕ, suc, _<_, _≤_}
 use native.Mathlib.Omega.{arith}
@@ -18,13 +18,13 @@ use Rattle.trace.specs.Bounds.{RECORDS}
 use Rattle.trace.specs.Frame.{Frame, Good, Writer, Source, First}
 use Rattle.rows.specs.Rows.{bit}
 use Rattle.edges.specs.Rules.{Gives, rule1, rule2, rule3, rule4, rule5, rule6, rule7, rule8, Chains, Edge, Within}
-use Rattle.edges.specs.Tests.{writer?, first?}
+use Rattle.edges.specs.Tests.{writer?}
 use Rattle.edges.specs.Adds.{Adds, Only, Union, Cover}
 use Rattle.edges.specs.SourceOf.{sourceOf}
-use Rattle.edges.specs.Drawn.{Valued, ValuedFor, second, third, fourth, fifth, Settled, SettledFor, sixth, seventh}
+use Rattle.edges.specs.Drawn.{Valued, readsFirst, ValuedFor, second, third, fourth, fifth, Settled, SettledFor, sixth, seventh}
 use Rattle.edges.specs.Turns.{Facts}
 use Rattle.edges.proofs.Rounds.{edge-next}
-use Rattle.edges.proofs.Tests.{writer-iff, first-iff}
+use Rattle.edges.proofs.Tests.{writer-iff}
 use Rattle.edges.proofs.SourceOf.{source-of-is, source-of-has}
 
 module _ (f : Frame) (g : Good f) (small : f .records ≤ RECORDS) where
@@ -41,46 +41,55 @@ module _ (f : Frame) (g : Good f) (small : f .records ≤ RECORDS) where
   the-source : (S L : ℕ) → Source f S L → sourceOf f L ≡ S
   the-source S L s = source-of-has f L g S (omega (arith, writer-below (s .writer))) s
 
-  -- the tests of rules 2, 3 and 5
+  -- the tests of rules 2 to 5
   test₂ : (S L : ℕ) → So (eqb S (sourceOf f L) && not (f .earlier S L)) ↔ ((S ≡ sourceOf f L) × (So (f .earlier S L) → ⊥))
   test₂ S L = and-iff so-eq (not-iff same-iff)
 
-  test₃ : (S L : ℕ)
-      → So (writer? f S L && ltb (sourceOf f L) RECORDS && not (eqb S (sourceOf f L)) && f .earlier S L)
-      ↔ (((Writer f S L × (sourceOf f L < RECORDS)) × (S ≡ sourceOf f L → ⊥)) × So (f .earlier S L))
-  test₃ S L = and-iff (and-iff (and-iff (writer-iff f S L) so-lt) (not-iff so-eq)) same-iff
+  test₃ : (S L : ℕ) → So (ltb (sourceOf f L) RECORDS && not (eqb S (sourceOf f L)) && f .earlier S L) ↔ (((sourceOf f L < RECORDS) × (S ≡ sourceOf f L → ⊥)) × So (f .earlier S L))
+  test₃ S L = and-iff (and-iff so-lt (not-iff so-eq)) same-iff
 
-  test₅ : (S L : ℕ) → So (first? f S L && f .earlier S L) ↔ (First f S L × So (f .earlier S L))
-  test₅ S L = and-iff (first-iff f S L) same-iff
+  test₄ : (L : ℕ) → So (readsFirst f L) ↔ (So (f .reads L) × (f .read L ≡ f .first (f .address L)))
+  test₄ L = and-iff same-iff so-eq
+
+  test₅ : (S L : ℕ) → So (readsFirst f L && f .earlier S L) ↔ ((So (f .reads L) × (f .read L ≡ f .first (f .address L))) × So (f .earlier S L))
+  test₅ S L = and-iff (test₄ L) same-iff
+
+  first-of : (S L : ℕ) → Writer f S L → So (f .reads L) × (f .read L ≡ f .first (f .address L)) → First f S L
+  first-of S L w p = record { writer = w; reads = p .0; value = p .1 }
 
   module _ (K P : Table) (inK : Within f K) (inP : Within f P) where
-    valued-gives : (S L x y : ℕ) → S < f .records → ValuedFor f L S x y → Edge f K P 0 x y
-    valued-gives S L x y h (second o) = let p = test₂ S L .0 (o .0) in rw (o .1, o .2) (2, rule2 (is-source S L (omega arith) (p .0)) (p .1))
-    valued-gives S L x y h (third o) =
-        let p = test₃ S L .0 (o .0) in
-        rw (o .1, o .2) (3, rule3 L (source-of-is f L (p .0 .0 .1)) (p .0 .0 .0) (p .0 .1) (p .1))
-    valued-gives S L x y h (fourth o) = rw (o .1, o .2) (4, rule4 (first-iff f S L .0 (o .0)))
-    valued-gives S L x y h (fifth o) = let p = test₅ S L .0 (o .0) in rw (o .1, o .2) (5, rule5 (p .0) (p .1))
+    valued-gives : (S L x y : ℕ) → S < f .records → Writer f S L → Valued (f .earlier S L) (readsFirst f L) (sourceOf f L) S L x y → Edge f K P 0 x y
+    valued-gives S L x y h w (second o) = let p = test₂ S L .0 (o .0) in rw (o .1, o .2) (2, rule2 (is-source S L (omega arith) (p .0)) (p .1))
+    valued-gives S L x y h w (third o) = let p = test₃ S L .0 (o .0) in rw (o .1, o .2) (3, rule3 L (source-of-is f L (p .0 .0)) w (p .0 .1) (p .1))
+    valued-gives S L x y h w (fourth o) = rw (o .1, o .2) (4, rule4 (first-of S L w (test₄ L .0 (o .0))))
+    valued-gives S L x y h w (fifth o) = let p = test₅ S L .0 (o .0) in rw (o .1, o .2) (5, rule5 (first-of S L w (p .0)) (p .1))
 
     abbrev Drawn : Rel
-    Drawn x y = Cover (f .records) (λ x y. Only (K x y || P x y) x y) x y ⊎ Union (f .records) (λ L. Union (f .records) (ValuedFor f L)) x y
+    Drawn x y =
+        Cover (f .records) (λ x y. Only (K x y || P x y) x y) x y
+        ⊎ Union (f .records) (λ L x y. So (f .reads L) × Union (f .records) (ValuedFor f L) x y) x y
+
+    -- a writer's turn
+    turn : (S L x y : ℕ) → So (f .reads L) → Writer f S L → Valued (f .earlier S L) (readsFirst f L) (sourceOf f L) S L x y → Drawn x y
+    unfolding Union
+    turn S L x y r w v = inr (L, reader-below r, (r, (S, writer-below w, (writer-iff f S L .1 w, v))))
 
     there : (x y : ℕ) → Drawn x y → Edge f K P 0 x y
     unfolding Union
     there x y (inl u) =
         let o = u .2 .2 in
         rw (o .1, o .2) (elim (or-iff (same-iff {a = K (u .0) (u .2 .0)}) (same-iff {a = P (u .0) (u .2 .0)}) .0 (o .0)) [ inl k ↦ (1, rule1 k) | inr k ↦ (8, rule8 k) ])
-    there x y (inr u) = valued-gives (u .2 .0) (u .0) x y (u .2 .1) (u .2 .2)
+    there x y (inr u) = let v = u .2 .1 in valued-gives (v .0) (u .0) x y (v .1) (writer-iff f (v .0) (u .0) .0 (v .2 .0)) (v .2 .1)
 
     back : (x y : ℕ) {r : ℕ} → Gives f K P (Chains f K P 0) x y r → Drawn x y
     unfolding Union
     back x y (rule1 k) = let b = inK x y k in inl (x, b .0, (y, b .1, (or-iff (same-iff {a = K x y}) (same-iff {a = P x y}) .1 (inl k), refl, refl)))
-    back x y (rule2 s n) = inr (y, reader-below (s .reads), (x, writer-below (s .writer), second (test₂ x y .1 (sym (the-source x y s), n), refl, refl)))
+    back x y (rule2 s n) = turn x y x y (s .reads) (s .writer) (second (test₂ x y .1 (sym (the-source x y s), n), refl, refl))
     back x y (rule3 L s w d o) =
         let e = the-source y L s in
-        inr (L, reader-below (s .reads), (x, writer-below w, third (test₃ x L .1 (((w, omega (arith, writer-below (s .writer))), λ q. d (q ∙ e)), o), refl, sym e)))
-    back x y (rule4 s) = inr (x, reader-below (s .reads), (y, writer-below (s .writer), fourth (first-iff f y x .1 s, refl, refl)))
-    back x y (rule5 s o) = inr (y, reader-below (s .reads), (x, writer-below (s .writer), fifth (test₅ x y .1 (s, o), refl, refl)))
+        turn x L x y (s .reads) w (third (test₃ x L .1 ((omega (arith, writer-below (s .writer)), λ q. d (q ∙ e)), o), refl, sym e))
+    back x y (rule4 s) = turn y x x y (s .reads) (s .writer) (fourth (test₄ x .1 (s .reads, s .value), refl, refl))
+    back x y (rule5 s o) = turn x y x y (s .reads) (s .writer) (fifth (test₅ x y .1 ((s .reads, s .value), o), refl, refl))
     back x y (rule6 L s w d c) = absurd c
     back x y (rule7 S s w d c) = absurd c
     back x y (rule8 k) = let b = inP x y k in inl (x, b .0, (y, b .1, (or-iff (same-iff {a = K x y}) (same-iff {a = P x y}) .1 (inr k), refl, refl)))
@@ -89,38 +98,41 @@ module _ (f : Frame) (g : Good f) (small : f .records ≤ RECORDS) where
     first-edges x y = (there x y, λ e. back x y (e .1))
 
     module _ (s w h : List ℕ) (facts : Facts f s w) (C : Rel) (has : (x y : ℕ) → So (bit h x y) ↔ C x y) where
-      -- the tests of rules 6 and 7
-      test₆ : (S L z : ℕ) → L < f .records → So (bit w z L && not (eqb z S) && bit h z L) ↔ ((Writer f z L × (z ≡ S → ⊥)) × C z L)
-      test₆ S L z l = and-iff (and-iff (facts .writers z L l) (not-iff so-eq)) (has z L)
+      -- who settles a load is another writer of its address
+      other : (S L z : ℕ) → So (f .reads L) → So (bit w z L && not (eqb z S)) ↔ (Writer f z L × (z ≡ S → ⊥))
+      other S L z r = and-iff (facts .writers z L r) (not-iff so-eq)
 
-      test₇ : (S L z : ℕ) → L < f .records → So (bit w z L && not (eqb z S) && bit h S z) ↔ ((Writer f z L × (z ≡ S → ⊥)) × C S z)
-      test₇ S L z l = and-iff (and-iff (facts .writers z L l) (not-iff so-eq)) (has S z)
-
-      settled : (S L z x y : ℕ) → Source f S L → Settled w h S L z x y → Gives f K P C x y 6 ⊎ Gives f K P C x y 7
-      settled S L z x y s (sixth o) = let p = test₆ S L z (reader-below (s .reads)) .0 (o .0) in inl (rw (o .1, o .2) (rule6 L s (p .0 .0) (p .0 .1) (p .1)))
-      settled S L z x y s (seventh o) = let p = test₇ S L z (reader-below (s .reads)) .0 (o .0) in inr (rw (o .1, o .2) (rule7 S s (p .0 .0) (p .0 .1) (p .1)))
+      settled : (S L z x y : ℕ) → Source f S L → Writer f z L → (z ≡ S → ⊥) → Settled h S L z x y → Gives f K P C x y 6 ⊎ Gives f K P C x y 7
+      settled S L z x y s w d (sixth o) = inl (rw (o .1, o .2) (rule6 L s w d (has z L .0 (o .0))))
+      settled S L z x y s w d (seventh o) = inr (rw (o .1, o .2) (rule7 S s w d (has S z .0 (o .0))))
 
       from : (x y : ℕ) → Union (f .records) (SettledFor (f .records) s w h) x y → Gives f K P C x y 6 ⊎ Gives f K P C x y 7
       unfolding Union
       from x y u =
-          let r = u .2 in
-          settled (getD s (u .0) 0) (u .0) (r .1 .0) x y (is-source (getD s (u .0) 0) (u .0) (r .0) (facts .sources (u .0) (u .1))) (r .1 .2)
+          let S = getD s (u .0) 0 in
+          let v = u .2 .1 in
+          let src = is-source S (u .0) (u .2 .0) (facts .sources (u .0) (u .1)) in
+          let o = other S (u .0) (v .0) (src .reads) .0 (v .2 .0) in
+          settled S (u .0) (v .0) x y src (o .0) (o .1) (v .2 .1)
 
       -- the source that is noted for a load
       noted : (S L : ℕ) → Source f S L → getD s L 0 ≡ S
       noted S L p = facts .sources L (reader-below (p .reads)) ∙ the-source S L p
+
+      -- another writer's turn
+      turn₆₇ : (S L z x y : ℕ) → Source f S L → Writer f z L → (z ≡ S → ⊥) → Settled h S L z x y → Union (f .records) (SettledFor (f .records) s w h) x y
+      unfolding Union
+      turn₆₇ S L z x y p q d v =
+          let n = noted S L p in
+          (L, reader-below (p .reads), (omega (arith, writer-below (p .writer)), (z, writer-below q, rw n (other S L z (p .reads) .1 (q, d), v))))
 
       out : {r : ℕ} → (r ≡ 6 → ⊥) → (r ≡ 7 → ⊥) → (r ≡ 6) ⊎ (r ≡ 7) → ⊥
       out n₆ n₇ e = elim e [ inl q ↦ n₆ q | inr q ↦ n₇ q ]
 
       into : (x y : ℕ) {r : ℕ} → Gives f K P C x y r → (r ≡ 6) ⊎ (r ≡ 7) → Union (f .records) (SettledFor (f .records) s w h) x y
       unfolding Union
-      into x y (rule6 L p q d c) e =
-          let n = noted y L p in
-          (L, reader-below (p .reads), (omega (arith, writer-below (p .writer)), (x, writer-below q, rw n (sixth (test₆ y L x (reader-below (p .reads)) .1 ((q, d), c), refl, refl)))))
-      into x y (rule7 S p q d c) e =
-          let n = noted S x p in
-          (x, reader-below (p .reads), (omega (arith, writer-below (p .writer)), (y, writer-below q, rw n (seventh (test₇ S x y (reader-below (p .reads)) .1 ((q, d), c), refl, refl)))))
+      into x y (rule6 L p q d c) e = turn₆₇ y L x x y p q d (sixth (has x L .1 c, refl, refl))
+      into x y (rule7 S p q d c) e = turn₆₇ S x y x y p q d (seventh (has S y .1 c, refl, refl))
       into x y (rule1 k) e = absurd (out (omega arith) (omega arith) e)
       into x y (rule2 s n) e = absurd (out (omega arith) (omega arith) e)
       into x y (rule3 L s w d o) e = absurd (out (omega arith) (omega arith) e)
@@ -144,10 +156,11 @@ module _ (f : Frame) (g : Good f) (small : f .records ≤ RECORDS) where
           λ d. adds .pairs x y .1 (elim (n .0 d) [ inl c ↦ inl (now x y .1 c) | inr u ↦ inr (r .1 u) ]),
         )
 
-  pub writers-noted : (w₀ w : List ℕ) → ((x y : ℕ) → So (bit w₀ x y) → ⊥) → Adds w₀ (Union (f .records) (λ L. Union (f .records) (λ S. Only (writer? f S L) S L))) w
-      → (S L : ℕ) → L < f .records → So (bit w S L) ↔ Writer f S L
+  pub writers-noted : (w₀ w : List ℕ) → ((x y : ℕ) → So (bit w₀ x y) → ⊥)
+      → Adds w₀ (Union (f .records) (λ L x y. So (f .reads L) × Union (f .records) (λ S. Only (writer? f S L) S L) x y)) w
+      → (S L : ℕ) → So (f .reads L) → So (bit w S L) ↔ Writer f S L
   unfolding Union
-  writers-noted w₀ w none adds S L h = (
-    λ b. elim (adds .pairs S L .0 b) [ inl c ↦ absurd (none S L c) | inr u ↦ let o = u .2 .2 in rw (o .1, o .2) (writer-iff f (u .2 .0) (u .0) .0 (o .0)) ],
-    λ q. adds .pairs S L .1 (inr (L, h, (S, writer-below q, (writer-iff f S L .1 q, refl, refl)))),
+  writers-noted w₀ w none adds S L r = (
+    λ b. elim (adds .pairs S L .0 b) [ inl c ↦ absurd (none S L c) | inr u ↦ let v = u .2 .1 in let o = v .2 in rw (o .1, o .2) (writer-iff f (v .0) (u .0) .0 (o .0)) ],
+    λ q. adds .pairs S L .1 (inr (L, reader-below r, (r, (S, writer-below q, (writer-iff f S L .1 q, refl, refl))))),
   )

@@ -1,6 +1,6 @@
 -- What one turn of the rounds does.
 --
---   Facts f s w                    == s has the source of each record, w the writers of its address
+--   Facts f s w                    == s has the source of each record, w the writers of each address that is read
 --   Begun f K P s w e              == the facts are noted, and e has the edges of round 0
 --   Closed e h c                   == h has the chains of e, and c tells whether one leads from a number to itself
 --   Advanced n s w h b₀ e₀ b e r   == from the chains h, nothing is added to the edges e₀ and all is left; or e has what is added, and b is h
@@ -26,7 +26,7 @@ pub record Facts (f : Frame) (s w : List ℕ) : Type 0 where
   pub sources-long : length s ≡ RECORDS
   pub writers-long : length w ≡ CELLS
   pub sources : (L : ℕ) → L < f .records → getD s L 0 ≡ sourceOf f L
-  pub writers : (S L : ℕ) → L < f .records → So (bit w S L) ↔ Writer f S L
+  pub writers : (S L : ℕ) → So (f .reads L) → So (bit w S L) ↔ Writer f S L
 
 pub record Begun (f : Frame) (K P : Table) (s w e : List ℕ) : Type 0 where
   pub facts : Facts f s w

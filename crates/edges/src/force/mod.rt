@@ -12,7 +12,7 @@ ghost use Rattle.edges.specs.Kept.{keptOf};
 ghost use Rattle.edges.specs.Supposed.{supposedOf};
 ghost use Rattle.edges.specs.Adds.{Adds, Only, Union, Cover};
 ghost use Rattle.edges.specs.SourceOf.{sourceOf};
-ghost use Rattle.edges.specs.Drawn.{paired, Valued, ValuedFor, Settled, SettledFor, Loaded};
+ghost use Rattle.edges.specs.Drawn.{paired, Valued, ValuedFor, Settled, SettledBy, SettledFor, Loaded};
 ghost use Rattle.edges.specs.Turns.{Begun, Closed, Advanced};
 ghost use Rattle.edges.specs.Ended.{Ended};
 ghost use Rattle.edges.specs.Answers.{Rounded, Forces};
@@ -77,27 +77,15 @@ fn draw_pairs(t: Trace, model: u8, supposed: &[u64], edges: &mut [u64])
     }
 }
 
-// Draws what record x gives a load by rules 2 to 5, told whether x writes the load's address, is earlier in its program order, and whether
-// the load reads the first value of the address that x writes.
-fn draw_value(
-    writer: bool,
-    earlier: bool,
-    early: bool,
-    source: usize,
-    x: usize,
-    load: usize,
-    edges: &mut [u64],
-)
+// Draws what x, a writer of a load's address, gives the load by rules 2 to 5, told whether x is earlier in its program order, and whether the
+// load reads the first value of the address.
+fn draw_value(earlier: bool, early: bool, source: usize, x: usize, load: usize, edges: &mut [u64])
     requires { ⌜ (x < RECORDS) × (load < RECORDS) × (length (now edges) ≡ CELLS) ⌝ }
-    ensures { λ r. ⌜ Adds (now (edges .entry)) (Valued writer earlier early source x load) (now (edges .exit)) ⌝ }
+    ensures { λ r. ⌜ Adds (now (edges .entry)) (Valued earlier early source x load) (now (edges .exit)) ⌝ }
 {
     put_if(edges, (x == source) & !earlier, x, load);
-    put_if(
-        edges,
-        writer & (source < RECORDS) & (x != source) & earlier,
-        x,
-        source,
-    );
+    let other = (source < RECORDS) & (x != source);
+    put_if(edges, other & earlier, x, source);
     put_if(edges, early, load, x);
     put_if(edges, early & earlier, x, load);
 }
@@ -112,21 +100,22 @@ fn draw_values_for(t: Trace, load: usize, source: usize, writers: &mut [u64], ed
     let n = t.len;
     let record = t.records[load];
     let b = record.op;
-    let begins = b.read() == first(t, b.address());
+    let addr = b.address();
+    let early = b.reads() & (b.read() == first(t, addr));
     let mut x: usize = 0;
     while x < n {
         let record = t.records[x];
         let a = record.op;
-        let writer = a.writes() & (a.address() == b.address()) & (x != load);
-        let earlier = (x < load) & (a.thread() == b.thread());
-        let early = writer & b.reads() & begins;
-        put_if(writers, writer, x, load);
-        draw_value(writer, earlier, early, source, x, load, edges);
+        if a.writes() & (a.address() == addr) & (x != load) {
+            rows::put(writers, x, load);
+            let earlier = (x < load) & (a.thread() == b.thread());
+            draw_value(earlier, early, source, x, load, edges);
+        }
         x += 1;
     }
 }
 
-// Draws rules 2 to 5, and notes each record's source and the writers of its address.
+// Draws rules 2 to 5, and notes each record's source and the writers of each address that is read.
 fn draw_values(t: Trace, sources: &mut [usize], writers: &mut [u64], edges: &mut [u64])
     requires { ⌜ (t .len ≤ RECORDS) × (length (now sources) ≡ RECORDS) × (length (now writers) ≡ CELLS) × (length (now edges) ≡ CELLS) ⌝ }
     ensures { λ r. ⌜ Loaded (frameOf t) (t .len) (t .len) (now (sources .exit)) (now (writers .entry)) (now (writers .exit)) (now (edges .entry)) (now (edges .exit)) ⌝ }
@@ -136,9 +125,22 @@ fn draw_values(t: Trace, sources: &mut [usize], writers: &mut [u64], edges: &mut
     while load < n {
         let source = source_of(t, load);
         sources[load] = source;
-        draw_values_for(t, load, source, writers, edges);
+        let record = t.records[load];
+        let b = record.op;
+        if b.reads() {
+            draw_values_for(t, load, source, writers, edges);
+        }
         load += 1;
     }
+}
+
+// Draws what x, a writer of a load's address other than the load's source, gives by rules 6 and 7.
+fn draw_settled_by(chains: &[u64], source: usize, load: usize, x: usize, edges: &mut [u64])
+    requires { ⌜ (x < RECORDS) × (source < RECORDS) × (load < RECORDS) × (length (now edges) ≡ CELLS) ⌝ }
+    ensures { λ r. ⌜ Adds (now (edges .entry)) (Settled (now (chains .entry)) source load x) (now (edges .exit)) ⌝ }
+{
+    put_if(edges, rows::test(chains, x, load), x, source);
+    put_if(edges, rows::test(chains, source, x), load, x);
 }
 
 // Draws what the chains give one load with a source, by rules 6 and 7.
@@ -151,13 +153,13 @@ fn draw_settled_for(
     edges: &mut [u64],
 )
     requires { ⌜ (n ≤ RECORDS) × (source < RECORDS) × (load < RECORDS) × (length (now edges) ≡ CELLS) ⌝ }
-    ensures { λ r. ⌜ Adds (now (edges .entry)) (Union n (Settled (now (writers .entry)) (now (chains .entry)) source load)) (now (edges .exit)) ⌝ }
+    ensures { λ r. ⌜ Adds (now (edges .entry)) (Union n (SettledBy (now (writers .entry)) (now (chains .entry)) source load)) (now (edges .exit)) ⌝ }
 {
     let mut x: usize = 0;
     while x < n {
-        let other = rows::test(writers, x, load) & (x != source);
-        put_if(edges, other & rows::test(chains, x, load), x, source);
-        put_if(edges, other & rows::test(chains, source, x), load, x);
+        if rows::test(writers, x, load) & (x != source) {
+            draw_settled_by(chains, source, load, x, edges);
+        }
         x += 1;
     }
 }

@@ -24,16 +24,16 @@ const KEPT: [[[bool; 4]; 4]; 3] = [
         [false, false, false, false],
     ],
     [
-        [true, true, true, false],
-        [true, true, true, false],
-        [true, true, true, false],
-        [false, false, false, false],
+        [true, true, true, false], // SC, a load first
+        [true, true, true, false], // SC, a store first
+        [true, true, true, false], // SC, a swap first
+        [false, false, false, false], // SC, a fence
     ],
     [
-        [true, true, true, false],
-        [false, true, true, false],
-        [true, true, true, false],
-        [false, false, false, false],
+        [true, true, true, false], // TSO, a load first
+        [false, true, true, false], // TSO, a store first
+        [true, true, true, false], // TSO, a swap first
+        [false, false, false, false], // TSO, a fence
     ],
 ];
 
@@ -140,6 +140,9 @@ pub fn source_of(t: Trace, load: usize) -> usize
 {
     let n = t.len;
     let b = op_at(t, load);
+    if !b.reads() {
+        return RECORDS;
+    }
     let begins = first(t, b.address());
     let mut i: usize = 0;
     while i < RECORDS {

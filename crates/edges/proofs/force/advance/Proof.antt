@@ -1,12 +1,23 @@
 -- `edges::force::advance`: the next round is drawn aside, and taken over where it differs.
 use mathlib.Core.Path.{refl, _∙_, sym}
 use mathlib.Core.Bool.{false≢true}
+use mathlib.Core.List.{List}
+use Prim.Native.Nat.{ℕ}
+use Rattle.rows.specs.Bounds.{CELLS}
+use Rattle.rows.specs.Empty.{emptyOf}
 use Rattle.rows.proofs.Whole.{copy-same}
+use Rattle.laws.specs.Relation.{Rel}
+use Rattle.edges.specs.Adds.{Union}
+use Rattle.edges.specs.Drawn.{SettledFor}
 use Rattle.edges.specs.Turns.{Advanced, stays, grows}
 use Rattle.edges.proofs.Ended.{stayed-at, grown-at}
 use borrow.Author.Needs.{needs}
 use Rattle.edges.proofs.force.advance.Statement.{statement}
 use Rattle.edges.proofs.force.advance.Tie as tie
+
+-- what rules 6 and 7 give from the chains h
+abbrev drawn : ℕ → List ℕ → List ℕ → List ℕ → Rel
+drawn n s w h = Union n (SettledFor n s w h)
 
 slice-aggregate-copy : tie.Need-slice-aggregate-copy
 slice-aggregate-copy c = search needs
@@ -35,7 +46,7 @@ returns c =
     let d = q .before .before .before .before in
     let p = d .before .before .before in
     let s = p .before .before .before .before .before .before .before .before in
-    stays refl refl (stayed-at (s .args .edges .now) _ _ _ _ (s .pre .4) refl (p .copy .ensures) (d .draw-settled .ensures) (q .equal .ensures .0 (c .if1 .taken)))
+    stays refl refl (stayed-at (s .args .edges .now) (emptyOf CELLS) (p .copy .last .1 .0) (d .draw-settled .last .1 .1 .1 .1 .0) (drawn (s .args .n) (s .args .sources .now) (s .args .writers .now) (s .args .chains .now)) (s .pre .4) refl (p .copy .ensures) (d .draw-settled .ensures) (q .equal .ensures .0 (c .if1 .taken)))
 
 copy-requires-2 : tie.Need-copy-requires-2
 copy-requires-2 c κs = search needs
@@ -60,7 +71,7 @@ returns-2 c =
     let d = q .before .before .before .before in
     let p = d .before .before .before in
     let s = p .before .before .before .before .before .before .before .before in
-    let g = grown-at (s .args .edges .now) _ _ _ _ (s .pre .4) refl (p .copy .ensures) (d .draw-settled .ensures) _ (k .copy3 .ensures) (λ e. false≢true (sym (b .before .before .if1 .left) ∙ q .equal .ensures .1 e)) in
+    let g = grown-at (s .args .edges .now) (emptyOf CELLS) (p .copy .last .1 .0) (d .draw-settled .last .1 .1 .1 .1 .0) (drawn (s .args .n) (s .args .sources .now) (s .args .writers .now) (s .args .chains .now)) (s .pre .4) refl (p .copy .ensures) (d .draw-settled .ensures) _ (k .copy3 .ensures) (λ e. false≢true (sym (b .before .before .if1 .left) ∙ q .equal .ensures .1 e)) in
     grows (b .copy2 .ensures ∙ copy-same (s .args .chains .now) (s .args .before .now) (s .pre .2 ∙ sym (s .pre .3))) (g .0) (g .1)
 
 pub advance-spec : {M : Type 1} → statement M

@@ -5,7 +5,7 @@ use Prim.Native.Nat.{_≤_, _-_}
 use native.Mathlib.Omega.{arith}
 use lib.ListN.{getD}
 use Rattle.edges.specs.Adds.{Adds, Union}
-use Rattle.edges.specs.Drawn.{Settled, SettledFor}
+use Rattle.edges.specs.Drawn.{SettledBy, SettledFor}
 use Rattle.edges.proofs.Adds.{adds-as, union-none, union-more, union-skip}
 use borrow.Author.Needs.{needs}
 use Rattle.edges.proofs.force.draw_settled.Statement.{statement}
@@ -44,7 +44,7 @@ loop-again c =
       omega arith,
       ⊎-elim
           (λ w.
-          let done : Adds (l .loop .edges) (Union (a .n) (Settled (a .writers .now) (a .chains .now) (getD (a .sources .now) (l .loop .load) 0) (l .loop .load))) (c .if1 .edges)
+          let done : Adds (l .loop .edges) (Union (a .n) (SettledBy (a .writers .now) (a .chains .now) (getD (a .sources .now) (l .loop .load) 0) (l .loop .load))) (c .if1 .edges)
           = rw (w .5) (w .2 .ensures) in
           union-more _ (l .loop .load) (l .loop .inv .1) (adds-as _ done (λ x y. (λ u. (w .0 .taken, u), λ u. u .1))))
           (λ w.

@@ -1,17 +1,19 @@
 -- `edges::force::draw_settled_for`: what the records below x give is drawn.
-use mathlib.Core.Path.{_≡_, _∙_}
+use mathlib.Core.Path.{_≡_, sym, ap, _∙_}
+use mathlib.Core.Logic.{⊎-elim}
+use mathlib.Core.Bool.{Bool, not, _&&_, false≢true}
 use Prim.Native.Nat.{_≤_, _-_}
 use native.Mathlib.Omega.{arith}
+use lib.Dec.{eqb}
 use Rattle.edges.specs.Adds.{Adds, Union}
-use Rattle.edges.specs.Drawn.{Settled}
-use Rattle.edges.proofs.Adds.{union-none, union-more}
-use Rattle.edges.proofs.Drawn.{settled-at}
+use Rattle.edges.specs.Drawn.{Settled, SettledBy}
+use Rattle.edges.proofs.Adds.{adds-as, union-none, union-more, union-skip}
 use borrow.Author.Needs.{needs}
 use Rattle.edges.proofs.force.draw_settled_for.Statement.{statement}
 use Rattle.edges.proofs.force.draw_settled_for.Tie as tie
 
 abbrev Inv-loop : tie.InvT-loop
-Inv-loop n writers chains source load edges₀ x₀ edges x = (x ≤ n) × Adds edges₀ (Union x (Settled writers chains source load)) edges
+Inv-loop n writers chains source load edges₀ x₀ edges x = (x ≤ n) × Adds edges₀ (Union x (SettledBy writers chains source load)) edges
 
 abbrev μ-loop : tie.MeasureT-loop
 μ-loop n writers chains source load edges₀ x₀ edges x = n - x
@@ -22,22 +24,10 @@ loop-holds c = (omega arith, union-none _ (c .before .before .before .args .edge
 test-requires : tie.Need-test-requires Inv-loop μ-loop
 test-requires c κs = search needs
 
-test-requires-2 : tie.Need-test-requires-2 Inv-loop μ-loop
-test-requires-2 c κs = search needs
-
-put-if-requires : tie.Need-put-if-requires Inv-loop μ-loop
-put-if-requires c κs =
+draw-settled-by-requires : tie.Need-draw-settled-by-requires Inv-loop μ-loop
+draw-settled-by-requires c κs =
     let l = c .before .before .before .before in
-    (l .loop .inv .1 .long ∙ l .before .before .before .before .pre .3, λ _. (omega arith, omega arith))
-
-test-requires-3 : tie.Need-test-requires-3 Inv-loop μ-loop
-test-requires-3 c κs = search needs
-
-put-if-requires-2 : tie.Need-put-if-requires-2 Inv-loop μ-loop
-put-if-requires-2 c κs =
-    let p = c .before .before .before .before in
-    let l = p .before .before .before .before .before in
-    (p .put-if .ensures .long ∙ l .loop .inv .1 .long ∙ l .before .before .before .before .pre .3, λ _. (omega arith, omega arith))
+    (search needs, search needs, search needs, l .loop .inv .1 .long ∙ l .before .before .before .before .pre .3)
 
 add-x : tie.Need-add-x Inv-loop μ-loop
 add-x c = search needs
@@ -47,14 +37,18 @@ loop-less c = search needs
 
 loop-again : tie.Need-loop-again Inv-loop μ-loop
 loop-again c =
-    let p₂ = c .before .before in
-    let p = p₂ .before .before .before .before .before in
-    let t = p .before .before .before in
-    let l = t .before .before in
-    let a = l .before .before .before .before .args in (
+    let l = c .before .before .before in
+    let a = l .before .before .before .before .args in
+    let other = ap (λ (b : Bool). b && not (eqb (l .loop .x) (a .source))) (c .before .test .ensures) in (
       omega arith,
-      union-more _ (l .loop .x) (l .loop .inv .1)
-          (settled-at (a .writers .now) (a .chains .now) (a .source) (a .load) (l .loop .x) _ _ _ (t .test .ensures) (p .before .test2 .ensures) (p₂ .before .test3 .ensures) (p .put-if .ensures) (p₂ .put-if2 .ensures)),
+      ⊎-elim
+          (λ w.
+          let done : Adds (l .loop .edges) (Settled (a .chains .now) (a .source) (a .load) (l .loop .x)) (c .if1 .edges) = rw (w .5) (w .2 .ensures) in
+          union-more _ (l .loop .x) (l .loop .inv .1) (adds-as _ done (λ i j. (λ v. (sym other ∙ w .0 .taken, v), λ v. v .1))))
+          (λ w.
+          let e : c .if1 .edges ≡ l .loop .edges = w .1 in
+          rw e (union-skip _ (l .loop .x) (l .loop .inv .1) (λ i j v. false≢true (sym (w .0 .left) ∙ other ∙ v .0))))
+          (c .if1 .came),
     )
 
 same-length : tie.Need-same-length Inv-loop μ-loop
@@ -74,10 +68,7 @@ draw-settled-for-spec =
     μ-loop
     loop-holds
     test-requires
-    test-requires-2
-    put-if-requires
-    test-requires-3
-    put-if-requires-2
+    draw-settled-by-requires
     add-x
     loop-less
     loop-again

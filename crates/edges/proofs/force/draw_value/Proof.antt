@@ -14,7 +14,7 @@ put-if-requires-2 : tie.Need-put-if-requires-2
 put-if-requires-2 c κs =
     let p = c .before .before .before in
     let s = p .before .before .before in
-    (p .put-if .ensures .long ∙ s .pre .2, λ t. (s .pre .0, third-small (s .args .writer) (not (eqb (s .args .x) (s .args .source))) (s .args .earlier) (s .args .source) t))
+    (p .put-if .ensures .long ∙ s .pre .2, λ t. (s .pre .0, third-small (not (eqb (s .args .x) (s .args .source))) (s .args .earlier) (s .args .source) t))
 
 put-if-requires-3 : tie.Need-put-if-requires-3
 put-if-requires-3 c κs = search needs
@@ -32,7 +32,7 @@ returns c =
     let p₂ = p₃ .before .before .before .before in
     let p₁ = p₂ .before .before .before .before in
     let a = p₁ .before .before .before .args in
-    valued-at (a .writer) (a .earlier) (a .early) (a .source) (a .x) (a .load) (p₁ .put-if .ensures) (p₂ .put-if2 .ensures) (p₃ .put-if3 .ensures) (p₄ .put-if4 .ensures)
+    valued-at (a .earlier) (a .early) (a .source) (a .x) (a .load) (p₁ .put-if .ensures) (p₂ .put-if2 .ensures) (p₃ .put-if3 .ensures) (p₄ .put-if4 .ensures)
 
 pub draw-value-spec : {M : Type 1} → statement M
 draw-value-spec =

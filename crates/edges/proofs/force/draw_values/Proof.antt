@@ -1,24 +1,28 @@
--- `edges::force::draw_values`: the loads below `load` had their turn.
+-- `edges::force::draw_values`: the records below `load` had their turn.
 use mathlib.Core.Path.{_≡_, sym, _∙_}
-use Prim.Native.Nat.{_≤_, _-_}
+use mathlib.Core.Logic.{⊎-elim}
+use Prim.Native.Nat.{_<_, _≤_, _-_}
 use native.Mathlib.Omega.{arith}
+use Rattle.trace.specs.Bounds.{RECORDS}
 use Rattle.trace.specs.Meaning.{frameOf}
-use Rattle.edges.specs.Drawn.{Loaded}
-use Rattle.edges.proofs.Drawn.{loaded-none, loaded-more}
+use Rattle.edges.specs.Tests.{writer?}
+use Rattle.edges.specs.Adds.{Adds, Only, Union}
+use Rattle.edges.specs.Drawn.{ValuedFor, Loaded}
+use Rattle.edges.proofs.Drawn.{reads-at, loaded-none, loaded-more, loaded-skip}
 use borrow.Author.Needs.{needs}
 use Rattle.edges.proofs.force.draw_values.Statement.{statement}
 use Rattle.edges.proofs.force.draw_values.Tie as tie
 
 abbrev Inv-loop : tie.InvT-loop
-Inv-loop t sources₀ writers₀ edges₀ n load₀ sources writers edges load = (load ≤ n) × Loaded (frameOf t) n load sources writers₀ writers edges₀ edges
+Inv-loop sources₀ writers₀ edges₀ t n load₀ sources writers edges load = (load ≤ n) × Loaded (frameOf t) n load sources writers₀ writers edges₀ edges
 
 abbrev μ-loop : tie.MeasureT-loop
-μ-loop t sources₀ writers₀ edges₀ n load₀ sources writers edges load = n - load
+μ-loop sources₀ writers₀ edges₀ t n load₀ sources writers edges load = n - load
 
 loop-holds : tie.Need-loop-holds Inv-loop μ-loop
 loop-holds c =
     let s = c .before .before .before in
-    (omega arith, loaded-none (frameOf (s .args .t)) (s .args .t .len) (s .args .sources .now) (s .args .writers .now) (s .args .edges .now) (s .pre .1))
+    (omega arith, loaded-none (frameOf (s .args .t1)) (s .args .t1 .len) (s .args .sources .now) (s .args .writers .now) (s .args .edges .now) (s .pre .1))
 
 source-of-requires : tie.Need-source-of-requires Inv-loop μ-loop
 source-of-requires c κs = search needs
@@ -31,9 +35,18 @@ slice-write-sources c =
     let l = c .before .before in
     omega (arith, l .loop .inv .1 .long)
 
+mul-record : tie.Need-mul-record Inv-loop μ-loop
+mul-record c = search needs
+
+element-copy-out-record : tie.Need-element-copy-out-record Inv-loop μ-loop
+element-copy-out-record c = search needs
+
+reads-requires : tie.Need-reads-requires Inv-loop μ-loop
+reads-requires c κs = search needs
+
 draw-values-for-requires : tie.Need-draw-values-for-requires Inv-loop μ-loop
 draw-values-for-requires c κs =
-    let s = c .before .before in
+    let s = c .before .before .before .before .before in
     let l = s .before .before in
     let p = l .before .before .before .before .pre in
     ((search needs, search needs, s .source-of .ensures), (l .loop .inv .1 .writers .long ∙ p .2, l .loop .inv .1 .edges .long ∙ p .3))
@@ -46,14 +59,30 @@ loop-less c = search needs
 
 loop-again : tie.Need-loop-again Inv-loop μ-loop
 loop-again c =
-    let d = c .before .before .before .before in
-    let s = d .before .before .before in
+    let s = c .before .before .before in
     let l = s .before .before in
-    let a = l .before .before .before .before .args in (
+    let a = l .before .before .before .before .args in
+    let f = frameOf (a .t1) in
+    let load = l .loop .load in
+    let small : load < RECORDS = search needs in
+    let reads = reads-at (a .t1) load load (search needs) _ (c .before .reads .ensures) in
+    ⊎-elim
+    (λ w.
+    let writers : Adds (l .loop .writers) (Union (a .t1 .len) (λ x. Only (writer? f x load) x load)) (c .if1 .writers) = rw (w .8) (w .3 .ensures .0) in
+    let edges : Adds (l .loop .edges) (Union (a .t1 .len) (ValuedFor f load)) (c .if1 .edges) = rw (w .9) (w .3 .ensures .1) in (
       omega arith,
-      loaded-more (frameOf (a .t)) (a .t .len) (l .loop .load) (l .loop .sources) (a .writers .now) (l .loop .writers) (a .edges .now) (l .loop .edges) _ _ (s .source-of .result)
-          (omega arith) (s .source-of .ensures) (l .loop .inv .1) (d .draw-values-for .ensures .0) (d .draw-values-for .ensures .1),
-    )
+      loaded-more f (a .t1 .len) load (l .loop .sources) (a .writers .now) (l .loop .writers) (a .edges .now) (l .loop .edges) (s .source-of .result) small (s .source-of .ensures)
+          (l .loop .inv .1) (c .if1 .writers) (c .if1 .edges) (sym reads ∙ w .0 .taken) writers edges,
+    ))
+    (λ w.
+    let e₁ : c .if1 .writers ≡ l .loop .writers = w .1 in
+    let e₂ : c .if1 .edges ≡ l .loop .edges = w .2 in (
+      omega arith,
+      rw (e₁, e₂)
+          (loaded-skip f (a .t1 .len) load (l .loop .sources) (a .writers .now) (l .loop .writers) (a .edges .now) (l .loop .edges) (s .source-of .result) small (s .source-of .ensures)
+          (l .loop .inv .1) (sym reads ∙ w .0 .left)),
+    ))
+    (c .if1 .came)
 
 same-length : tie.Need-same-length Inv-loop μ-loop
 same-length c =
@@ -69,7 +98,7 @@ same-length-3 c = c .before .loop .inv .1 .edges .long
 returns : tie.Need-returns Inv-loop μ-loop
 returns c =
     let l = c .before in
-    let n : l .loop .load ≡ l .before .before .before .before .args .t .len = omega arith in
+    let n : l .loop .load ≡ l .before .before .before .before .args .t1 .len = omega arith in
     rw n at (l .loop .inv .1)
 
 pub draw-values-spec : {M : Type 1} → statement M
@@ -82,6 +111,9 @@ draw-values-spec =
     source-of-requires
     mul-sources
     slice-write-sources
+    mul-record
+    element-copy-out-record
+    reads-requires
     draw-values-for-requires
     add-load
     loop-less
