@@ -1,4 +1,5 @@
--- What the rules force, over any table of kept pairs.
+-- What the rules force, over any table of kept pairs; and the kept pairs of the models.
+pub mod Kept
 pub mod Rules
 pub mod Tests
 pub mod Closing

@@ -1,1 +1,2 @@
-// The edges that the rules force, the chains they make and the circle that is shown. No function stands here yet: definitions are in specs/, laws in proofs/.
+// The edges that the rules force, the chains they make and the circle that is shown.
+pub mod pairs;
