@@ -1,0 +1,3 @@
+-- Laws of the verdict, for the proofs of functions here and above.
+pub mod Says
+pub mod Valid

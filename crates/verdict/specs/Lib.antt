@@ -1,0 +1,3 @@
+-- What a verdict is, over any table of kept pairs.
+pub mod Verdict
+pub mod Valid
