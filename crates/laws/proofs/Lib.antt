@@ -12,3 +12,6 @@ pub mod Lowest
 pub mod Sorted
 pub mod Bits
 pub mod Latest
+pub mod Search
+pub mod Steps
+pub mod Prefixes

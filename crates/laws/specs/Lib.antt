@@ -11,3 +11,5 @@ pub mod Lowest
 pub mod Sorted
 pub mod Bits
 pub mod Latest
+pub mod Search
+pub mod Steps

@@ -1,3 +1,5 @@
 -- Laws of the verdict, for the proofs of functions here and above.
 pub mod Says
 pub mod Valid
+pub mod Ready
+pub mod Stop

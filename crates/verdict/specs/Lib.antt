@@ -1,3 +1,5 @@
 -- What a verdict is, over any table of kept pairs.
 pub mod Verdict
 pub mod Valid
+pub mod Ready
+pub mod Stop
