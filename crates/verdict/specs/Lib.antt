@@ -3,3 +3,5 @@ pub mod Verdict
 pub mod Valid
 pub mod Ready
 pub mod Stop
+pub mod Seek
+pub mod Sought
