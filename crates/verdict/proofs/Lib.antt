@@ -5,3 +5,4 @@ pub mod Ready
 pub mod Stop
 pub mod Seek
 pub mod Sought
+pub mod Starred
