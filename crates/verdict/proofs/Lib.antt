@@ -6,3 +6,4 @@ pub mod Stop
 pub mod Seek
 pub mod Sought
 pub mod Starred
+pub mod Weaker

@@ -1,4 +1,4 @@
--- The starred traces of document 01.
+-- The starred traces of document 01, and KNOT: its forced edges have no circle, and yet no order is left.
 --
 --   starred == every case of the table holds
 use mathlib.Core.Path.{_≡_, refl, sym, ap, subst}

@@ -1,8 +1,8 @@
--- The traces of document 01 that carry a star, each with its verdicts. proofs/Starred.antt has the one statement about all of them.
+-- The traces of document 01 that carry a star, and KNOT, each with its verdicts. proofs/Starred.antt has the one statement about all of them.
 --
 --   traceOf os == the trace of the records os, its unused places idle
 --   Case       == a trace and its verdicts under SC and TSO
---   cases      == the starred traces, in document 01's order
+--   cases      == those traces, in document 01's order
 --   Holds c    == the trace of the case is well formed, and its verdicts are those that the case has
 use mathlib.Core.Bool.{So}
 use mathlib.Core.List.{List, [], _∷_, _++_}
@@ -17,7 +17,7 @@ use Rattle.trace.specs.declared.Op.the-variants.{Load, Store, Swap, Fence}
 use Rattle.trace.specs.declared.Record.{Record}
 use Rattle.trace.specs.declared.Trace.{Trace}
 use Rattle.edges.specs.Kept.{SC, TSO, keptOf}
-use Rattle.verdict.specs.Verdict.{Verdict, noSource, circle, order, Says}
+use Rattle.verdict.specs.Verdict.{Verdict, noSource, circle, order, noneLeft, Says}
 
 unfoldable pub places : List Op → List Record
 places [] = []
@@ -66,6 +66,13 @@ cases =
       tso = circle (2 ∷ 3 ∷ []) (7 ∷ 7 ∷ []);
     }
     ∷ record { ops = Swap 0 0 5 5 ∷ []; sc = noSource 0; tso = noSource 0 }
+    ∷ record {
+      ops = Store 0 1 11 ∷ Load 0 5 1 ∷ Store 0 0 2 ∷ Store 0 8 1 ∷ Fence 0 ∷ Load 0 2 21
+          ∷ Store 1 2 21 ∷ Load 1 7 1 ∷ Store 1 0 1 ∷ Store 1 6 1 ∷ Fence 1 ∷ Load 1 1 11
+          ∷ Store 2 1 12 ∷ Store 2 5 1 ∷ Load 3 6 1 ∷ Load 3 1 12 ∷ Store 4 2 22 ∷ Store 4 7 1 ∷ Load 5 8 1 ∷ Load 5 2 22 ∷ [];
+      sc = noneLeft;
+      tso = noneLeft;
+    }
     ∷ []
 
 pub record Holds (c : Case) : Type 0 where
