@@ -1,11 +1,13 @@
 -- The last number that passes a test.
 --
---   latest-of == `lastOf` finds it
-use mathlib.Core.Path.{_≡_, refl, sym, _∙_}
+--   latest-of                              == `lastOf` finds it
+--   last-none, last-on, last-off, last-all == as a loop finds it: nothing looked at; one more number, that passes or does not; everything looked at
+use mathlib.Core.Path.{_≡_, refl, sym, ap, _∙_}
 use mathlib.Core.Logic.{inl, inr}
 use mathlib.Core.Bool.{Bool, true, false, cond, So, false≢true}
-use Prim.Native.Nat.{ℕ, zero, suc, _<_}
+use Prim.Native.Nat.{ℕ, zero, suc, _+_, _<_, _≤_}
 use native.Mathlib.Nat.{not-suc-le-zero}
+use native.Mathlib.Numerals.{add-one}
 use native.Mathlib.Omega.{arith}
 use Rattle.laws.specs.Latest.{lastOf, Latest, nobody-yet, at}
 use Rattle.laws.proofs.Tests.{last?}
@@ -24,3 +26,18 @@ module _ (t : ℕ → Bool) (w : ℕ → ℕ) (d : ℕ) where
       go true e s = at k (omega arith) refl e (λ i h c. omega arith)
       go false e (nobody-yet q h) = nobody-yet q (λ i b c. h i (passed e i b c) c)
       go false e (at j b q c h) = at j (omega arith) q c (λ i b′ c′. h i (passed e i b′ c′) c′)
+
+  pub last-none : {v : ℕ} → v ≡ d → v ≡ lastOf t w d 0
+  unfolding lastOf
+  last-none e = e
+
+  pub last-on : {v : ℕ} (i : ℕ) → So (t i) → v ≡ w i → v ≡ lastOf t w d (i + 1)
+  unfolding lastOf
+  last-on i p e = e ∙ sym (rw (add-one, lastOf) (ap (λ b. cond b (w i) (lastOf t w d i)) p))
+
+  pub last-off : {v : ℕ} (i : ℕ) → t i ≡ false → v ≡ lastOf t w d i → v ≡ lastOf t w d (i + 1)
+  unfolding lastOf
+  last-off i p e = e ∙ sym (rw (add-one, lastOf) (ap (λ b. cond b (w i) (lastOf t w d i)) p))
+
+  pub last-all : {v : ℕ} (i n : ℕ) → i ≤ n → n ≤ i → v ≡ lastOf t w d i → v ≡ lastOf t w d n
+  last-all i n a b e = let q : i ≡ n = omega arith in e ∙ ap (λ (k : ℕ). lastOf t w d k) q

@@ -15,3 +15,4 @@ pub mod Latest
 pub mod Search
 pub mod Steps
 pub mod Prefixes
+pub mod Congruence

@@ -7,3 +7,6 @@ pub mod Seek
 pub mod Sought
 pub mod Starred
 pub mod Weaker
+pub mod Sited
+pub mod Records
+pub mod Accepted

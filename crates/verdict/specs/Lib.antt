@@ -6,3 +6,5 @@ pub mod Stop
 pub mod Seek
 pub mod Sought
 pub mod Starred
+pub mod Sited
+pub mod Accepted
