@@ -27,7 +27,7 @@ use Rattle.trace.specs.declared.Op.the-variants.{Load, Store, Swap, Fence}
 use Rattle.trace.specs.declared.Trace.{Trace}
 use Rattle.trace.proofs.Meaning.{operation-iff}
 use Rattle.edges.specs.Rules.{Joins}
-use Rattle.edges.specs.Kept.{SC, TSO, MODELS, LOAD, STORE, FENCE, modelled, kindOf, keptBy, fenced, keptOf}
+use Rattle.edges.specs.Kept.{SC, TSO, MODELS, LOAD, STORE, FENCE, modelled, kindOf, keptBy, keptPair, fenced, keptOf}
 
 pub kept-by-iff : (m a b : ℕ) → So (keptBy m a b) ↔ (((a < FENCE) × (b < FENCE)) × ((m ≡ SC) ⊎ ((m ≡ TSO) × ((a ≡ STORE) × (b ≡ LOAD) → ⊥))))
 unfolding keptBy
@@ -83,12 +83,8 @@ module _ (t : Trace) (x y : ℕ) where
   kinds : So (frameOf t .operation x) → So (frameOf t .operation y) → (kindOf (at t x) < FENCE) × (kindOf (at t y) < FENCE)
   kinds p q = (fence-kind (at t x) .0 (operation-iff t x .0 p .1), fence-kind (at t y) .0 (operation-iff t y .0 q .1))
 
-  pub kept-parts : (m : ℕ)
-      → keptOf m t x y
-      ≡ (ltb x y
-      && ltb y (t .len)
-      && eqb (thread (at t x)) (thread (at t y))
-      && (keptBy m (kindOf (at t x)) (kindOf (at t y)) || (modelled m && not (fence (at t x)) && not (fence (at t y)) && fenced t x y)))
+  pub kept-parts : (m : ℕ) → keptOf m t x y ≡ keptPair m (at t x) (at t y) (ltb x y && ltb y (t .len)) (fenced t x y)
+  unfolding keptPair
   kept-parts m =
       let near = and-iff (and-iff (so-lt {m = x} {n = y}) (so-lt {m = y} {n = t .len})) (so-eq {m = thread (at t x)} {n = thread (at t y)}) in
       let across = and-iff (and-iff (and-iff (modelled-iff m) (same-iff {a = not (fence (at t x))})) (same-iff {a = not (fence (at t y))})) (same-iff {a = fenced t x y}) in

@@ -1,5 +1,6 @@
 -- A template against a line, one byte of the template after another.
 --
+--   begins-at, begins-past             == what a text begins with from a place on
 --   step-number                        == a hole takes the number at its place
 --   step-there, step-other, step-past  == a byte that stands for itself: it is there, another one is, the line is over
 --   step-missing, step-hole, step-byte == what one step says of all that is left
@@ -23,6 +24,15 @@ use Rattle.reader.specs.Template.{HOLE, NUMBERS, Hit, hit, miss, also, b
 use Rattle.reader.specs.declared.Fit.{Fit}
 use Rattle.reader.specs.declared.Number.{Number}
 use Rattle.reader.specs.declared.Number.the-variants.{At, Missing}
+
+-- what a text begins with from a place on
+pub begins-at : (t : ℕ) (s : List ℕ) (i : ℕ) → i < length s → begins t (drop i s) ≡ eqb (getD s i 0) t
+unfolding begins
+begins-at t s i h = rw (drop-cons s i 0 h)
+
+pub begins-past : (t : ℕ) (s : List ℕ) (i : ℕ) → length s ≤ i → begins t (drop i s) ≡ false
+unfolding begins
+begins-past t s i h = rw (drop-of-length-le s h)
 
 -- the two answers of a step differ
 apart {ℓ} : {A : Type ℓ} {v e : ℕ} → Missing ≡ At v e → A
@@ -50,16 +60,13 @@ module _ (t : ℕ) (line : List ℕ) (at : ℕ) where
   step-number h = rw (eq-eqb t HOLE h)
 
   pub step-there : (t ≡ HOLE → ⊥) → at < length line → getD line at 0 ≡ t → At 0 (at + 1) ≡ stepAt t line at
-  unfolding begins
-  step-there h b e = rw (byte-step h, drop-cons line at 0 b) (rw (eq-eqb (getD line at 0) t e))
+  step-there h b e = rw (byte-step h, begins-at t line at b, eq-eqb (getD line at 0) t e)
 
   pub step-other : (t ≡ HOLE → ⊥) → at < length line → (getD line at 0 ≡ t → ⊥) → Missing ≡ stepAt t line at
-  unfolding begins
-  step-other h b e = rw (byte-step h, drop-cons line at 0 b) (rw (ne-eqb (getD line at 0) t e))
+  step-other h b e = rw (byte-step h, begins-at t line at b, ne-eqb (getD line at 0) t e)
 
   pub step-past : (t ≡ HOLE → ⊥) → length line ≤ at → Missing ≡ stepAt t line at
-  unfolding begins
-  step-past h b = rw (byte-step h, drop-of-length-le line b)
+  step-past h b = rw (byte-step h, begins-past t line at b)
 
 module _ (t : ℕ) (ts line : List ℕ) (at : ℕ) where
   hole-found : t ≡ HOLE → found (t ∷ ts) (drop at line) ≡ cond (isNumber (digits (drop at line))) (also (value 0 (digits (drop at line))) (found ts (drop (length (digits (drop at line))) (drop at line)))) miss

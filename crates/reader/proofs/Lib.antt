@@ -11,3 +11,4 @@ pub mod Template
 pub mod Rendering
 pub mod Cases
 pub mod RoundTrip
+pub mod One

@@ -7,9 +7,10 @@
 --   run-on, run-stop, run-none        == one byte more of a run; its end
 --   no-number, a-number               == when a run of digits is a number
 --   number-missing, number-there      == the two answers of `numberAt`
+--   number-known, number-unknown      == what each of them says of the run
 use mathlib.Core.Path.{_≡_, refl, sym, ap, ap₂, _∙_}
 use mathlib.Core.Logic.{_⊎_, inl, inr, ⊎-elim}
-use mathlib.Core.Bool.{Bool, true, false}
+use mathlib.Core.Bool.{Bool, true, false, cond}
 use mathlib.Core.List.{List, [], _∷_}
 use Prim.Native.Nat.{ℕ, zero, suc, _+_, _*_, _-_, _<_, _≤_, min}
 use native.Mathlib.Numerals.{add-one}
@@ -109,3 +110,21 @@ module _ (s : List ℕ) (at : ℕ) where
       → At (r .value) (r .end) ≡ numberAt s at
   unfolding numberAt
   number-there r e h w = rw (a-number (digits (drop at s)) h w) (ap₂ At (ap (λ (r : Run). r .value) e) (ap (λ (r : Run). r .end) e))
+
+  -- and what each answer says of the run
+  pub number-known : {v e : ℕ} → At v e ≡ numberAt s at → (isNumber (digits (drop at s)) ≡ true) × (v ≡ cut (value 0 (digits (drop at s)))) × (e ≡ at + length (digits (drop at s)))
+  unfolding numberAt
+  number-known {v} {e} q = go (isNumber (digits (drop at s))) refl q
+    where
+      go : (b : Bool) → isNumber (digits (drop at s)) ≡ b → At v e ≡ cond b (At (cut (value 0 (digits (drop at s)))) (at + length (digits (drop at s)))) Missing
+          → (isNumber (digits (drop at s)) ≡ true) × (v ≡ cut (value 0 (digits (drop at s)))) × (e ≡ at + length (digits (drop at s)))
+      go true h q = (h, cc, cc)
+      go false h q = let z : _≡_ {A = ℕ} 0 1 = cc in absurd (omega arith)
+
+  pub number-unknown : Missing ≡ numberAt s at → isNumber (digits (drop at s)) ≡ false
+  unfolding numberAt
+  number-unknown q = go (isNumber (digits (drop at s))) refl q
+    where
+      go : (b : Bool) → isNumber (digits (drop at s)) ≡ b → Missing ≡ cond b (At (cut (value 0 (digits (drop at s)))) (at + length (digits (drop at s)))) Missing → isNumber (digits (drop at s)) ≡ false
+      go true h q = let z : _≡_ {A = ℕ} 0 1 = cc in absurd (omega arith)
+      go false h q = h

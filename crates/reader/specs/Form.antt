@@ -1,6 +1,8 @@
 -- The four line forms: a line is of a form exactly when it is the rendering of some raw record, whose numbers may be of any size.
 --
---   storeForm, loadForm, swapForm, fenceForm == the forms, a hole for each number
+--   begun rest                               == a form that goes on with `rest` behind the thread
+--   storeRest, loadRest, swapRest, sync      == what stands behind the thread in each form, a hole for each number
+--   storeForm, loadForm, swapForm, fenceForm == the forms
 --   render raw     == the line of a raw record
 --   formOf line    == the raw record that a line renders, if any
 --   cutForm form   == the same with its numbers cut, as the code holds it
@@ -17,26 +19,38 @@ use Rattle.reader.specs.declared.Raw.the-variants.{Load, Store, Swap, Fe
 use Rattle.reader.specs.declared.Form.{Form}
 use Rattle.reader.specs.declared.Form.the-variants.{Of, Nothing}
 
--- #: M[#] := #
-abbrev pub storeForm : List ℕ
-storeForm = 35 ∷ 58 ∷ 32 ∷ 77 ∷ 91 ∷ 35 ∷ 93 ∷ 32 ∷ 58 ∷ 61 ∷ 32 ∷ 35 ∷ []
+-- every form begins with the thread, a colon and a space:  #:
+abbrev pub begun : List ℕ → List ℕ
+begun rest = 35 ∷ 58 ∷ 32 ∷ rest
 
--- #: M[#] == #
-abbrev pub loadForm : List ℕ
-loadForm = 35 ∷ 58 ∷ 32 ∷ 77 ∷ 91 ∷ 35 ∷ 93 ∷ 32 ∷ 61 ∷ 61 ∷ 32 ∷ 35 ∷ []
+-- M[#] := #
+abbrev pub storeRest : List ℕ
+storeRest = 77 ∷ 91 ∷ 35 ∷ 93 ∷ 32 ∷ 58 ∷ 61 ∷ 32 ∷ 35 ∷ []
 
--- #: { M[#] == #; M[#] := # }
-abbrev pub swapForm : List ℕ
-swapForm =
-    35 ∷ 58 ∷ 32 ∷ 123 ∷ 32 ∷ 77 ∷ 91 ∷ 35 ∷ 93 ∷ 32 ∷ 61 ∷ 61 ∷ 32 ∷ 35 ∷ 59 ∷ 32 ∷ 77 ∷ 91 ∷ 35 ∷ 93 ∷ 32 ∷ 58 ∷ 61 ∷ 32 ∷ 35 ∷ 32 ∷ 125 ∷ []
+-- M[#] == #
+abbrev pub loadRest : List ℕ
+loadRest = 77 ∷ 91 ∷ 35 ∷ 93 ∷ 32 ∷ 61 ∷ 61 ∷ 32 ∷ 35 ∷ []
+
+-- { M[#] == #; M[#] := # }
+abbrev pub swapRest : List ℕ
+swapRest =
+    123 ∷ 32 ∷ 77 ∷ 91 ∷ 35 ∷ 93 ∷ 32 ∷ 61 ∷ 61 ∷ 32 ∷ 35 ∷ 59 ∷ 32 ∷ 77 ∷ 91 ∷ 35 ∷ 93 ∷ 32 ∷ 58 ∷ 61 ∷ 32 ∷ 35 ∷ 32 ∷ 125 ∷ []
 
 -- the word sync is the four bytes 73 79 6E 63
 abbrev pub sync : List ℕ
 sync = 0x73 ∷ 0x79 ∷ 0x6E ∷ 0x63 ∷ []
 
--- #: sync
+abbrev pub storeForm : List ℕ
+storeForm = begun storeRest
+
+abbrev pub loadForm : List ℕ
+loadForm = begun loadRest
+
+abbrev pub swapForm : List ℕ
+swapForm = begun swapRest
+
 abbrev pub fenceForm : List ℕ
-fenceForm = 35 ∷ 58 ∷ 32 ∷ sync
+fenceForm = begun sync
 
 unfoldable pub render : Raw → List ℕ
 render (Load t a r) = fill loadForm (t ∷ a ∷ r ∷ [])

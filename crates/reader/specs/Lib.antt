@@ -5,6 +5,7 @@ pub mod Class
 pub mod Number
 pub mod Template
 pub mod Form
+pub mod Behind
 pub mod Answer
 pub mod Read
 pub mod Cases

@@ -1,7 +1,7 @@
 -- A template is a line in which a hole stands for each number.
 --
 --   HOLE             == the byte that marks a number's place
---   NUMBERS          == how many holes a template has at the most
+--   NUMBERS          == how many numbers stand behind a thread at the most
 --   fill ts ns       == the line that a template gives with the numbers ns
 --   Hit              == the numbers that were found, or that the line is another
 --   found ts text    == the numbers with which the template gives the text
@@ -23,7 +23,7 @@ abbrev pub HOLE : ℕ
 HOLE = 0x23
 
 abbrev pub NUMBERS : ℕ
-NUMBERS = 5
+NUMBERS = 4
 
 unfoldable pub fill : List ℕ → List ℕ → List ℕ
 fill [] ns = []

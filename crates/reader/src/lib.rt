@@ -10,9 +10,10 @@ pub mod turns;
 pub mod walk;
 
 use trace::Op;
+use trace::RECORDS;
+use trace::Record;
 use trace::Trace;
 use trace::empty;
-use trace::pushed;
 use turns::turned;
 use walk::line_end;
 
@@ -48,7 +49,7 @@ pub enum Number {
 // Whether a line is of a form, and its numbers; unused places are 0.
 pub struct Fit {
     pub fits: bool,
-    pub numbers: [u32; 5],
+    pub numbers: [u32; 4],
 }
 
 // A line of one of the four forms, its numbers not yet held to their bounds.
@@ -129,7 +130,11 @@ fn walked(text: &[u8]) -> Stand
         let ended = end < text.len();
         match turned(trace, &text[at..end], ended) {
             Turn::Taken(op) => {
-                trace = pushed(trace, op);
+                let n = trace.len;
+                if n < RECORDS {
+                    trace.records[n] = Record { op };
+                    trace.len = n + 1;
+                }
             }
             Turn::Refused(reason) => {
                 let answer = Answer::Refused { reason, line };

@@ -1,15 +1,11 @@
 -- No second answer fits: each theorem speaks of a public function's contract as the checker reads it, so a clause that is weakened
 -- breaks its theorem.
 --
---   Settles Post     == the contract settles what comes back
---   Leaves look Post == the contract settles what is left in lent memory, seen by `look`
-use mathlib.Core.Path.{_≡_, sym, _∙_}
-use mathlib.Core.List.{List}
-use Prim.Native.Nat.{ℕ}
-use contract.Lifetimes.{Lfts}
+--   FUNCTION-settles == the contract settles what comes back
+--   FUNCTION-leaves  == the contract settles what is left in lent memory
+use mathlib.Core.Path.{sym, _∙_}
 use denote.Ref.{now}
-use denote.Triple.Clauses.{AtExit}
-use borrow.Fn.Kinds.{PK, RK, Dens, Out, resT, endedOf}
+use Rattle.laws.specs.Settles.{Settles, Leaves}
 use Rattle.laws.proofs.Tests.{test-one}
 use Rattle.rows.proofs.Closing.{chained-one}
 use Rattle.rows.proofs.test.Reads as test
@@ -28,14 +24,6 @@ use Rattle.rows.proofs.reflexive.Reads as reflexive
 use Rattle.rows.proofs.reflexive.Kinds as reflexive-kinds
 use Rattle.rows.proofs.chains.Reads as chains
 use Rattle.rows.proofs.chains.Kinds as chains-kinds
-
-module _ (n : ℕ) (ps : List (PK n)) (r : RK n) where
-  abbrev pub Settles : Out n ps r → Type 0
-  Settles Post = (κs : Lfts n) (a : Dens κs ps) (x y : resT r κs .Denot) (s t : AtExit (endedOf n ps r) κs) → Post κs a x s → Post κs a y t → x ≡ y
-
-  abbrev pub Leaves : ((κs : Lfts n) → AtExit (endedOf n ps r) κs → List ℕ) → Out n ps r → Type 0
-  Leaves look Post =
-      (κs : Lfts n) (a : Dens κs ps) (x y : resT r κs .Denot) (s t : AtExit (endedOf n ps r) κs) → Post κs a x s → Post κs a y t → look κs s ≡ look κs t
 
 pub test-settles : Settles 1 test-kinds.ps test-kinds.r test.Post
 test-settles κs a x y s t p q = p ∙ sym q

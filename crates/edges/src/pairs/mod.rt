@@ -1,10 +1,13 @@
-// Which pairs of a trace a model keeps.
+// Which pairs of a trace a model keeps, and from whom its loads and swaps read.
 ghost use mathlib.Core.Path.{_≡_};
 ghost use Rattle.trace.specs.Trace.{at};
-ghost use Rattle.edges.specs.Kept.{modelled, kindOf, keptBy, fenced, keptOf};
+ghost use Rattle.trace.specs.Meaning.{frameOf};
+ghost use Rattle.edges.specs.Kept.{modelled, kindOf, keptBy, keptPair, fenced, keptOf};
+ghost use Rattle.edges.specs.SourceOf.{readsFrom, sourceOf};
 use trace::Op;
 use trace::RECORDS;
 use trace::Trace;
+use trace::first;
 
 // Models are numbered from 1 to this: 1 is SC, 2 is TSO.
 pub const MODELS: u8 = 2;
@@ -105,14 +108,47 @@ pub fn fenced(t: Trace, x: usize, y: usize) -> bool
     false
 }
 
+// Whether a model keeps a pair of records, told whether the second is later and whether a fence stands between.
+pub fn kept_pair(model: u8, a: Op, b: Op, later: bool, fenced: bool) -> bool
+    ensures { λ r. ⌜ r ≡ keptPair model a b later fenced ⌝ }
+{
+    let near = later & (a.thread() == b.thread());
+    let across = modelled(model) & !a.fence() & !b.fence() & fenced;
+    near & (kept_by(model, kind(a), kind(b)) | across)
+}
+
 // Whether a model keeps the pair x, y of a trace.
 pub fn kept(t: Trace, model: u8, x: usize, y: usize) -> bool
     ensures { λ r. ⌜ r ≡ keptOf model t x y ⌝ }
 {
     let n = t.len;
-    let a = op_at(t, x);
-    let b = op_at(t, y);
-    let near = (x < y) & (y < n) & (a.thread() == b.thread());
-    let across = modelled(model) & !a.fence() & !b.fence() & fenced(t, x, y);
-    near & (kept_by(model, kind(a), kind(b)) | across)
+    let later = (x < y) & (y < n);
+    kept_pair(model, op_at(t, x), op_at(t, y), later, fenced(t, x, y))
+}
+
+// Whether the second record reads what the first wrote, and not what its address began with.
+fn reads_from(a: Op, b: Op, begins: u16) -> bool
+    ensures { λ r. ⌜ r ≡ readsFrom a b begins ⌝ }
+{
+    let there = a.writes() & (a.address() == b.address()) & b.reads();
+    there & (b.read() == a.written()) & (b.read() != begins)
+}
+
+// The record that a load or swap reads from, RECORDS where there is none; of several, which a well formed trace does not have, the lowest.
+pub fn source_of(t: Trace, load: usize) -> usize
+    ensures { λ r. ⌜ r ≡ sourceOf (frameOf t) load ⌝ }
+{
+    let n = t.len;
+    let b = op_at(t, load);
+    let begins = first(t, b.address());
+    let mut i: usize = 0;
+    while i < RECORDS {
+        let record = t.records[i];
+        let a = record.op;
+        if (i < n) & (load < n) & (i != load) & reads_from(a, b, begins) {
+            return i;
+        }
+        i += 1;
+    }
+    RECORDS
 }

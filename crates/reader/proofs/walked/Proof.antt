@@ -4,8 +4,12 @@ use mathlib.Core.List.{List, [], _∷_}
 use Prim.Native.Nat.{ℕ, _+_, _≤_, _-_, _<_}
 use native.Mathlib.Omega.{arith}
 use lib.Dec.{ltb}
+use mathlib.Core.Logic.{⊎-elim}
+use borrow.Author.Tests.{le-ltb}
 use lib.ListN.{length, drop}
-use Rattle.trace.specs.Trace.{empty}
+use Rattle.trace.specs.Bounds.{RECORDS}
+use Rattle.trace.specs.Trace.{empty, pushed}
+use Rattle.trace.proofs.Places.{pushed-room}
 use Rattle.reader.specs.Lines.{Line, lines, lineAt, endAt}
 use Rattle.trace.specs.declared.Trace.{Trace}
 use Rattle.reader.specs.Answer.{turned}
@@ -52,8 +56,14 @@ turned-requires c κs = search needs
 enum-known-op : tie.Need-enum-known-op Inv-loop μ-loop
 enum-known-op c = search needs
 
-pushed-requires : tie.Need-pushed-requires Inv-loop μ-loop
-pushed-requires c κs = search needs
+mul-t25 : tie.Need-mul-t25 Inv-loop μ-loop
+mul-t25 c = search needs
+
+element-set-from-trace : tie.Need-element-set-from-trace Inv-loop μ-loop
+element-set-from-trace c = search needs
+
+add-trace : tie.Need-add-trace Inv-loop μ-loop
+add-trace c = search needs
 
 enum-known-reason : tie.Need-enum-known-reason Inv-loop μ-loop
 enum-known-reason c = search needs
@@ -114,6 +124,16 @@ add-line c = search needs
 loop-less : tie.Need-loop-less Inv-loop μ-loop
 loop-less c = let i = inside (c .before .before .before .before .before .before) in let e = c .before .before .before .before .before .before .line-end .ensures in omega arith
 
+-- the trace with the record behind it
+grown : (c : tie.Joined1 Inv-loop μ-loop) → c .if1 .trace ≡ pushed (c .before .before .before .before .before .before .before .before .loop .trace) (c .before .before .op .given .0 .0)
+unfolding pushed
+grown c =
+    let l = c .before .before .before .before .before .before .before .before in
+    ⊎-elim
+    (λ w. w .1 ∙ sym (pushed-room (l .loop .trace) (c .before .before .op .given .0 .0) (w .0 .taken)))
+    (λ w. w .1 ∙ simp (le-ltb (l .loop .trace .len) RECORDS (w .0 .left)))
+    (c .if1 .came)
+
 loop-again : tie.Need-loop-again Inv-loop μ-loop
 unfolding behind
 loop-again c =
@@ -125,8 +145,8 @@ loop-again c =
     let q = sym (said u) ∙ o .1 in
     let same : lines (drop (e .line-end .result + 1) t) ≡ behind e = ap (λ (n : ℕ). lines (drop (n + 1) t)) (e .line-end .ensures) in (
       omega (arith, e .line-end .ensures),
-      rw (c .pushed .ensures, same) (sym (read-taken (l .loop .trace) (here e) (behind e) (o .0 .0) q (l .loop .line)) ∙ whole-read e),
-      rw (c .pushed .ensures, same) (sym (bad-taken (l .loop .trace) (here e) (behind e) (o .0 .0) q) ∙ whole-bad e),
+      rw (grown c, same) (sym (read-taken (l .loop .trace) (here e) (behind e) (o .0 .0) q (l .loop .line)) ∙ whole-read e),
+      rw (grown c, same) (sym (bad-taken (l .loop .trace) (here e) (behind e) (o .0 .0) q) ∙ whole-bad e),
     )
 
 returns-2 : tie.Need-returns-2 Inv-loop μ-loop
@@ -153,7 +173,9 @@ walked-spec =
     part-turned-end
     turned-requires
     enum-known-op
-    pushed-requires
+    mul-t25
+    element-set-from-trace
+    add-trace
     enum-known-reason
     empty-requires-2
     returns

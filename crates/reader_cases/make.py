@@ -1,0 +1,167 @@
+#!/usr/bin/env python3
+"""make.py: write the texts (data/), their names (args) and what the reader must say of each (stdout).
+
+Every answer below is written from document 01 by hand; none is taken from the program. Run it in this folder after a change."""
+import os
+
+here = os.path.dirname(os.path.abspath(__file__))
+cases = []
+
+
+def good(name, text, *records):
+    words = ''.join(' ' + r for r in records)
+    cases.append((name, text, f'{len(records)} records{words} <>'))
+
+
+def shown(part):
+    return ''.join(chr(b) if 32 <= b <= 126 else '\\%02x' % b for b in part)
+
+
+def refused(name, text, number, line, part=b''):
+    cases.append((name, text, f'refused {number} line {line} <{shown(part)}>'))
+
+
+def store(i, thread=0):
+    """A store of the value i at address 0, so that no two are alike."""
+    return b'%d: M[0] := %d\n' % (thread, i)
+
+
+def stores(n):
+    return b''.join(store(i) for i in range(1, n + 1))
+
+
+def said(n):
+    return [f'store 0 0 {i}' for i in range(1, n + 1)]
+
+
+sixty = b'123456789012345678901234567890123456789012345678901234567890'
+
+# the smallest texts
+good('empty', b'')
+refused('one-byte', b'0', 3, 1, b'0')
+refused('one-feed', b'\n', 3, 1)
+refused('one-nul', b'\0', 3, 1, b'\0')
+
+# the four forms, alone and together
+good('store', b'0: M[3] := 31\n', 'store 0 3 31')
+good('load', b'0: M[3] == 31\n', 'load 0 3 31')
+good('swap', b'0: { M[3] == 31; M[3] := 178 }\n', 'swap 0 3 31 178')
+good('fence', b'0: sync\n', 'fence 0')
+good('all-four', b'0: M[3] := 31\n1: M[3] == 31\n2: { M[3] == 31; M[3] := 178 }\n3: sync\n',
+     'store 0 3 31', 'load 1 3 31', 'swap 2 3 31 178', 'fence 3')
+good('load-of-zero', b'0: M[0] == 0\n', 'load 0 0 0')
+good('swap-of-its-own', b'0: { M[0] == 5; M[0] := 5 }\n', 'swap 0 0 5 5')
+
+# 1: the length of the text comes before all else; 8,192 bytes pass it
+refused('text-8192', b'x' * 80 + b'\n' + b'y' * 8111, 3, 1, b'x' * 80)
+refused('text-8193', b'x' * 80 + b'\n' + b'y' * 8112, 1, 0)
+refused('text-8193-good-lines', stores(8) + b'\n' * (8193 - len(stores(8))), 1, 0)
+refused('text-8192-good-lines', stores(8) + b'\n' * (8192 - len(stores(8))), 3, 9)
+
+# 2: a line of 80 bytes passes it and one of 81 does not, ended or not, of a form or not
+long80 = b'0: M[0] := ' + b'9' * 69
+refused('line-80', long80 + b'\n', 4, 1, long80)
+refused('line-81', long80 + b'9\n', 2, 1, long80 + b'9')
+refused('line-81-no-form', b'z' * 81 + b'\n', 2, 1, b'z' * 81)
+refused('line-81-no-feed', b'z' * 81, 2, 1, b'z' * 81)
+refused('line-80-no-feed', b'z' * 80, 3, 1, b'z' * 80)
+refused('line-81-last', stores(3) + b'z' * 81 + b'\n', 2, 4, b'z' * 81)
+
+# 3: the form is exact, and every line is ended
+refused('no-feed', b'0: sync', 3, 1, b'0: sync')
+refused('no-feed-last', stores(2) + b'0: sync', 3, 3, b'0: sync')
+refused('blank-first', b'\n0: sync\n', 3, 1)
+refused('blank-last', b'0: sync\n\n', 3, 2)
+refused('carriage-return', b'0: sync\r\n', 3, 1, b'0: sync\r')
+refused('nul-inside', b'0: M[\x000] := 1\n', 3, 1, b'0: M[\x000] := 1')
+refused('over-127', b'0: \xc3\xa9ync\n', 3, 1, b'0: \xc3\xa9ync')
+refused('over-127-digit', b'\xb2: sync\n', 3, 1, b'\xb2: sync')
+refused('leading-zero', b'0: M[01] := 1\n', 3, 1, b'0: M[01] := 1')
+refused('leading-zero-thread', b'00: sync\n', 3, 1, b'00: sync')
+refused('leading-zero-value', b'0: M[0] := 01\n', 3, 1, b'0: M[0] := 01')
+refused('two-zeros', b'0: M[00] == 0\n', 3, 1, b'0: M[00] == 0')
+refused('no-number', b'0: M[] := 1\n', 3, 1, b'0: M[] := 1')
+refused('minus', b'0: M[0] := -1\n', 3, 1, b'0: M[0] := -1')
+refused('space-first', b' 0: sync\n', 3, 1, b' 0: sync')
+refused('space-last', b'0: sync \n', 3, 1, b'0: sync ')
+refused('two-spaces', b'0:  sync\n', 3, 1, b'0:  sync')
+refused('tab', b'0:\tsync\n', 3, 1, b'0:\tsync')
+refused('capital', b'0: Sync\n', 3, 1, b'0: Sync')
+refused('sync-short', b'0: syn\n', 3, 1, b'0: syn')
+refused('sync-long', b'0: syncs\n', 3, 1, b'0: syncs')
+refused('small-m', b'0: m[0] := 1\n', 3, 1, b'0: m[0] := 1')
+refused('one-equals', b'0: M[0] = 1\n', 3, 1, b'0: M[0] = 1')
+refused('swap-turned', b'0: { M[0] := 1; M[0] == 0 }\n', 3, 1, b'0: { M[0] := 1; M[0] == 0 }')
+refused('swap-open', b'0: { M[0] == 0; M[0] := 1\n', 3, 1, b'0: { M[0] == 0; M[0] := 1')
+refused('the-hole', b'0: M[#] := #\n', 3, 1, b'0: M[#] := #')
+refused('leading-zero-past-bound', b'08: sync\n', 3, 1, b'08: sync')
+
+# 4: thread, address and value at their bounds and one past them
+good('thread-7', b'7: sync\n', 'fence 7')
+refused('thread-8', b'8: sync\n', 4, 1, b'8: sync')
+refused('thread-8-store', b'8: M[0] := 1\n', 4, 1, b'8: M[0] := 1')
+good('address-15', b'0: M[15] := 1\n', 'store 0 15 1')
+refused('address-16', b'0: M[16] := 1\n', 4, 1, b'0: M[16] := 1')
+refused('address-16-load', b'0: M[16] == 1\n', 4, 1, b'0: M[16] == 1')
+good('value-65535', b'0: M[0] := 65535\n', 'store 0 0 65535')
+refused('value-65536', b'0: M[0] := 65536\n', 4, 1, b'0: M[0] := 65536')
+good('read-65535', b'0: M[0] == 65535\n', 'load 0 0 65535')
+refused('read-65536', b'0: M[0] == 65536\n', 4, 1, b'0: M[0] == 65536')
+refused('swap-second-16', b'0: { M[0] == 0; M[16] := 1 }\n', 4, 1, b'0: { M[0] == 0; M[16] := 1 }')
+refused('swap-read-65536', b'0: { M[0] == 65536; M[0] := 1 }\n', 4, 1, b'0: { M[0] == 65536; M[0] := 1 }')
+refused('swap-written-65536', b'0: { M[0] == 0; M[0] := 65536 }\n', 4, 1, b'0: { M[0] == 0; M[0] := 65536 }')
+refused('sixty-digits', b'0: M[0] := ' + sixty + b'\n', 4, 1, b'0: M[0] := ' + sixty)
+refused('sixty-digits-thread', sixty + b': sync\n', 4, 1, sixty + b': sync')
+refused('wraps-32-bits', b'0: M[0] := 4294967297\n', 4, 1, b'0: M[0] := 4294967297')
+refused('wraps-64-bits', b'0: M[0] := 18446744073709551617\n', 4, 1, b'0: M[0] := 18446744073709551617')
+refused('thread-8-last', stores(63) + b'8: sync\n', 4, 64, b'8: sync')
+
+# 5: a swap's two addresses
+refused('addresses', b'0: { M[3] == 31; M[4] := 178 }\n', 5, 1, b'0: { M[3] == 31; M[4] := 178 }')
+refused('addresses-before-zero', b'0: { M[3] == 31; M[4] := 0 }\n', 5, 1, b'0: { M[3] == 31; M[4] := 0 }')
+refused('bound-before-addresses', b'0: { M[3] == 31; M[99] := 0 }\n', 4, 1, b'0: { M[3] == 31; M[99] := 0 }')
+refused('addresses-last', stores(63) + b'0: { M[3] == 0; M[4] := 1 }\n', 5, 64, b'0: { M[3] == 0; M[4] := 1 }')
+
+# 6: nothing writes 0
+refused('store-zero', b'0: M[3] := 0\n', 6, 1, b'0: M[3] := 0')
+refused('swap-zero', b'0: { M[3] == 1; M[3] := 0 }\n', 6, 1, b'0: { M[3] == 1; M[3] := 0 }')
+refused('store-zero-last', stores(63) + b'0: M[3] := 0\n', 6, 64, b'0: M[3] := 0')
+
+# 7: 64 records pass and the 65th does not; 2 to 6 come before it and 8 behind it
+good('records-64', stores(64), *said(64))
+refused('records-65', stores(65), 7, 65, b'0: M[0] := 65')
+refused('records-65-fence', stores(64) + b'0: sync\n', 7, 65, b'0: sync')
+refused('records-65-twice', stores(64) + store(1), 7, 65, b'0: M[0] := 1')
+refused('records-65-zero', stores(64) + b'0: M[0] := 0\n', 6, 65, b'0: M[0] := 0')
+refused('records-65-no-form', stores(64) + b'0: syn\n', 3, 65, b'0: syn')
+refused('records-65-no-feed', stores(64) + b'0: sync', 3, 65, b'0: sync')
+
+# 8: a value that was written above at that address; what was read does not count
+refused('twice', store(1) + store(2) + store(1), 8, 3, b'0: M[0] := 1')
+refused('twice-another-thread', store(1) + store(1, 7), 8, 2, b'7: M[0] := 1')
+refused('twice-by-swap', store(1) + b'1: { M[0] == 1; M[0] := 1 }\n', 8, 2, b'1: { M[0] == 1; M[0] := 1 }')
+refused('twice-after-swap', b'1: { M[0] == 0; M[0] := 1 }\n' + store(1), 8, 2, b'0: M[0] := 1')
+refused('twice-last', stores(63) + store(63), 8, 64, b'0: M[0] := 63')
+good('same-value-elsewhere', b'0: M[0] := 1\n0: M[1] := 1\n', 'store 0 0 1', 'store 0 1 1')
+good('read-before-written', b'0: M[0] == 1\n0: M[0] := 1\n', 'load 0 0 1', 'store 0 0 1')
+good('nobody-wrote', b'0: M[0] == 7\n', 'load 0 0 7')
+
+# the first bad line is the one that counts
+refused('first-of-two', b'0: M[0] := 0\n0: syn\n', 6, 1, b'0: M[0] := 0')
+
+# document 01's first trace
+good('store-buffers', b'0: M[0] := 1\n0: M[1] == 0\n1: M[1] := 1\n1: M[0] == 0\n',
+     'store 0 0 1', 'load 0 1 0', 'store 1 1 1', 'load 1 0 0')
+
+folder = os.path.join(here, 'data')
+os.makedirs(folder, exist_ok=True)
+for old in os.listdir(folder):
+    os.remove(os.path.join(folder, old))
+for name, text, _ in cases:
+    with open(os.path.join(folder, name), 'wb') as out:
+        out.write(text)
+with open(os.path.join(here, 'args'), 'w') as out:
+    out.write(''.join(name + '\n' for name, _, _ in cases))
+with open(os.path.join(here, 'stdout'), 'w') as out:
+    out.write(''.join(f'{name}: {answer}\n' for name, _, answer in cases))
+print(len(cases), 'cases')

@@ -1,0 +1,135 @@
+// Reads each text that is named as an argument and prints what the reader answers: the records, or the number, the line and the part.
+use libc::STDOUT_FILENO;
+use reader::Answer;
+use trace::Op;
+use trace::Trace;
+
+fn wide8(x: u8) -> u64 {
+    x as u64
+}
+
+fn wide16(x: u16) -> u64 {
+    x as u64
+}
+
+fn long(x: usize) -> u64 {
+    x as u64
+}
+
+fn say(word: &[u8]) {
+    io::write_all(STDOUT_FILENO, word);
+}
+
+fn say_number(word: &[u8], n: u64) {
+    io::write_all(STDOUT_FILENO, word);
+    io::print_decimal(STDOUT_FILENO, n);
+}
+
+// A byte as it is, or its number in hexadecimal where it is no sign of ASCII.
+fn say_byte(b: u8) {
+    if b < 32 || 126 < b {
+        say(b"\\");
+        io::print_hex(STDOUT_FILENO, wide8(b), 2);
+    } else {
+        let one = [b; 1];
+        say(&one);
+    }
+}
+
+fn say_part(part: &[u8]) {
+    let mut i: usize = 0;
+    while i < part.len() {
+        let b = part[i];
+        say_byte(b);
+        i += 1;
+    }
+}
+
+fn say_record(op: Op) {
+    match op {
+        Op::Load { thread, addr, read } => {
+            say_number(b" load ", wide8(thread));
+            say_number(b" ", wide8(addr));
+            say_number(b" ", wide16(read));
+        }
+        Op::Store {
+            thread,
+            addr,
+            written,
+        } => {
+            say_number(b" store ", wide8(thread));
+            say_number(b" ", wide8(addr));
+            say_number(b" ", wide16(written));
+        }
+        Op::Swap {
+            thread,
+            addr,
+            read,
+            written,
+        } => {
+            say_number(b" swap ", wide8(thread));
+            say_number(b" ", wide8(addr));
+            say_number(b" ", wide16(read));
+            say_number(b" ", wide16(written));
+        }
+        Op::Fence { thread } => {
+            say_number(b" fence ", wide8(thread));
+        }
+    }
+}
+
+// The used records; a trace that comes from the reader has no more than its places.
+fn say_records(t: Trace) {
+    let len = t.len;
+    say_number(b": ", long(len));
+    say(b" records");
+    let mut i: usize = 0;
+    while i < trace::RECORDS {
+        if i < len {
+            let r = t.records[i];
+            let o = r.op;
+            say_record(o);
+        }
+        i += 1;
+    }
+}
+
+fn answer(text: &[u8]) {
+    let r = reader::read(text);
+    let a = r.answer;
+    match a {
+        Answer::Good => {
+            let t = r.trace;
+            say_records(t);
+        }
+        Answer::Refused { reason, line } => {
+            say_number(b": refused ", wide8(reader::turns::number(reason)));
+            say_number(b" line ", long(line));
+        }
+    }
+    say(b" <");
+    say_part(reader::bad_line(text));
+    say(b">\n");
+}
+
+// One text, from the file that argument i names.
+fn case(i: usize) {
+    let mut name = [0u8; 64];
+    let n = os::arg(i, &mut name);
+    let path = &name[..n];
+    say(path);
+    let file = os::open_read(path);
+    let mut text = [0u8; 8193];
+    let got = io::read_full(file, &mut text);
+    libc::close(file);
+    answer(&text[..got]);
+}
+
+fn main() {
+    let count = os::arg_count();
+    let mut i: usize = 1;
+    while i < count {
+        case(i);
+        i += 1;
+    }
+}
