@@ -16,3 +16,4 @@ pub mod Search
 pub mod Steps
 pub mod Prefixes
 pub mod Congruence
+pub mod LowestLoops

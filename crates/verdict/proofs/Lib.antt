@@ -10,3 +10,5 @@ pub mod Weaker
 pub mod Sited
 pub mod Records
 pub mod Accepted
+pub mod MissingOf
+pub mod One

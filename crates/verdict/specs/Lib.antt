@@ -8,3 +8,4 @@ pub mod Sought
 pub mod Starred
 pub mod Sited
 pub mod Accepted
+pub mod MissingOf
