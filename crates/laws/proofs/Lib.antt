@@ -11,3 +11,9 @@ pub mod Dict
 pub mod Lowest
 pub mod Sorted
 pub mod Bits
+pub mod Latest
+pub mod Search
+pub mod Steps
+pub mod Prefixes
+pub mod Congruence
+pub mod LowestLoops

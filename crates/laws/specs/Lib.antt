@@ -10,3 +10,6 @@ pub mod Dict
 pub mod Lowest
 pub mod Sorted
 pub mod Bits
+pub mod Latest
+pub mod Search
+pub mod Steps
