@@ -1,0 +1,110 @@
+// Prints what the rules force in each trace that is named as an argument, under each model: the circle that is shown with
+// its rules, or every held pair.
+use circle::show::Circle;
+use edges::Forced;
+use libc::STDOUT_FILENO;
+use reader::Answer;
+use trace::Trace;
+
+fn wide8(x: u8) -> u64 {
+    x as u64
+}
+
+fn long(x: usize) -> u64 {
+    x as u64
+}
+
+fn say(word: &[u8]) {
+    io::write_all(STDOUT_FILENO, word);
+}
+
+fn say_number(word: &[u8], n: u64) {
+    io::write_all(STDOUT_FILENO, word);
+    io::print_decimal(STDOUT_FILENO, n);
+}
+
+// The first len of some small numbers.
+fn say_numbers(numbers: &[u8], len: usize) {
+    let mut i: usize = 0;
+    while i < numbers.len() {
+        if i < len {
+            let n = numbers[i];
+            say_number(b" ", wide8(n));
+        }
+        i += 1;
+    }
+}
+
+fn say_circle(c: Circle) {
+    let operations = c.operations;
+    let rules = c.rules;
+    say(b"circle");
+    say_numbers(&operations, c.len);
+    say(b" by");
+    say_numbers(&rules, c.len);
+}
+
+// The pairs of rows that begin with x.
+fn say_row(held: &[u64], x: usize) {
+    let mut y: usize = 0;
+    while y < trace::RECORDS {
+        if rows::test(held, x, y) {
+            say_number(b" ", long(x));
+            say_number(b"-", long(y));
+        }
+        y += 1;
+    }
+}
+
+fn say_held(f: Forced) {
+    let held = f.held;
+    say(b"held");
+    let mut x: usize = 0;
+    while x < trace::RECORDS {
+        say_row(&held, x);
+        x += 1;
+    }
+}
+
+fn say_model(t: Trace, model: u8) {
+    let c = circle::show::circle_of(t, model);
+    if 0 < c.len {
+        say_circle(c);
+    } else {
+        let none = [0u64; rows::CELLS];
+        say_held(edges::force::forced(t, model, &none));
+    }
+    say(b"\n");
+}
+
+fn answer(name: &[u8], text: &[u8]) {
+    let r = reader::read(text);
+    let t = r.trace;
+    say(name);
+    say(b" SC: ");
+    say_model(t, 1);
+    say(name);
+    say(b" TSO: ");
+    say_model(t, 2);
+}
+
+// One trace, from the file that argument i names.
+fn case(i: usize) {
+    let mut name = [0u8; 64];
+    let n = os::arg(i, &mut name);
+    let path = &name[..n];
+    let file = os::open_read(path);
+    let mut text = [0u8; 8193];
+    let got = io::read_full(file, &mut text);
+    libc::close(file);
+    answer(path, &text[..got]);
+}
+
+fn main() {
+    let count = os::arg_count();
+    let mut i: usize = 1;
+    while i < count {
+        case(i);
+        i += 1;
+    }
+}
