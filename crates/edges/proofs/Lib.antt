@@ -1,3 +1,11 @@
+pub mod Kept
+pub mod Supposed
+pub mod SourceOf
+pub mod Adds
+pub mod Drawn
+pub mod Turns
+pub mod Ended
+pub mod Answers
 pub mod Orders
 pub mod Sound
 pub mod Rounds

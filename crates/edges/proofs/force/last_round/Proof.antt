@@ -1,0 +1,57 @@
+-- `edges::force::last_round`: the rounds are run where there is something to answer.
+use mathlib.Core.Path.{_≡_, refl, sym, ap₂, _∙_}
+use mathlib.Core.Bool.{true, false, So, _&&_}
+use Rattle.laws.proofs.Tests.{and-iff, same-iff}
+use Rattle.trace.specs.WellFormed.{wellFormed}
+use Rattle.edges.specs.Kept.{modelled}
+use Rattle.edges.proofs.Answers.{rounded-some, rounded-none}
+use borrow.Author.Needs.{needs}
+use Rattle.edges.proofs.force.last_round.Statement.{statement}
+use Rattle.edges.proofs.force.last_round.Tie as tie
+
+well-formed-requires : tie.Need-well-formed-requires
+well-formed-requires c κs = search needs
+
+modelled-requires : tie.Need-modelled-requires
+modelled-requires c κs = search needs
+
+slice-aggregate-run : tie.Need-slice-aggregate-run
+slice-aggregate-run c = search needs
+
+slice-aggregate-run-2 : tie.Need-slice-aggregate-run-2
+slice-aggregate-run-2 c = search needs
+
+slice-aggregate-run-3 : tie.Need-slice-aggregate-run-3
+slice-aggregate-run-3 c = search needs
+
+run-requires : tie.Need-run-requires
+run-requires c κs =
+    let i = c .before .before .before in
+    let s = i .before .before .before .before in
+    let w : (wellFormed (s .args .t) && modelled (s .args .model)) ≡ true = sym (ap₂ _&&_ (i .before .before .well-formed .ensures) (i .before .modelled .ensures)) ∙ i .if1 .taken in
+    (and-iff (same-iff {a = wellFormed (s .args .t)}) (same-iff {a = modelled (s .args .model)}) .0 w .0, refl, refl, refl)
+
+returns : tie.Need-returns
+returns c =
+    let r = c .before .before .before in
+    let i = r .before .before .before .before in
+    let s = i .before .before .before .before in
+    rounded-some (s .args .t) (s .args .model) (s .args .supposed .now) _ (sym (ap₂ _&&_ (i .before .before .well-formed .ensures) (i .before .modelled .ensures)) ∙ i .if1 .taken) (r .run .ensures)
+
+returns-2 : tie.Need-returns-2
+returns-2 c =
+    let s = c .before .before .before .before in
+    rounded-none (s .args .t) (s .args .model) (s .args .supposed .now) _ (sym (ap₂ _&&_ (c .before .before .well-formed .ensures) (c .before .modelled .ensures)) ∙ c .if1 .left) refl refl refl refl
+
+pub last-round-spec : {M : Type 1} → statement M
+last-round-spec =
+    tie.close
+    (tie.spec
+    well-formed-requires
+    modelled-requires
+    slice-aggregate-run
+    slice-aggregate-run-2
+    slice-aggregate-run-3
+    run-requires
+    returns
+    returns-2)

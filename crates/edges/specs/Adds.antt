@@ -1,0 +1,28 @@
+-- Pairs added to rows.
+--
+--   Adds before R after == `after` has the pairs of `before` and those of R, and no others
+--   Only b x y          == the one pair x, y if the test b passes, and otherwise none
+--   Union n R           == what the relations R 0, R 1, .., R (n - 1) have
+--   Cover n R           == what the relations R x y have, for x and y below n
+use mathlib.Core.Path.{_≡_}
+use mathlib.Core.Logic.{_⊎_, _↔_}
+use mathlib.Core.Bool.{Bool, So}
+use mathlib.Core.List.{List}
+use Prim.Native.Nat.{ℕ, _<_}
+use lib.ListN.{length}
+use Rattle.laws.specs.Relation.{Rel}
+use Rattle.rows.specs.Rows.{bit, Edges, Words}
+
+pub record Adds (before : List ℕ) (R : Rel) (after : List ℕ) : Type 0 where
+  pub long : length after ≡ length before
+  pub words : Words before → Words after
+  pub pairs : (x y : ℕ) → So (bit after x y) ↔ (Edges before x y ⊎ R x y)
+
+abbrev pub Only : Bool → ℕ → ℕ → Rel
+Only b x y i j = So b × (i ≡ x) × (j ≡ y)
+
+unfoldable pub Union : ℕ → (ℕ → Rel) → Rel
+Union n R x y = (s : ℕ) × (s < n) × R s x y
+
+abbrev pub Cover : ℕ → (ℕ → ℕ → Rel) → Rel
+Cover n R = Union n (λ x. Union n (R x))

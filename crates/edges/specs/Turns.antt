@@ -1,0 +1,43 @@
+-- What one turn of the rounds does.
+--
+--   Facts f s w                    == s has the source of each record, w the writers of its address
+--   Begun f K P s w e              == the facts are noted, and e has the edges of round 0
+--   Closed e h c                   == h has the chains of e, and c tells whether one leads from a number to itself
+--   Advanced n s w h b₀ e₀ b e r   == from the chains h, nothing is added to the edges e₀ and all is left; or e has what is added, and b is h
+use mathlib.Core.Path.{_≡_}
+use mathlib.Core.Logic.{_↔_}
+use mathlib.Core.Bool.{Bool, true, false, So}
+use mathlib.Core.List.{List}
+use Prim.Native.Nat.{ℕ, _<_}
+use lib.ListN.{length, getD}
+use Rattle.laws.specs.Tests.{any}
+use Rattle.laws.specs.Relation.{Table, _⊆_, Chain}
+use Rattle.trace.specs.Bounds.{RECORDS}
+use Rattle.trace.specs.Frame.{Frame, Writer}
+use Rattle.rows.specs.Bounds.{CELLS}
+use Rattle.rows.specs.Rows.{bit, Edges}
+use Rattle.edges.specs.Rules.{Edge}
+use Rattle.edges.specs.Adds.{Adds, Union}
+use Rattle.edges.specs.SourceOf.{sourceOf}
+use Rattle.edges.specs.Drawn.{SettledFor}
+use Rattle.edges.specs.Ended.{Full}
+
+pub record Facts (f : Frame) (s w : List ℕ) : Type 0 where
+  pub sources-long : length s ≡ RECORDS
+  pub writers-long : length w ≡ CELLS
+  pub sources : (L : ℕ) → L < f .records → getD s L 0 ≡ sourceOf f L
+  pub writers : (S L : ℕ) → L < f .records → So (bit w S L) ↔ Writer f S L
+
+pub record Begun (f : Frame) (K P : Table) (s w e : List ℕ) : Type 0 where
+  pub facts : Facts f s w
+  pub full : Full e
+  pub has : (x y : ℕ) → So (bit e x y) ↔ Edge f K P 0 x y
+
+pub record Closed (e h : List ℕ) (c : Bool) : Type 0 where
+  pub full : Full h
+  pub has : (x y : ℕ) → So (bit h x y) ↔ Chain (Edges e) x y
+  pub circle : c ≡ any RECORDS (λ x. bit h x x)
+
+pub data Advanced (n : ℕ) (s w h b₀ e₀ b e : List ℕ) : Bool → Type 0 where
+  stays : b ≡ b₀ → e ≡ e₀ → Union n (SettledFor n s w h) ⊆ Edges e₀ → Advanced n s w h b₀ e₀ b e false
+  grows : b ≡ h → Adds e₀ (Union n (SettledFor n s w h)) e → (e ≡ e₀ → ⊥) → Advanced n s w h b₀ e₀ b e true

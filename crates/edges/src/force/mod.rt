@@ -1,0 +1,300 @@
+// The forced edges, round by round, drawn into rows and closed.
+ghost use mathlib.Core.Path.{_≡_};
+ghost use mathlib.Core.Bool.{So};
+ghost use Prim.Native.Nat.{_<_, _≤_};
+ghost use lib.ListN.{length};
+ghost use Rattle.trace.specs.Bounds.{RECORDS};
+ghost use Rattle.trace.specs.WellFormed.{wellFormed};
+ghost use Rattle.trace.specs.Meaning.{frameOf};
+ghost use Rattle.rows.specs.Bounds.{CELLS};
+ghost use Rattle.edges.specs.Tests.{writer?};
+ghost use Rattle.edges.specs.Kept.{keptOf};
+ghost use Rattle.edges.specs.Supposed.{supposedOf};
+ghost use Rattle.edges.specs.Adds.{Adds, Only, Union, Cover};
+ghost use Rattle.edges.specs.SourceOf.{sourceOf};
+ghost use Rattle.edges.specs.Drawn.{paired, Valued, ValuedFor, Settled, SettledFor, Loaded};
+ghost use Rattle.edges.specs.Turns.{Begun, Closed, Advanced};
+ghost use Rattle.edges.specs.Ended.{Ended};
+ghost use Rattle.edges.specs.Answers.{Rounded, Forces};
+use crate::Forced;
+use crate::pairs::kept_pair;
+use crate::pairs::modelled;
+use crate::pairs::source_of;
+use trace::RECORDS;
+use trace::Trace;
+use trace::first;
+use trace::form::well_formed;
+
+// The round at which the rounds end: whether it has a circle, the chains before it, its edges and its chains, as rows.
+pub struct Round {
+    pub circle: bool,
+    pub before: [u64; rows::CELLS],
+    pub edges: [u64; rows::CELLS],
+    pub chains: [u64; rows::CELLS],
+}
+
+// Adds the pair x, y where a test passed.
+fn put_if(rows: &mut [u64], yes: bool, x: usize, y: usize)
+    requires { ⌜ (length (now rows) ≡ CELLS) × (So yes → (x < RECORDS) × (y < RECORDS)) ⌝ }
+    ensures { λ r. ⌜ Adds (now (rows .entry)) (Only yes x y) (now (rows .exit)) ⌝ }
+{
+    if yes {
+        rows::put(rows, x, y);
+    }
+}
+
+// Draws rules 1 and 8 from record x.
+fn draw_pairs_from(t: Trace, model: u8, supposed: &[u64], x: usize, edges: &mut [u64])
+    requires { ⌜ (x < t .len) × (t .len ≤ RECORDS) × (length (now edges) ≡ CELLS) ⌝ }
+    ensures { λ r. ⌜ Adds (now (edges .entry)) (Union (t .len) (λ y. Only (paired model t (now (supposed .entry)) x y) x y)) (now (edges .exit)) ⌝ }
+{
+    let n = t.len;
+    let record = t.records[x];
+    let a = record.op;
+    let mut passed = false;
+    let mut y: usize = 0;
+    while y < n {
+        let record = t.records[y];
+        let b = record.op;
+        let kept = kept_pair(model, a, b, (x < y) & (y < n), passed);
+        let pair = !a.fence() & !b.fence() & rows::test(supposed, x, y);
+        put_if(edges, kept | pair, x, y);
+        passed = passed | (b.fence() & (x < y) & (b.thread() == a.thread()));
+        y += 1;
+    }
+}
+
+// Draws rules 1 and 8.
+fn draw_pairs(t: Trace, model: u8, supposed: &[u64], edges: &mut [u64])
+    requires { ⌜ (t .len ≤ RECORDS) × (length (now edges) ≡ CELLS) ⌝ }
+    ensures { λ r. ⌜ Adds (now (edges .entry)) (Cover (t .len) (λ x y. Only (paired model t (now (supposed .entry)) x y) x y)) (now (edges .exit)) ⌝ }
+{
+    let n = t.len;
+    let mut x: usize = 0;
+    while x < n {
+        draw_pairs_from(t, model, supposed, x, edges);
+        x += 1;
+    }
+}
+
+// Draws what record x gives a load by rules 2 to 5, told whether x writes the load's address, is earlier in its program order, and whether
+// the load reads the first value of the address that x writes.
+fn draw_value(
+    writer: bool,
+    earlier: bool,
+    early: bool,
+    source: usize,
+    x: usize,
+    load: usize,
+    edges: &mut [u64],
+)
+    requires { ⌜ (x < RECORDS) × (load < RECORDS) × (length (now edges) ≡ CELLS) ⌝ }
+    ensures { λ r. ⌜ Adds (now (edges .entry)) (Valued writer earlier early source x load) (now (edges .exit)) ⌝ }
+{
+    put_if(edges, (x == source) & !earlier, x, load);
+    put_if(
+        edges,
+        writer & (source < RECORDS) & (x != source) & earlier,
+        x,
+        source,
+    );
+    put_if(edges, early, load, x);
+    put_if(edges, early & earlier, x, load);
+}
+
+// Draws what every record gives one record as a load, by rules 2 to 5, and notes the writers of its address.
+fn draw_values_for(t: Trace, load: usize, source: usize, writers: &mut [u64], edges: &mut [u64])
+    requires { ⌜ (load < t .len) × (t .len ≤ RECORDS) × (source ≡ sourceOf (frameOf t) load) ⌝ }
+    requires { ⌜ (length (now writers) ≡ CELLS) × (length (now edges) ≡ CELLS) ⌝ }
+    ensures { λ r. ⌜ Adds (now (writers .entry)) (Union (t .len) (λ x. Only (writer? (frameOf t) x load) x load)) (now (writers .exit)) ⌝ }
+    ensures { λ r. ⌜ Adds (now (edges .entry)) (Union (t .len) (ValuedFor (frameOf t) load)) (now (edges .exit)) ⌝ }
+{
+    let n = t.len;
+    let record = t.records[load];
+    let b = record.op;
+    let begins = b.read() == first(t, b.address());
+    let mut x: usize = 0;
+    while x < n {
+        let record = t.records[x];
+        let a = record.op;
+        let writer = a.writes() & (a.address() == b.address()) & (x != load);
+        let earlier = (x < load) & (a.thread() == b.thread());
+        let early = writer & b.reads() & begins;
+        put_if(writers, writer, x, load);
+        draw_value(writer, earlier, early, source, x, load, edges);
+        x += 1;
+    }
+}
+
+// Draws rules 2 to 5, and notes each record's source and the writers of its address.
+fn draw_values(t: Trace, sources: &mut [usize], writers: &mut [u64], edges: &mut [u64])
+    requires { ⌜ (t .len ≤ RECORDS) × (length (now sources) ≡ RECORDS) × (length (now writers) ≡ CELLS) × (length (now edges) ≡ CELLS) ⌝ }
+    ensures { λ r. ⌜ Loaded (frameOf t) (t .len) (t .len) (now (sources .exit)) (now (writers .entry)) (now (writers .exit)) (now (edges .entry)) (now (edges .exit)) ⌝ }
+{
+    let n = t.len;
+    let mut load: usize = 0;
+    while load < n {
+        let source = source_of(t, load);
+        sources[load] = source;
+        draw_values_for(t, load, source, writers, edges);
+        load += 1;
+    }
+}
+
+// Draws what the chains give one load with a source, by rules 6 and 7.
+fn draw_settled_for(
+    n: usize,
+    writers: &[u64],
+    chains: &[u64],
+    source: usize,
+    load: usize,
+    edges: &mut [u64],
+)
+    requires { ⌜ (n ≤ RECORDS) × (source < RECORDS) × (load < RECORDS) × (length (now edges) ≡ CELLS) ⌝ }
+    ensures { λ r. ⌜ Adds (now (edges .entry)) (Union n (Settled (now (writers .entry)) (now (chains .entry)) source load)) (now (edges .exit)) ⌝ }
+{
+    let mut x: usize = 0;
+    while x < n {
+        let other = rows::test(writers, x, load) & (x != source);
+        put_if(edges, other & rows::test(chains, x, load), x, source);
+        put_if(edges, other & rows::test(chains, source, x), load, x);
+        x += 1;
+    }
+}
+
+// Draws rules 6 and 7 from the chains of a round.
+fn draw_settled(n: usize, sources: &[usize], writers: &[u64], chains: &[u64], edges: &mut [u64])
+    requires { ⌜ (n ≤ RECORDS) × (length (now sources) ≡ RECORDS) × (length (now edges) ≡ CELLS) ⌝ }
+    ensures { λ r. ⌜ Adds (now (edges .entry)) (Union n (SettledFor n (now (sources .entry)) (now (writers .entry)) (now (chains .entry)))) (now (edges .exit)) ⌝ }
+{
+    let mut load: usize = 0;
+    while load < n {
+        let source = sources[load];
+        if source < RECORDS {
+            draw_settled_for(n, writers, chains, source, load, edges);
+        }
+        load += 1;
+    }
+}
+
+// Draws round 0, and notes each record's source and the writers of its address.
+fn draw_first(
+    t: Trace,
+    model: u8,
+    supposed: &[u64],
+    sources: &mut [usize],
+    writers: &mut [u64],
+    edges: &mut [u64],
+)
+    requires { ⌜ (So (wellFormed t)) × (length (now sources) ≡ RECORDS) × (length (now writers) ≡ CELLS) × (length (now edges) ≡ CELLS) ⌝ }
+    ensures { λ r. ⌜ Begun (frameOf t) (keptOf model t) (supposedOf t (now (supposed .entry))) (now (sources .exit)) (now (writers .exit)) (now (edges .exit)) ⌝ }
+{
+    rows::clear(writers);
+    rows::clear(edges);
+    draw_pairs(t, model, supposed, edges);
+    draw_values(t, sources, writers, edges);
+}
+
+// Makes `chains` the chains of the edges, and tells whether one leads from a number to itself.
+fn close(edges: &[u64], chains: &mut [u64]) -> bool
+    requires { ⌜ (length (now edges) ≡ CELLS) × (length (now chains) ≡ CELLS) ⌝ }
+    ensures { λ r. ⌜ Closed (now (edges .entry)) (now (chains .exit)) r ⌝ }
+{
+    rows::copy(edges, chains);
+    rows::chains(chains);
+    rows::reflexive(chains)
+}
+
+// Goes to the next round, from the chains of this one, where that adds an edge.
+fn advance(
+    n: usize,
+    sources: &[usize],
+    writers: &[u64],
+    chains: &[u64],
+    before: &mut [u64],
+    edges: &mut [u64],
+) -> bool
+    requires { ⌜ (n ≤ RECORDS) × (length (now sources) ≡ RECORDS) × (length (now chains) ≡ CELLS) × (length (now before) ≡ CELLS) × (length (now edges) ≡ CELLS) ⌝ }
+    ensures { λ r. ⌜ Advanced n (now (sources .entry)) (now (writers .entry)) (now (chains .entry)) (now (before .entry)) (now (edges .entry)) (now (before .exit)) (now (edges .exit)) r ⌝ }
+{
+    let mut next = [0u64; rows::CELLS];
+    rows::copy(edges, &mut next);
+    draw_settled(n, sources, writers, chains, &mut next);
+    if rows::equal(edges, &next) {
+        return false;
+    }
+    rows::copy(chains, before);
+    rows::copy(&next, edges);
+    true
+}
+
+// Goes from round to round until one has a circle or adds nothing, and tells whether it has a circle. What is left are the chains before that
+// round, its edges and its chains.
+fn run(
+    t: Trace,
+    model: u8,
+    supposed: &[u64],
+    before: &mut [u64],
+    edges: &mut [u64],
+    chains: &mut [u64],
+) -> bool
+    requires { ⌜ (So (wellFormed t)) × (length (now before) ≡ CELLS) × (length (now edges) ≡ CELLS) × (length (now chains) ≡ CELLS) ⌝ }
+    ensures { λ r. ⌜ Ended (frameOf t) (keptOf model t) (supposedOf t (now (supposed .entry))) r (now (before .exit)) (now (edges .exit)) (now (chains .exit)) ⌝ }
+{
+    let mut sources = [RECORDS; RECORDS];
+    let mut writers = [0u64; rows::CELLS];
+    draw_first(t, model, supposed, &mut sources, &mut writers, edges);
+    rows::clear(before);
+    loop {
+        if close(edges, chains) {
+            return true;
+        }
+        if !advance(t.len, &sources, &writers, chains, before, edges) {
+            return false;
+        }
+    }
+}
+
+// The round at which the rounds end, from a model's kept pairs and the supposed ones. For a trace that is not well formed, or a model that
+// does not exist, no circle and no pairs.
+pub fn last_round(t: Trace, model: u8, supposed: &[u64]) -> Round
+    ensures { λ r. ⌜ Rounded t model (now (supposed .entry)) r ⌝ }
+{
+    let mut before = [0u64; rows::CELLS];
+    let mut edges = [0u64; rows::CELLS];
+    let mut chains = [0u64; rows::CELLS];
+    if well_formed(t) & modelled(model) {
+        let circle = run(t, model, supposed, &mut before, &mut edges, &mut chains);
+        return Round {
+            circle,
+            before,
+            edges,
+            chains,
+        };
+    }
+    Round {
+        circle: false,
+        before,
+        edges,
+        chains,
+    }
+}
+
+// What the rules force from a model's kept pairs and the supposed ones. For a trace that is not well formed, or a model that does not exist,
+// nothing is contradicted and nothing held.
+pub fn forced(t: Trace, model: u8, supposed: &[u64]) -> Forced
+    ensures { λ r. ⌜ Forces t model (now (supposed .entry)) r ⌝ }
+{
+    let last = last_round(t, model, supposed);
+    if last.circle {
+        return Forced {
+            contradicted: true,
+            held: [0u64; rows::CELLS],
+        };
+    }
+    let held = last.chains;
+    Forced {
+        contradicted: false,
+        held,
+    }
+}
