@@ -11,3 +11,4 @@ pub mod Dict
 pub mod Lowest
 pub mod Sorted
 pub mod Bits
+pub mod Alike

@@ -10,3 +10,4 @@ pub mod Dict
 pub mod Lowest
 pub mod Sorted
 pub mod Bits
+pub mod Alike

@@ -1,0 +1,1 @@
+// Loads and swaps whose value nobody wrote.

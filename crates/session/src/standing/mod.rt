@@ -1,0 +1,1 @@
+// The pairs that stand, and the session that they make.
