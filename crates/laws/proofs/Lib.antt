@@ -12,3 +12,9 @@ pub mod Lowest
 pub mod Sorted
 pub mod Bits
 pub mod Alike
+pub mod Latest
+pub mod Search
+pub mod Steps
+pub mod Prefixes
+pub mod Congruence
+pub mod LowestLoops

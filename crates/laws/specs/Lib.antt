@@ -11,3 +11,6 @@ pub mod Lowest
 pub mod Sorted
 pub mod Bits
 pub mod Alike
+pub mod Latest
+pub mod Search
+pub mod Steps
