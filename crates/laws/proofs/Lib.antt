@@ -11,6 +11,7 @@ pub mod Dict
 pub mod Lowest
 pub mod Sorted
 pub mod Bits
+pub mod Alike
 pub mod Latest
 pub mod Search
 pub mod Steps

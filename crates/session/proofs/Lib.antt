@@ -1,0 +1,5 @@
+pub mod Pairs
+pub mod Filling
+pub mod Forcing
+pub mod Openings
+pub mod Sessions

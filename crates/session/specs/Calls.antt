@@ -1,0 +1,34 @@
+-- What any list of calls comes to.
+--
+--   after s cs           == the session after the calls, turned back or not
+--   kept t ps a          == the pairs that stand after a call, where ps stood before it
+--   standingAfter t ps cs == the same for any calls
+--   supposeAll ps        == the calls that suppose the pairs of a list in turn
+use mathlib.Core.Bool.{cond, _&&_}
+use mathlib.Core.List.{List, [], _∷_, _++_}
+use Prim.Native.Nat.{ℕ, _-_}
+use lib.Dec.{ltb}
+use lib.ListN.{length, take}
+use Rattle.trace.specs.declared.Trace.{Trace}
+use Rattle.session.specs.Bounds.{PAIRS}
+use Rattle.session.specs.Stack.{supposable}
+use Rattle.session.specs.Numbers.{Act, supposes, takesBack, asks, replyOf}
+use Rattle.session.specs.declared.Pair.{Pair}
+use Rattle.session.specs.declared.Session.{Session}
+
+unfoldable pub after : Session → List Act → Session
+after s [] = s
+after s (a ∷ cs) = after (replyOf s a .session) cs
+
+abbrev pub kept : Trace → List Pair → Act → List Pair
+kept t ps (supposes x y) = cond (supposable t (record { first = x; second = y }) && ltb (length ps) PAIRS) (ps ++ record { first = x; second = y } ∷ []) ps
+kept t ps takesBack = take (length ps - 1) ps
+kept t ps (asks x y) = ps
+
+unfoldable pub standingAfter : Trace → List Pair → List Act → List Pair
+standingAfter t ps [] = ps
+standingAfter t ps (a ∷ cs) = standingAfter t (kept t ps a) cs
+
+unfoldable pub supposeAll : List Pair → List Act
+supposeAll [] = []
+supposeAll (p ∷ ps) = supposes (p .first) (p .second) ∷ supposeAll ps

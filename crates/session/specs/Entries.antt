@@ -1,0 +1,62 @@
+-- What each call answers, and the session after it.
+--
+--   pairTurn s x y    == whether a session takes x, y as a pair to speak of (12, 13, 14)
+--   supposeTurn s x y == whether it takes it as one pair more (12 to 15)
+--   takeBackTurn s    == whether it has a pair to take back (12, 16)
+--   toldOf s x y      == what the session's table says of a pair
+--   next a s′ s       == the session after a call: s′ where nothing was turned back, otherwise the session as given
+--   openOf, supposeOf, takeBackOf, askOf == the calls
+use mathlib.Core.Bool.{cond, _&&_}
+use mathlib.Core.List.{List, [], _∷_, _++_}
+use Prim.Native.Nat.{ℕ, _-_}
+use lib.Dec.{eqb, leb}
+use lib.ListN.{length, take}
+use Rattle.trace.specs.Meaning.{frameOf}
+use Rattle.trace.specs.declared.Trace.{Trace}
+use Rattle.rows.specs.Rows.{bit}
+use Rattle.session.specs.Bounds.{PAIRS}
+use Rattle.session.specs.Stack.{standing}
+use Rattle.session.specs.Opening.{openingOf, isDone}
+use Rattle.session.specs.Session.{afresh, intact, blank}
+use Rattle.session.specs.declared.Reason.the-variants.{Unlike, NoOperation, OneRecord, TooManyPairs, NoPair}
+use Rattle.session.specs.declared.Answer.{Answer}
+use Rattle.session.specs.declared.Answer.the-variants.{Done, Held, NotHeld, Contradicted, Refused}
+use Rattle.session.specs.declared.Session.{Session}
+use Rattle.session.specs.declared.Reply.{Reply}
+
+unfoldable pub pairTurn : Session → ℕ → ℕ → Answer
+pairTurn s x y =
+    cond (intact s)
+    (cond (frameOf (s .trace) .operation x && frameOf (s .trace) .operation y) (cond (eqb x y) (Refused OneRecord) Done) (Refused NoOperation))
+    (Refused Unlike)
+
+unfoldable pub supposeTurn : Session → ℕ → ℕ → Answer
+supposeTurn s x y =
+    cond (isDone (pairTurn s x y)) (cond (leb PAIRS (s .stack .count)) (Refused TooManyPairs) Done) (pairTurn s x y)
+
+unfoldable pub takeBackTurn : Session → Answer
+takeBackTurn s = cond (intact s) (cond (eqb (s .stack .count) 0) (Refused NoPair) Done) (Refused Unlike)
+
+unfoldable pub toldOf : Session → ℕ → ℕ → Answer
+toldOf s x y = cond (s .contradicted) Contradicted (cond (bit (s .held) x y) Held NotHeld)
+
+abbrev pub next : Answer → Session → Session → Session
+next a s′ s = cond (isDone a) s′ s
+
+unfoldable pub openOf : Trace → ℕ → Reply
+openOf t m = record { answer = openingOf t m; session = next (openingOf t m) (afresh t m []) blank }
+
+unfoldable pub supposeOf : Session → ℕ → ℕ → Reply
+supposeOf s x y = record {
+  answer = supposeTurn s x y;
+  session = next (supposeTurn s x y) (afresh (s .trace) (s .model) (standing (s .stack) ++ record { first = x; second = y } ∷ [])) s;
+}
+
+unfoldable pub takeBackOf : Session → Reply
+takeBackOf s = record {
+  answer = takeBackTurn s;
+  session = next (takeBackTurn s) (afresh (s .trace) (s .model) (take (length (standing (s .stack)) - 1) (standing (s .stack)))) s;
+}
+
+unfoldable pub askOf : Session → ℕ → ℕ → Reply
+askOf s x y = record { answer = cond (isDone (pairTurn s x y)) (toldOf s x y) (pairTurn s x y); session = s }
