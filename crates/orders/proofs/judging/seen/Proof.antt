@@ -1,0 +1,100 @@
+-- `orders::judging::seen`: the value is what the latest visible writer of the places passed wrote.
+use mathlib.Core.Path.{_≡_, sym, _∙_}
+use mathlib.Core.Logic.{⊎-elim}
+use mathlib.Core.Bool.{true, false}
+use Prim.Native.Nat.{_-_, _≤_}
+use native.Mathlib.Omega.{arith}
+use lib.ListN.{length, getD}
+use Rattle.laws.specs.Latest.{lastOf}
+use Rattle.laws.proofs.Latest.{last-on, last-off, last-all}
+use Rattle.trace.specs.Meaning.{frameOf}
+use Rattle.orders.specs.Valid.{visible?, seen}
+use Rattle.orders.proofs.Sited.{visible-at}
+use borrow.Author.Needs.{needs}
+use Rattle.orders.proofs.judging.seen.Statement.{statement}
+use Rattle.orders.proofs.judging.seen.Tie as tie
+
+abbrev Inv-loop : tie.InvT-loop
+Inv-loop t list sites load place value₀ i₀ value i = (i ≤ length list) × (value ≡ lastOf (λ j. visible? (frameOf t) list j load) (λ j. frameOf t .written (getD list j 0)) (frameOf t .first (frameOf t .address load)) i)
+
+abbrev μ-loop : tie.MeasureT-loop
+μ-loop t list sites load place value₀ i₀ value i = length list - i
+
+mul-place : tie.Need-mul-place Inv-loop μ-loop
+mul-place c = omega arith
+
+shared-slice-read-place : tie.Need-shared-slice-read-place Inv-loop μ-loop
+shared-slice-read-place c = let b = c .before .before .before .pre .1 .long in omega arith
+
+op-at-requires : tie.Need-op-at-requires Inv-loop μ-loop
+op-at-requires c κs = search needs
+
+address-requires : tie.Need-address-requires Inv-loop μ-loop
+address-requires c κs = search needs
+
+first-requires : tie.Need-first-requires Inv-loop μ-loop
+first-requires c κs = search needs
+
+loop-holds : tie.Need-loop-holds Inv-loop μ-loop
+unfolding lastOf frameOf
+loop-holds c = (omega arith, cc)
+
+shared-slice-read-x : tie.Need-shared-slice-read-x Inv-loop μ-loop
+shared-slice-read-x c = search needs
+
+cast-x : tie.Need-cast-x Inv-loop μ-loop
+cast-x c = omega (arith, c .shared-slice-known4 .given (c .before .before .loop .i))
+
+visible-requires : tie.Need-visible-requires Inv-loop μ-loop
+visible-requires c κs = search needs
+
+op-at-requires-2 : tie.Need-op-at-requires-2 Inv-loop μ-loop
+op-at-requires-2 c κs = search needs
+
+written-requires : tie.Need-written-requires Inv-loop μ-loop
+written-requires c κs = search needs
+
+add-i : tie.Need-add-i Inv-loop μ-loop
+add-i c = search needs
+
+loop-less : tie.Need-loop-less Inv-loop μ-loop
+loop-less c = search needs
+
+loop-again : tie.Need-loop-again Inv-loop μ-loop
+unfolding frameOf
+loop-again c =
+    let s = c .before .before .before .before .before .before .before .before .before .before .before in
+    let l = c .before .before .before .before .loop in
+    let at = visible-at (s .args .t) (s .args .list .now) (s .args .sites .now) (s .pre .1) (l .i) (s .args .load) (s .pre .0) in (
+      omega arith,
+      ⊎-elim
+          (λ w. last-on _ _ _ (l .i) (at true (sym (c .before .visible .ensures) ∙ w .0 .taken)) (cc))
+          (λ w. last-off _ _ _ (l .i) (at false (sym (c .before .visible .ensures) ∙ w .0 .left)) (w .1 ∙ l .inv .1))
+          (c .if1 .came),
+    )
+
+returns : tie.Need-returns Inv-loop μ-loop
+unfolding seen
+returns c = last-all _ _ _ (c .before .loop .i) _ (c .before .loop .inv .0) (c .loop-test .left) (c .before .loop .inv .1)
+
+pub seen-spec : {M : Type 1} → statement M
+seen-spec =
+    tie.close
+    (tie.spec
+    Inv-loop
+    μ-loop
+    mul-place
+    shared-slice-read-place
+    op-at-requires
+    address-requires
+    first-requires
+    loop-holds
+    shared-slice-read-x
+    cast-x
+    visible-requires
+    op-at-requires-2
+    written-requires
+    add-i
+    loop-less
+    loop-again
+    returns)

@@ -1,0 +1,44 @@
+-- `orders::judging::visible`: the parts of the test, joined.
+use Rattle.trace.specs.Meaning.{frameOf}
+use Rattle.edges.specs.Tests.{writer?}
+use borrow.Author.Needs.{needs}
+use Rattle.orders.proofs.judging.visible.Statement.{statement}
+use Rattle.orders.proofs.judging.visible.Tie as tie
+
+op-at-requires : tie.Need-op-at-requires
+op-at-requires c κs = search needs
+
+op-at-requires-2 : tie.Need-op-at-requires-2
+op-at-requires-2 c κs = search needs
+
+writes-requires : tie.Need-writes-requires
+writes-requires c κs = search needs
+
+address-requires : tie.Need-address-requires
+address-requires c κs = search needs
+
+address-requires-2 : tie.Need-address-requires-2
+address-requires-2 c κs = search needs
+
+thread-requires : tie.Need-thread-requires
+thread-requires c κs = search needs
+
+thread-requires-2 : tie.Need-thread-requires-2
+thread-requires-2 c κs = search needs
+
+returns : tie.Need-returns
+unfolding writer? frameOf
+returns c = cc
+
+pub visible-spec : {M : Type 1} → statement M
+visible-spec =
+    tie.close
+    (tie.spec
+    op-at-requires
+    op-at-requires-2
+    writes-requires
+    address-requires
+    address-requires-2
+    thread-requires
+    thread-requires-2
+    returns)

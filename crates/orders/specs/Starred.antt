@@ -1,0 +1,81 @@
+-- The traces of document 01 that carry a star, and KNOT, each with its verdicts. proofs/Starred.antt has the one statement about all of them.
+--
+--   traceOf os == the trace of the records os, its unused places idle
+--   Case       == a trace and its verdicts under SC and TSO
+--   cases      == those traces, in document 01's order
+--   Holds c    == the trace of the case is well formed, and its verdicts are those that the case has
+use mathlib.Core.Bool.{So}
+use mathlib.Core.List.{List, [], _∷_, _++_}
+use Prim.Native.Nat.{ℕ, _-_}
+use lib.ListN.{length, replicate}
+use Rattle.trace.specs.Bounds.{RECORDS}
+use Rattle.trace.specs.Trace.{idle}
+use Rattle.trace.specs.Meaning.{frameOf}
+use Rattle.trace.specs.WellFormed.{wellFormed}
+use Rattle.trace.specs.declared.Op.{Op}
+use Rattle.trace.specs.declared.Op.the-variants.{Load, Store, Swap, Fence}
+use Rattle.trace.specs.declared.Record.{Record}
+use Rattle.trace.specs.declared.Trace.{Trace}
+use Rattle.edges.specs.Kept.{SC, TSO, keptOf}
+use Rattle.orders.specs.Verdict.{Verdict, noSource, circle, order, noneLeft, Says}
+
+unfoldable pub places : List Op → List Record
+places [] = []
+places (o ∷ os) = record { op = o } ∷ places os
+
+unfoldable pub traceOf : List Op → Trace
+traceOf os = record { records = places os ++ replicate (RECORDS - length os) (record { op = idle }); len = length os }
+
+pub record Case : Type 0 where
+  pub ops : List Op
+  pub sc : Verdict
+  pub tso : Verdict
+
+unfoldable pub cases : List Case
+cases =
+    record { ops = []; sc = order []; tso = order [] }
+    ∷ record {
+      ops = Store 0 0 1 ∷ Load 0 1 0 ∷ Store 1 1 1 ∷ Load 1 0 0 ∷ [];
+      sc = circle (0 ∷ 1 ∷ 2 ∷ 3 ∷ []) (1 ∷ 4 ∷ 1 ∷ 4 ∷ []);
+      tso = order (1 ∷ 2 ∷ 3 ∷ 0 ∷ []);
+    }
+    ∷ record {
+      ops = Store 0 0 1 ∷ Fence 0 ∷ Load 0 1 0 ∷ Store 1 1 1 ∷ Fence 1 ∷ Load 1 0 0 ∷ [];
+      sc = circle (0 ∷ 2 ∷ 3 ∷ 5 ∷ []) (1 ∷ 4 ∷ 1 ∷ 4 ∷ []);
+      tso = circle (0 ∷ 2 ∷ 3 ∷ 5 ∷ []) (1 ∷ 4 ∷ 1 ∷ 4 ∷ []);
+    }
+    ∷ record {
+      ops = Store 0 0 1 ∷ Store 0 1 1 ∷ Load 1 1 1 ∷ Load 1 0 0 ∷ [];
+      sc = circle (0 ∷ 1 ∷ 2 ∷ 3 ∷ []) (1 ∷ 2 ∷ 1 ∷ 4 ∷ []);
+      tso = circle (0 ∷ 1 ∷ 2 ∷ 3 ∷ []) (1 ∷ 2 ∷ 1 ∷ 4 ∷ []);
+    }
+    ∷ record { ops = Store 0 0 1 ∷ Load 0 0 0 ∷ []; sc = circle (0 ∷ 1 ∷ []) (1 ∷ 4 ∷ []); tso = circle (0 ∷ 1 ∷ []) (5 ∷ 4 ∷ []) }
+    ∷ record {
+      ops = Store 0 1 1 ∷ Load 1 1 0 ∷ Load 1 1 1 ∷ Load 1 1 0 ∷ [];
+      sc = circle (0 ∷ 2 ∷ 3 ∷ []) (2 ∷ 1 ∷ 4 ∷ []);
+      tso = circle (0 ∷ 2 ∷ 3 ∷ []) (2 ∷ 1 ∷ 4 ∷ []);
+    }
+    ∷ record {
+      ops = Store 0 0 1 ∷ Load 0 0 1 ∷ Load 0 1 0 ∷ Store 1 1 1 ∷ Load 1 1 1 ∷ Load 1 0 0 ∷ [];
+      sc = circle (0 ∷ 2 ∷ 3 ∷ 5 ∷ []) (1 ∷ 4 ∷ 1 ∷ 4 ∷ []);
+      tso = order (1 ∷ 2 ∷ 3 ∷ 4 ∷ 5 ∷ 0 ∷ []);
+    }
+    ∷ record {
+      ops = Store 1 3 31 ∷ Swap 0 3 31 178 ∷ Swap 0 3 178 198 ∷ Swap 1 3 178 59 ∷ [];
+      sc = circle (2 ∷ 3 ∷ []) (7 ∷ 7 ∷ []);
+      tso = circle (2 ∷ 3 ∷ []) (7 ∷ 7 ∷ []);
+    }
+    ∷ record { ops = Swap 0 0 5 5 ∷ []; sc = noSource 0; tso = noSource 0 }
+    ∷ record {
+      ops = Store 0 1 11 ∷ Load 0 5 1 ∷ Store 0 0 2 ∷ Store 0 8 1 ∷ Fence 0 ∷ Load 0 2 21
+          ∷ Store 1 2 21 ∷ Load 1 7 1 ∷ Store 1 0 1 ∷ Store 1 6 1 ∷ Fence 1 ∷ Load 1 1 11
+          ∷ Store 2 1 12 ∷ Store 2 5 1 ∷ Load 3 6 1 ∷ Load 3 1 12 ∷ Store 4 2 22 ∷ Store 4 7 1 ∷ Load 5 8 1 ∷ Load 5 2 22 ∷ [];
+      sc = noneLeft;
+      tso = noneLeft;
+    }
+    ∷ []
+
+pub record Holds (c : Case) : Type 0 where
+  pub well : So (wellFormed (traceOf (c .ops)))
+  pub under-sc : Says (frameOf (traceOf (c .ops))) (keptOf SC (traceOf (c .ops))) (c .sc)
+  pub under-tso : Says (frameOf (traceOf (c .ops))) (keptOf TSO (traceOf (c .ops))) (c .tso)
