@@ -9,13 +9,13 @@ cases = []
 
 
 def circle(numbers, rules, at=0):
-    """at: the round that has the circle, for whoever reads this list."""
-    return f'circle {numbers} by {rules}'
+    """at: the first round that has a circle."""
+    return f'round {at}, circle {numbers} by {rules}'
 
 
 def held(pairs, at=0):
     """at: the round after which nothing is added."""
-    return 'held' + ''.join(' ' + p for p in pairs.split())
+    return f'round {at}, held' + ''.join(' ' + p for p in pairs.split())
 
 
 def case(name, text, sc, tso=None):

@@ -32,7 +32,7 @@ use Rattle.edges.specs.Rules.{Edge, nothing}
 use Rattle.edges.specs.Supposed.{supposedOf}
 use Rattle.edges.specs.Circle.{Run, Circle as Ring, Shown, after}
 use Rattle.edges.specs.ShownCircle.{Ruled, ShownCircle, Circled}
-use Rattle.edges.specs.Ended.{Ends, Ended}
+use Rattle.edges.specs.Ended.{Ends}
 use Rattle.circle.specs.ShownIn.{circleOf, ShownIn}
 use Rattle.circle.specs.Named.{Named}
 use Rattle.edges.specs.Answers.{answered, Rounded}
@@ -64,14 +64,14 @@ shown-same E F q (some c) s = (circle-mono E F (λ x y. q x y .0) c (s .0), λ d
 pub none-supposed : (t : Trace) (n : ℕ) → supposedOf t (emptyOf n) ≡ nothing
 none-supposed t n = λ i x y. off {b = supposedOf t (emptyOf n) x y} (λ s. false≢true (sym (empty-bit n x y) ∙ supposed-iff t (emptyOf n) x y .0 s .1)) i
 
-module _ (f : Frame) (g : Good f) (K : Table) (before edges chains : List ℕ) where
-  pub circled-none : Ended f K nothing false before edges chains → Circled f K none
-  circled-none (k, e) = λ m. circle-none (Edge f K nothing m) .1 (λ x c. last-clear f K nothing k (e .last false≢true) (λ x d. false≢true (e .circle-is .1 (x, d))) (x, (suc m, c)))
+module _ (f : Frame) (g : Good f) (K : Table) (k : ℕ) (before edges chains : List ℕ) where
+  pub circled-none : Ends f K nothing k false before edges chains → Circled f K none
+  circled-none e = λ m. circle-none (Edge f K nothing m) .1 (λ x c. last-clear f K nothing k (e .last false≢true) (λ x d. false≢true (e .circle-is .1 (x, d))) (x, (suc m, c)))
 
-  pub circled-some : (len : ℕ) (os rs zero-rules : List ℕ) → Ended f K nothing true before edges chains → len ≤ length os → len ≤ length rs → Shown (Edges edges) (circleOf len os)
+  pub circled-some : (len : ℕ) (os rs zero-rules : List ℕ) → Ends f K nothing k true before edges chains → len ≤ length os → len ≤ length rs → Shown (Edges edges) (circleOf len os)
       → Named f K (bit before) (take len os) len zero-rules rs → Circled f K (ruledOf len os rs)
   unfolding circleOf ruledOf
-  circled-some len os rs zero-rules (k, e) lo lr shown named = go len lo lr (shown-same (Edges edges) (Edge f K nothing k) (e .edges-has) (circleOf len os) shown) named
+  circled-some len os rs zero-rules e lo lr shown named = go len lo lr (shown-same (Edges edges) (Edge f K nothing k) (e .edges-has) (circleOf len os) shown) named
     where
       go : (len : ℕ) → len ≤ length os → len ≤ length rs → Shown (Edge f K nothing k) (circleOf len os) → Named f K (bit before) (take len os) len zero-rules rs → Circled f K (ruledOf len os rs)
       go zero lo lr s n = let (x, c) = e .circle-is .0 refl in absurd (circle-none (Edge f K nothing k) .0 s x c)
@@ -99,8 +99,8 @@ module _ (f : Frame) (g : Good f) (K : Table) (before edges chains : List ℕ) w
 
 module _ (t : Trace) (m : ℕ) (n : ℕ) (supposed : List ℕ) (last : Round) (e : supposed ≡ emptyOf n) (d : Rounded t m supposed last) where
   -- nothing is supposed
-  bare : So (answered m t) → Ended (frameOf t) (keptOf m t) nothing (last .circle) (last .before) (last .edges) (last .chains)
-  bare s = subst (λ (P : Table). Ended (frameOf t) (keptOf m t) P (last .circle) (last .before) (last .edges) (last .chains)) (ap (supposedOf t) e ∙ none-supposed t n) (d .ended s)
+  bare : So (answered m t) → Ends (frameOf t) (keptOf m t) nothing (last .number) (last .circle) (last .before) (last .edges) (last .chains)
+  bare s = subst (λ (P : Table). Ends (frameOf t) (keptOf m t) P (last .number) (last .circle) (last .before) (last .edges) (last .chains)) (ap (supposedOf t) e ∙ none-supposed t n) (d .ended s)
 
   well : So (answered m t) → Good (frameOf t)
   well s = good t (and-iff (same-iff {a = wellFormed t}) (same-iff {a = modelled m}) .0 s .0)
@@ -111,8 +111,8 @@ module _ (t : Trace) (m : ℕ) (n : ℕ) (supposed : List ℕ) (last : Round) (e
     fits = omega arith;
     long = (ap length eo ∙ length-replicate {A = ℕ} RECORDS 0, ap length er ∙ length-replicate {A = ℕ} RECORDS 0);
     rest = λ i _. (ap (λ l. getD l i 0) eo ∙ zeros RECORDS i, ap (λ l. getD l i 0) er ∙ zeros RECORDS i);
-    circle = λ s. rw z (circled-none (frameOf t) (well s) (keptOf m t) (last .before) (last .edges) (last .chains)
-        (subst (λ (b : Bool). Ended (frameOf t) (keptOf m t) nothing b (last .before) (last .edges) (last .chains)) c (bare s)));
+    circle = λ s. rw z (circled-none (frameOf t) (well s) (keptOf m t) (last .number) (last .before) (last .edges) (last .chains)
+        (subst (λ (b : Bool). Ends (frameOf t) (keptOf m t) nothing (last .number) b (last .before) (last .edges) (last .chains)) c (bare s)));
     nothing = λ _. z;
   }
 
@@ -123,10 +123,10 @@ module _ (t : Trace) (m : ℕ) (n : ℕ) (supposed : List ℕ) (last : Round) (e
     long = (shown .long, long);
     rest = λ i l. (shown .rest i l, named .rest i l ∙ ap (λ z. getD z i 0) z ∙ zeros RECORDS i);
     circle = λ s.
-        circled-some (frameOf t) (well s) (keptOf m t) (last .before) (last .edges) (last .chains) (r .len) (r .operations) (r .rules) wiped
-        (subst (λ (b : Bool). Ended (frameOf t) (keptOf m t) nothing b (last .before) (last .edges) (last .chains)) c (bare s))
-        (omega (arith, shown .fits, shown .long)) (omega (arith, shown .fits, long)) (shown .shown (bare s .1 .edges-full .long) refl) named;
-    nothing = λ a. absurd (false≢true (sym (d .none a .0) ∙ c));
+        circled-some (frameOf t) (well s) (keptOf m t) (last .number) (last .before) (last .edges) (last .chains) (r .len) (r .operations) (r .rules) wiped
+        (subst (λ (b : Bool). Ends (frameOf t) (keptOf m t) nothing (last .number) b (last .before) (last .edges) (last .chains)) c (bare s))
+        (omega (arith, shown .fits, shown .long)) (omega (arith, shown .fits, long)) (shown .shown (bare s .edges-full .long) refl) named;
+    nothing = λ a. absurd (false≢true (sym (d .none a .1) ∙ c));
   }
     where
       long : length (r .rules) ≡ RECORDS

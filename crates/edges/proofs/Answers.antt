@@ -20,38 +20,38 @@ use Rattle.rows.specs.Empty.{emptyOf}
 use Rattle.rows.proofs.Whole.{empty-bit, empty-long, empty-words, rows-one}
 use Rattle.edges.specs.Kept.{keptOf}
 use Rattle.edges.specs.Supposed.{supposedOf}
-use Rattle.edges.specs.Ended.{Goes, Full, Ends, Ended}
+use Rattle.edges.specs.Ended.{Goes, Full, Ends}
 use Rattle.edges.specs.Answers.{answered, Rounded, Forces}
 use Rattle.edges.specs.declared.Forced.{Forced}
 use Rattle.edges.specs.declared.force.Round.{Round}
 use Rattle.edges.proofs.Closing.{closing-circle, closing-last, closing-one}
 
 module _ (t : Trace) (m : ℕ) (rows : List ℕ) where
-  pub rounded-some : (r : Round) → So (answered m t) → Ended (frameOf t) (keptOf m t) (supposedOf t rows) (r .circle) (r .before) (r .edges) (r .chains) → Rounded t m rows r
+  pub rounded-some : (r : Round) → So (answered m t) → Ends (frameOf t) (keptOf m t) (supposedOf t rows) (r .number) (r .circle) (r .before) (r .edges) (r .chains) → Rounded t m rows r
   rounded-some r s e = record { ended = λ _. e; none = λ n. absurd (false≢true (sym n ∙ s)) }
 
-  pub rounded-none : (r : Round) → answered m t ≡ false → r .circle ≡ false → r .before ≡ emptyOf CELLS → r .edges ≡ emptyOf CELLS → r .chains ≡ emptyOf CELLS → Rounded t m rows r
-  rounded-none r n c b e h = record { ended = λ s. absurd (false≢true (sym n ∙ s)); none = λ _. (c, b, e, h) }
+  pub rounded-none : (r : Round) → answered m t ≡ false → r .number ≡ 0 → r .circle ≡ false → r .before ≡ emptyOf CELLS → r .edges ≡ emptyOf CELLS → r .chains ≡ emptyOf CELLS → Rounded t m rows r
+  rounded-none r n k c b e h = record { ended = λ s. absurd (false≢true (sym n ∙ s)); none = λ _. (k, c, b, e, h) }
 
   pub forces-circle : (last : Round) → Rounded t m rows last → last .circle ≡ true → (r : Forced) → r .contradicted ≡ true → r .held ≡ emptyOf CELLS → Forces t m rows r
   forces-circle last d c r y h = record {
     full = rw h (record { long = empty-long CELLS; words = empty-words CELLS });
     closing = λ s.
         let e = d .ended s in
-        let x = e .1 .circle-is .0 c in
-        rw (y, h) (closing-circle (frameOf t) (keptOf m t) (supposedOf t rows) (e .0) (x .0) (x .1) (bit (emptyOf CELLS)) (λ i j b. false≢true (sym (empty-bit CELLS i j) ∙ b)));
-    none = λ n. absurd (false≢true (sym (d .none n .0) ∙ c));
+        let x = e .circle-is .0 c in
+        rw (y, h) (closing-circle (frameOf t) (keptOf m t) (supposedOf t rows) (last .number) (x .0) (x .1) (bit (emptyOf CELLS)) (λ i j b. false≢true (sym (empty-bit CELLS i j) ∙ b)));
+    none = λ n. absurd (false≢true (sym (d .none n .1) ∙ c));
   }
 
   pub forces-last : (last : Round) → Rounded t m rows last → last .circle ≡ false → (r : Forced) → r .contradicted ≡ false → r .held ≡ last .chains → Forces t m rows r
   forces-last last d c r y h = record {
-    full = rw h (elim (test (answered m t)) [ inl s ↦ d .ended s .1 .chains-full | inr n ↦ rw (d .none n .3) (record { long = empty-long CELLS; words = empty-words CELLS }) ]);
+    full = rw h (elim (test (answered m t)) [ inl s ↦ d .ended s .chains-full | inr n ↦ rw (d .none n .4) (record { long = empty-long CELLS; words = empty-words CELLS }) ]);
     closing = λ s.
         let e = d .ended s in
         let free : So (last .circle) → ⊥ = λ u. false≢true (sym c ∙ u) in
         rw (y, h)
-        (closing-last (frameOf t) (keptOf m t) (supposedOf t rows) (e .0) (e .1 .last free) (λ x u. free (e .1 .circle-is .1 (x, u))) (bit (last .chains)) (e .1 .chains-has));
-    none = λ n. (y, h ∙ d .none n .3);
+        (closing-last (frameOf t) (keptOf m t) (supposedOf t rows) (last .number) (e .last free) (λ x u. free (e .circle-is .1 (x, u))) (bit (last .chains)) (e .chains-has));
+    none = λ n. (y, h ∙ d .none n .4);
   }
 
 module _ (f : Frame) (K P : Table) where
@@ -71,9 +71,10 @@ module _ (f : Frame) (K P : Table) where
   same-rows : (a b : List ℕ) → Full a → Full b → ((x y : ℕ) → bit a x y ≡ bit b x y) → a ≡ b
   same-rows a b p q = rows-one a b (p .long) (q .long) (p .words) (q .words)
 
-  pub ends-one : (c c′ : Bool) (b e h b′ e′ h′ : List ℕ) → Ended f K P c b e h → Ended f K P c′ b′ e′ h′ → (c ≡ c′) × (b ≡ b′) × (e ≡ e′) × (h ≡ h′)
-  ends-one c c′ b e h b′ e′ h′ (j, p) (k, q₀) =
+  pub ends-one : (j k : ℕ) (c c′ : Bool) (b e h b′ e′ h′ : List ℕ) → Ends f K P j c b e h → Ends f K P k c′ b′ e′ h′ → (j ≡ k) × (c ≡ c′) × (b ≡ b′) × (e ≡ e′) × (h ≡ h′)
+  ends-one j k c c′ b e h b′ e′ h′ p q₀ =
       let q : Ends f K P j c′ b′ e′ h′ = rw (sym (one-round p q₀)) at q₀ in (
+        one-round p q₀,
         test-one (p .circle-is) (q .circle-is),
         same-rows b b′ (p .before-full) (q .before-full) (λ x y. test-one (p .before-has x y) (q .before-has x y)),
         same-rows e e′ (p .edges-full) (q .edges-full) (λ x y. test-one (p .edges-has x y) (q .edges-has x y)),
@@ -84,18 +85,18 @@ module _ (f : Frame) (K P : Table) where
 abbrev forced-of : Bool → List ℕ → Forced
 forced-of c h = record { contradicted = c; held = h }
 
-abbrev round-of : Bool × List ℕ → List ℕ × List ℕ → Round
-round-of p q = record { circle = p .0; before = p .1; edges = q .0; chains = q .1 }
+abbrev round-of : (ℕ × Bool) × List ℕ → List ℕ × List ℕ → Round
+round-of p q = record { number = p .0 .0; circle = p .0 .1; before = p .1; edges = q .0; chains = q .1 }
 
 module _ (t : Trace) (m : ℕ) (rows : List ℕ) where
   pub rounded-one : (r s : Round) → Rounded t m rows r → Rounded t m rows s → r ≡ s
   rounded-one r s p q = elim (test (answered m t)) [
-    | inl a ↦ let o = ends-one (frameOf t) (keptOf m t) (supposedOf t rows) _ _ _ _ _ _ _ _ (p .ended a) (q .ended a) in whole (o .0) (o .1) (o .2) (o .3)
-    | inr n ↦ let x = p .none n in let y = q .none n in whole (x .0 ∙ sym (y .0)) (x .1 ∙ sym (y .1)) (x .2 ∙ sym (y .2)) (x .3 ∙ sym (y .3))
+    | inl a ↦ let o = ends-one (frameOf t) (keptOf m t) (supposedOf t rows) _ _ _ _ _ _ _ _ _ _ (p .ended a) (q .ended a) in whole (o .0) (o .1) (o .2) (o .3) (o .4)
+    | inr n ↦ let x = p .none n in let y = q .none n in whole (x .0 ∙ sym (y .0)) (x .1 ∙ sym (y .1)) (x .2 ∙ sym (y .2)) (x .3 ∙ sym (y .3)) (x .4 ∙ sym (y .4))
   ]
     where
-      whole : r .circle ≡ s .circle → r .before ≡ s .before → r .edges ≡ s .edges → r .chains ≡ s .chains → r ≡ s
-      whole c b e h = ap₂ round-of (ap₂ (λ x y. (x, y)) c b) (ap₂ (λ x y. (x, y)) e h)
+      whole : r .number ≡ s .number → r .circle ≡ s .circle → r .before ≡ s .before → r .edges ≡ s .edges → r .chains ≡ s .chains → r ≡ s
+      whole k c b e h = ap₂ round-of (ap₂ (λ x y. (x, y)) (ap₂ (λ x y. (x, y)) k c) b) (ap₂ (λ x y. (x, y)) e h)
 
   pub forces-one : (r s : Forced) → Forces t m rows r → Forces t m rows s → r ≡ s
   forces-one r s p q = elim (test (answered m t)) [

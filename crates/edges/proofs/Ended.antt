@@ -8,6 +8,7 @@
 --   stands-first, stands-next        == at the first round; at the next
 --   ended-circle, ended-last         == a round with a circle; a round after which nothing is added
 --   fewer                            == what falls from turn to turn: the pairs that are no edges
+--   turns                            == a turn adds an edge, so there are no more turns than edges
 use mathlib.Core.Path.{_≡_, refl, sym, _∙_, ap}
 use mathlib.Core.Logic.{_↔_, inl, inr}
 use mathlib.Core.Bool.{Bool, true, false, So, false≢true}
@@ -41,7 +42,7 @@ use Rattle.edges.specs.Supposed.{supposedOf}
 use Rattle.edges.specs.Rules.{Chains, Edge, Last, Within}
 use Rattle.edges.specs.Adds.{Adds, Only, Union, Cover}
 use Rattle.edges.specs.Drawn.{paired, SettledFor, Loaded}
-use Rattle.edges.specs.Ended.{Goes, Full, Ends, Ended}
+use Rattle.edges.specs.Ended.{Goes, Full, Ends}
 use Rattle.edges.specs.Turns.{Facts, Begun, Closed, Advanced, stays, grows}
 use Rattle.edges.proofs.Ends.{joins-within}
 use Rattle.edges.proofs.Kept.{kept-joins}
@@ -131,6 +132,9 @@ fewer e e′ R full adds d = elim (decLe (pairs RECORDS (bit e′)) (pairs RECOR
         rows-one e′ e (full′ .long) (full .long) (full′ .words) (full .words)
         (λ x y. test-one (λ b. let l = bit-bounds e′ x y b in pairs-same RECORDS (bit e) (bit e′) grew q x y (l .0) (l .1) b, λ b. grew x y b) (λ b. b, λ b. b))
 
+pub turns : (k : ℕ) (e e′ : List ℕ) (R : Rel) → Full e → Adds e R e′ → (e′ ≡ e → ⊥) → k ≤ pairs RECORDS (bit e) → suc k ≤ pairs RECORDS (bit e′)
+turns k e e′ R full adds d h = omega (arith, fewer e e′ R full adds d, pairs-bound RECORDS (bit e′))
+
 module _ (f : Frame) (K P : Table) where
   pub record Stands (k : ℕ) (b e : List ℕ) : Type 0 where
     pub earlier : (j : ℕ) → j < k → Goes f K P j
@@ -163,27 +167,24 @@ module _ (f : Frame) (K P : Table) where
           λ u. let v = chains-has c d (u .0) (u .0) .1 (u .1) in a .1 (u .0, bit-bounds h (u .0) (u .0) v .0, v),
         )
 
-    ends : (c : Bool) → Closed e h c → ((So c → ⊥) → Last f K P k) → Ended f K P c b e h
-    ends c d last = (
-      k,
-      record {
-        earlier = now .earlier;
-        before-full = now .before-full;
-        before-has = now .before-has;
-        edges-full = now .edges-full;
-        edges-has = now .edges-has;
-        chains-full = d .full;
-        chains-has = chains-has c d;
-        circle-is = has-circle c d;
-        last = last;
-      },
-    )
+    ends : (c : Bool) → Closed e h c → ((So c → ⊥) → Last f K P k) → Ends f K P k c b e h
+    ends c d last = record {
+      earlier = now .earlier;
+      before-full = now .before-full;
+      before-has = now .before-has;
+      edges-full = now .edges-full;
+      edges-has = now .edges-has;
+      chains-full = d .full;
+      chains-has = chains-has c d;
+      circle-is = has-circle c d;
+      last = last;
+    }
 
-    pub ended-circle : Closed e h true → Ended f K P true b e h
+    pub ended-circle : Closed e h true → Ends f K P k true b e h
     ended-circle d = ends true d (λ n. absurd (n refl))
 
     module _ (g : Good f) (small : f .records ≤ RECORDS) (inK : Within f K) (inP : Within f P) (s w : List ℕ) (facts : Facts f s w) (d : Closed e h false) where
-      pub ended-last : Union (f .records) (SettledFor (f .records) s w h) ⊆ Edges e → Ended f K P false b e h
+      pub ended-last : Union (f .records) (SettledFor (f .records) s w h) ⊆ Edges e → Ends f K P k false b e h
       ended-last u = ends false d (λ _. last-next f K P k (λ x y r. now .edges-has x y .0 (u x y (settled-gives f g small K P inK inP s w h facts (Chains f K P (suc k)) (chains-has false d) x y .1 r))))
 
       pub stands-next : (b′ e′ : List ℕ) → b′ ≡ h → Adds e (Union (f .records) (SettledFor (f .records) s w h)) e′ → (e′ ≡ e → ⊥) → Stands (suc k) b′ e′

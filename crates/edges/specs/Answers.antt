@@ -1,7 +1,7 @@
 -- What the entries answer.
 --
 --   answered m t          == the trace is well formed and the model exists: there is something to answer
---   Rounded t m rows r    == r is the round at which the rounds end, from the supposed pairs of the rows; with nothing to answer, no circle and no pairs
+--   Rounded t m rows r    == r is the round at which the rounds end, from the supposed pairs of the rows; with nothing to answer, round 0, no circle and no pairs
 --   Forces t m rows r     == r is what the rules force, likewise; with nothing to answer, nothing is contradicted and nothing held
 use mathlib.Core.Path.{_≡_}
 use mathlib.Core.Bool.{Bool, false, So, _&&_}
@@ -16,7 +16,7 @@ use Rattle.rows.specs.Empty.{emptyOf}
 use Rattle.edges.specs.Kept.{modelled, keptOf}
 use Rattle.edges.specs.Supposed.{supposedOf}
 use Rattle.edges.specs.Closing.{Closing}
-use Rattle.edges.specs.Ended.{Full, Ended}
+use Rattle.edges.specs.Ended.{Full, Ends}
 use Rattle.edges.specs.declared.Forced.{Forced}
 use Rattle.edges.specs.declared.force.Round.{Round}
 
@@ -24,8 +24,8 @@ abbrev pub answered : ℕ → Trace → Bool
 answered m t = wellFormed t && modelled m
 
 pub record Rounded (t : Trace) (m : ℕ) (rows : List ℕ) (r : Round) : Type 0 where
-  pub ended : So (answered m t) → Ended (frameOf t) (keptOf m t) (supposedOf t rows) (r .circle) (r .before) (r .edges) (r .chains)
-  pub none : answered m t ≡ false → (r .circle ≡ false) × (r .before ≡ emptyOf CELLS) × (r .edges ≡ emptyOf CELLS) × (r .chains ≡ emptyOf CELLS)
+  pub ended : So (answered m t) → Ends (frameOf t) (keptOf m t) (supposedOf t rows) (r .number) (r .circle) (r .before) (r .edges) (r .chains)
+  pub none : answered m t ≡ false → (r .number ≡ 0) × (r .circle ≡ false) × (r .before ≡ emptyOf CELLS) × (r .edges ≡ emptyOf CELLS) × (r .chains ≡ emptyOf CELLS)
 
 pub record Forces (t : Trace) (m : ℕ) (rows : List ℕ) (r : Forced) : Type 0 where
   pub full : Full (r .held)

@@ -3,7 +3,6 @@
 --   Goes f K P k              == round k has no circle, and the next one adds something
 --   Full rows                 == the rows have all their words
 --   Ends f K P k c b e h      == the rounds end at round k: c tells whether it has a circle, b has the chains before it, e its edges, h its chains
---   Ended f K P c b e h       == they end at some round, likewise
 use mathlib.Core.Path.{_≡_}
 use mathlib.Core.Logic.{_↔_}
 use mathlib.Core.Bool.{Bool, So}
@@ -34,6 +33,3 @@ pub record Ends (f : Frame) (K P : Table) (k : ℕ) (circle : Bool) (before edge
   pub chains-has : (x y : ℕ) → So (bit chains x y) ↔ Chains f K P (suc k) x y
   pub circle-is : So circle ↔ ((x : ℕ) × Chains f K P (suc k) x x)
   pub last : (So circle → ⊥) → Last f K P k
-
-abbrev pub Ended : Frame → Table → Table → Bool → List ℕ → List ℕ → List ℕ → Type 0
-Ended f K P circle before edges chains = (k : ℕ) × Ends f K P k circle before edges chains

@@ -1,5 +1,5 @@
-// Prints what the rules force in each trace that is named as an argument, under each model: the circle that is shown with
-// its rules, or every held pair.
+// Prints what the rules force in each trace that is named as an argument, under each model: the round at which the rounds end,
+// and the circle that is shown with its rules, or every held pair.
 use circle::show::Circle;
 use edges::Forced;
 use libc::STDOUT_FILENO;
@@ -67,11 +67,14 @@ fn say_held(f: Forced) {
 }
 
 fn say_model(t: Trace, model: u8) {
+    let none = [0u64; rows::CELLS];
+    let last = edges::force::last_round(t, model, &none);
+    say_number(b"round ", long(last.number));
+    say(b", ");
     let c = circle::show::circle_of(t, model);
     if 0 < c.len {
         say_circle(c);
     } else {
-        let none = [0u64; rows::CELLS];
         say_held(edges::force::forced(t, model, &none));
     }
     say(b"\n");

@@ -14,7 +14,7 @@ ghost use Rattle.edges.specs.Adds.{Adds, Only, Union, Cover};
 ghost use Rattle.edges.specs.SourceOf.{sourceOf};
 ghost use Rattle.edges.specs.Drawn.{paired, Valued, ValuedFor, Settled, SettledBy, SettledFor, Loaded};
 ghost use Rattle.edges.specs.Turns.{Begun, Closed, Advanced};
-ghost use Rattle.edges.specs.Ended.{Ended};
+ghost use Rattle.edges.specs.Ended.{Ends};
 ghost use Rattle.edges.specs.Answers.{Rounded, Forces};
 use crate::Forced;
 use crate::pairs::kept_pair;
@@ -25,8 +25,15 @@ use trace::Trace;
 use trace::first;
 use trace::form::well_formed;
 
-// The round at which the rounds end: whether it has a circle, the chains before it, its edges and its chains, as rows.
+// Where the rounds end: the number of the round, and whether it has a circle.
+pub struct End {
+    pub number: usize,
+    pub circle: bool,
+}
+
+// The round at which the rounds end: its number, whether it has a circle, the chains before it, its edges and its chains, as rows.
 pub struct Round {
+    pub number: usize,
     pub circle: bool,
     pub before: [u64; rows::CELLS],
     pub edges: [u64; rows::CELLS],
@@ -230,8 +237,8 @@ fn advance(
     true
 }
 
-// Goes from round to round until one has a circle or adds nothing, and tells whether it has a circle. What is left are the chains before that
-// round, its edges and its chains.
+// Goes from round to round until one has a circle or adds nothing, and tells which one that is. What is left are the chains before that round,
+// its edges and its chains.
 fn run(
     t: Trace,
     model: u8,
@@ -239,26 +246,34 @@ fn run(
     before: &mut [u64],
     edges: &mut [u64],
     chains: &mut [u64],
-) -> bool
+) -> End
     requires { ⌜ (So (wellFormed t)) × (length (now before) ≡ CELLS) × (length (now edges) ≡ CELLS) × (length (now chains) ≡ CELLS) ⌝ }
-    ensures { λ r. ⌜ Ended (frameOf t) (keptOf model t) (supposedOf t (now (supposed .entry))) r (now (before .exit)) (now (edges .exit)) (now (chains .exit)) ⌝ }
+    ensures { λ r. ⌜ Ends (frameOf t) (keptOf model t) (supposedOf t (now (supposed .entry))) (r .number) (r .circle) (now (before .exit)) (now (edges .exit)) (now (chains .exit)) ⌝ }
 {
     let mut sources = [RECORDS; RECORDS];
     let mut writers = [0u64; rows::CELLS];
     draw_first(t, model, supposed, &mut sources, &mut writers, edges);
     rows::clear(before);
+    let mut number: usize = 0;
     loop {
         if close(edges, chains) {
-            return true;
+            return End {
+                number,
+                circle: true,
+            };
         }
         if !advance(t.len, &sources, &writers, chains, before, edges) {
-            return false;
+            return End {
+                number,
+                circle: false,
+            };
         }
+        number += 1;
     }
 }
 
 // The round at which the rounds end, from a model's kept pairs and the supposed ones. For a trace that is not well formed, or a model that
-// does not exist, no circle and no pairs.
+// does not exist, round 0, no circle and no pairs.
 pub fn last_round(t: Trace, model: u8, supposed: &[u64]) -> Round
     ensures { λ r. ⌜ Rounded t model (now (supposed .entry)) r ⌝ }
 {
@@ -266,15 +281,17 @@ pub fn last_round(t: Trace, model: u8, supposed: &[u64]) -> Round
     let mut edges = [0u64; rows::CELLS];
     let mut chains = [0u64; rows::CELLS];
     if well_formed(t) & modelled(model) {
-        let circle = run(t, model, supposed, &mut before, &mut edges, &mut chains);
+        let end = run(t, model, supposed, &mut before, &mut edges, &mut chains);
         return Round {
-            circle,
+            number: end.number,
+            circle: end.circle,
             before,
             edges,
             chains,
         };
     }
     Round {
+        number: 0,
         circle: false,
         before,
         edges,

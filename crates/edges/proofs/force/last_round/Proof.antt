@@ -41,7 +41,7 @@ returns c =
 returns-2 : tie.Need-returns-2
 returns-2 c =
     let s = c .before .before .before .before in
-    rounded-none (s .args .t) (s .args .model) (s .args .supposed .now) _ (sym (ap₂ _&&_ (c .before .before .well-formed .ensures) (c .before .modelled .ensures)) ∙ c .if1 .left) refl refl refl refl
+    rounded-none (s .args .t) (s .args .model) (s .args .supposed .now) _ (sym (ap₂ _&&_ (c .before .before .well-formed .ensures) (c .before .modelled .ensures)) ∙ c .if1 .left) refl refl refl refl refl
 
 pub last-round-spec : {M : Type 1} → statement M
 last-round-spec =
