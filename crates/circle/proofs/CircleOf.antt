@@ -27,11 +27,11 @@ use Rattle.trace.proofs.Good.{good}
 use Rattle.rows.specs.Rows.{bit, Edges}
 use Rattle.rows.specs.Empty.{emptyOf}
 use Rattle.rows.proofs.Whole.{empty-bit}
-use Rattle.edges.specs.Kept.{modelled, keptOf}
-use Rattle.edges.specs.Rules.{Edge, nothing}
+use Rattle.pairs.specs.Kept.{modelled, keptOf}
+use Rattle.rules.specs.Rules.{Edge, nothing}
 use Rattle.edges.specs.Supposed.{supposedOf}
-use Rattle.edges.specs.Circle.{Run, Circle as Ring, Shown, after}
-use Rattle.edges.specs.ShownCircle.{Ruled, ShownCircle, Circled}
+use Rattle.rules.specs.Circle.{Run, Circle as Ring, Shown, after}
+use Rattle.rules.specs.ShownCircle.{Ruled, ShownCircle, Circled}
 use Rattle.edges.specs.Ended.{Ends}
 use Rattle.circle.specs.ShownIn.{circleOf, ShownIn}
 use Rattle.circle.specs.Named.{Named}
@@ -40,9 +40,9 @@ use Rattle.circle.specs.CircleOf.{ruledOf, CircleOf}
 use Rattle.circle.specs.declared.show.Circle.{Circle}
 use Rattle.edges.specs.declared.force.Round.{Round}
 use Rattle.edges.proofs.Supposed.{supposed-iff}
-use Rattle.edges.proofs.Circle.{circle-none, circle-iff}
-use Rattle.edges.proofs.Closing.{last-clear}
-use Rattle.edges.proofs.ShownCircle.{rule-computed, circled-one}
+use Rattle.rules.proofs.Circle.{circle-none, circle-iff}
+use Rattle.rules.proofs.Closing.{last-clear}
+use Rattle.rules.proofs.ShownCircle.{rule-computed, circled-one}
 use Rattle.circle.proofs.ShownIn.{zeros, same-used}
 
 -- What is shown goes by the edges alone -----------------------------------------------------------------------------------------------------

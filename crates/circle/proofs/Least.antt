@@ -15,10 +15,10 @@ use Rattle.laws.proofs.Tests.{so-any}
 use Rattle.trace.specs.Bounds.{RECORDS}
 use Rattle.rows.specs.Rows.{bit, Edges}
 use Rattle.rows.proofs.Rows.{bit-bounds}
-use Rattle.edges.specs.Walk.{Walk, NoShorter}
+use Rattle.rules.specs.Walk.{Walk, NoShorter}
 use Rattle.circle.specs.Added.{Exactly, Through}
 use Rattle.circle.specs.Least.{Least}
-use Rattle.edges.proofs.Walk.{no-shorter-one, no-shorter-next, no-shorter-none}
+use Rattle.rules.proofs.Walk.{no-shorter-one, no-shorter-next, no-shorter-none}
 
 pub record Trying (E : Rel) (k : ℕ) (walks : List ℕ) : Type 0 where
   pub least : NoShorter E k

@@ -13,9 +13,9 @@ use lib.ListN.{length, getD, set, take, length-set, List·getD-eq-default}
 use lib.Seq.{length-take-le, getD-take, getD-set-same, getD-set-other}
 use Rattle.laws.specs.Relation.{Table}
 use Rattle.trace.specs.Frame.{Frame}
-use Rattle.edges.specs.Rules.{nothing}
-use Rattle.edges.specs.Circle.{after}
-use Rattle.edges.specs.ShownCircle.{rule?}
+use Rattle.rules.specs.Rules.{nothing}
+use Rattle.rules.specs.Circle.{after}
+use Rattle.rules.specs.ShownCircle.{rule?}
 use Rattle.circle.specs.Named.{Named}
 
 module _ (f : Frame) (K C : Table) (c before : List ℕ) where

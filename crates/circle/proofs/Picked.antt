@@ -11,8 +11,8 @@ use Prim.Native.Nat.{ℕ, suc}
 use Rattle.laws.specs.Lowest.{lowest}
 use Rattle.laws.specs.Relation.{Table}
 use Rattle.trace.specs.Frame.{Frame}
-use Rattle.edges.specs.Tests.{rules, gives?}
-use Rattle.edges.specs.ShownCircle.{rule?}
+use Rattle.rules.specs.Tests.{rules, gives?}
+use Rattle.rules.specs.ShownCircle.{rule?}
 
 pub known-cond : (b p q : Bool) → ((b && p) || (not b && q)) ≡ cond b p q
 known-cond true true q = refl

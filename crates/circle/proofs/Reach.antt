@@ -16,7 +16,7 @@ use Rattle.laws.proofs.Tests.{eq?}
 use Rattle.trace.specs.Bounds.{RECORDS}
 use Rattle.rows.specs.Rows.{bit, Edges}
 use Rattle.rows.proofs.Rows.{bit-bounds}
-use Rattle.edges.specs.Walk.{Walk}
+use Rattle.rules.specs.Walk.{Walk}
 use Rattle.circle.specs.Added.{Exactly, Added}
 use Rattle.circle.specs.Reach.{StepBack, Reach}
 use Rattle.circle.proofs.Added.{Some}

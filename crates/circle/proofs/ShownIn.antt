@@ -21,13 +21,13 @@ use Rattle.trace.specs.Bounds.{RECORDS}
 use Rattle.rows.specs.Bounds.{CELLS}
 use Rattle.rows.specs.Rows.{Edges}
 use Rattle.rows.proofs.Rows.{bit-bounds}
-use Rattle.edges.specs.Circle.{Shown}
-use Rattle.edges.specs.Walk.{Walk}
+use Rattle.rules.specs.Circle.{Shown}
+use Rattle.rules.specs.Walk.{Walk}
 use Rattle.circle.specs.Least.{Least, LowestBelow}
 use Rattle.circle.specs.Reach.{Laid}
 use Rattle.circle.specs.ShownIn.{circleOf, ShownIn}
-use Rattle.edges.proofs.Circle.{shown-one}
-use Rattle.edges.proofs.Shown.{traced-shown}
+use Rattle.rules.proofs.Circle.{shown-one}
+use Rattle.rules.proofs.Shown.{traced-shown}
 use Rattle.circle.proofs.Lowest.{lowest-some}
 
 pub zeros : (n i : ℕ) → _≡_ {A = ℕ} (getD (replicate n 0) i 0) 0

@@ -18,7 +18,7 @@ use Rattle.laws.proofs.Tests.{eq?}
 use Rattle.trace.specs.Bounds.{RECORDS}
 use Rattle.rows.specs.Rows.{Edges}
 use Rattle.rows.proofs.Rows.{bit-bounds}
-use Rattle.edges.specs.Walk.{Walk, Traced}
+use Rattle.rules.specs.Walk.{Walk, Traced}
 use Rattle.circle.specs.Least.{LowestBelow}
 use Rattle.circle.specs.Reach.{Reach}
 use Rattle.circle.proofs.Lowest.{lowest-some}

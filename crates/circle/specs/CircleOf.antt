@@ -11,9 +11,9 @@ use lib.ListN.{length, getD, take}
 use Rattle.trace.specs.Bounds.{RECORDS}
 use Rattle.trace.specs.Meaning.{frameOf}
 use Rattle.trace.specs.declared.Trace.{Trace}
-use Rattle.edges.specs.Kept.{keptOf}
+use Rattle.pairs.specs.Kept.{keptOf}
 use Rattle.edges.specs.Answers.{answered}
-use Rattle.edges.specs.ShownCircle.{Circled}
+use Rattle.rules.specs.ShownCircle.{Circled}
 use Rattle.circle.specs.declared.show.Circle.{Circle}
 
 unfoldable pub ruledOf : ℕ → List ℕ → List ℕ → Option (List ℕ × List ℕ)

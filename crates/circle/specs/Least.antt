@@ -9,8 +9,8 @@ use Prim.Native.Nat.{ℕ, _<_, _≤_}
 use Rattle.laws.specs.Relation.{Rel}
 use Rattle.trace.specs.Bounds.{RECORDS}
 use Rattle.circle.specs.Added.{Exactly}
-use Rattle.edges.specs.Circle.{Shown}
-use Rattle.edges.specs.Walk.{Walk, NoShorter}
+use Rattle.rules.specs.Circle.{Shown}
+use Rattle.rules.specs.Walk.{Walk, NoShorter}
 
 pub record Least (E : Rel) (k : ℕ) (walks : List ℕ) : Type 0 where
   pub within : k ≤ RECORDS

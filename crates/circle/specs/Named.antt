@@ -7,9 +7,9 @@ use Prim.Native.Nat.{ℕ, _≤_, _<_}
 use lib.ListN.{length, getD}
 use Rattle.laws.specs.Relation.{Table}
 use Rattle.trace.specs.Frame.{Frame}
-use Rattle.edges.specs.Rules.{nothing}
-use Rattle.edges.specs.Circle.{after}
-use Rattle.edges.specs.ShownCircle.{rule?}
+use Rattle.rules.specs.Rules.{nothing}
+use Rattle.rules.specs.Circle.{after}
+use Rattle.rules.specs.ShownCircle.{rule?}
 
 pub record Named (f : Frame) (K C : Table) (c : List ℕ) (n : ℕ) (before laid : List ℕ) : Type 0 where
   pub long : length laid ≡ length before

@@ -11,7 +11,7 @@ use lib.ListN.{length, getD, take}
 use Rattle.laws.specs.Relation.{Rel}
 use Rattle.trace.specs.Bounds.{RECORDS}
 use Rattle.circle.specs.Added.{Exactly}
-use Rattle.edges.specs.Walk.{Walk, Traced}
+use Rattle.rules.specs.Walk.{Walk, Traced}
 
 abbrev pub StepBack : Rel → Rel → ℕ → Rel
 StepBack E R j i x = (i ≡ j + 1) × ((m : ℕ) × E x m × R j m)

@@ -12,7 +12,7 @@ use lib.ListN.{length, getD, take}
 use Rattle.trace.specs.Bounds.{RECORDS}
 use Rattle.rows.specs.Bounds.{CELLS}
 use Rattle.rows.specs.Rows.{Edges}
-use Rattle.edges.specs.Circle.{Shown}
+use Rattle.rules.specs.Circle.{Shown}
 
 unfoldable pub circleOf : ℕ → List ℕ → Option (List ℕ)
 circleOf zero out = none

@@ -7,7 +7,7 @@ use Prim.Native.Nat.{ℕ}
 use lib.Dec.{eqb}
 use Rattle.laws.specs.Relation.{Table}
 use Rattle.trace.specs.Frame.{Frame}
-use Rattle.edges.specs.Tests.{writer?, source?}
+use Rattle.rules.specs.Tests.{writer?, source?}
 
 abbrev pub beforeSource : Frame → Bool → Table → ℕ → ℕ → ℕ → Bool
 beforeSource f c C x y L = source? f y L && writer? f x L && not (eqb x y) && cond c (C x L) (f .earlier x L)

@@ -18,13 +18,13 @@ use Rattle.rows.specs.Bounds.{CELLS}
 use Rattle.rows.specs.Rows.{bit}
 use Rattle.rows.specs.Empty.{emptyOf}
 use Rattle.rows.proofs.Whole.{empty-bit, empty-long, empty-words, rows-one}
-use Rattle.edges.specs.Kept.{keptOf}
+use Rattle.pairs.specs.Kept.{keptOf}
 use Rattle.edges.specs.Supposed.{supposedOf}
 use Rattle.edges.specs.Ended.{Goes, Full, Ends}
 use Rattle.edges.specs.Answers.{answered, Rounded, Forces}
 use Rattle.edges.specs.declared.Forced.{Forced}
 use Rattle.edges.specs.declared.force.Round.{Round}
-use Rattle.edges.proofs.Closing.{closing-circle, closing-last, closing-one}
+use Rattle.rules.proofs.Closing.{closing-circle, closing-last, closing-one}
 
 module _ (t : Trace) (m : ℕ) (rows : List ℕ) where
   pub rounded-some : (r : Round) → So (answered m t) → Ends (frameOf t) (keptOf m t) (supposedOf t rows) (r .number) (r .circle) (r .before) (r .edges) (r .chains) → Rounded t m rows r

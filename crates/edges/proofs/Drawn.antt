@@ -30,13 +30,13 @@ use Rattle.trace.specs.declared.Trace.{Trace}
 use Rattle.rows.specs.Bounds.{CELLS}
 use Rattle.rows.specs.Rows.{bit}
 use Rattle.rows.specs.Put.{putOf}
-use Rattle.edges.specs.Kept.{keptPair, fenced}
+use Rattle.pairs.specs.Kept.{keptPair, fenced}
 use Rattle.edges.specs.Supposed.{supposedOf}
-use Rattle.edges.specs.Tests.{writer?}
+use Rattle.rules.specs.Tests.{writer?}
 use Rattle.edges.specs.Adds.{Adds, Only, Union}
-use Rattle.edges.specs.SourceOf.{sourceOf}
+use Rattle.rules.specs.SourceOf.{sourceOf}
 use Rattle.edges.specs.Drawn.{paired, Valued, readsFirst, ValuedFor, Loaded, second, third, fourth, fifth, Settled, sixth, seventh}
-use Rattle.edges.proofs.Kept.{kept-parts}
+use Rattle.pairs.proofs.KeptPairs.{kept-parts}
 use Rattle.edges.proofs.Adds.{adds-put, adds-only, adds-as, adds-or, union-none, union-more, union-skip}
 
 pub fenced-more : (t : Trace) (x y : ℕ) → fenced t x (y + 1) ≡ (fenced t x y || (fence (at t y) && ltb x y && eqb (thread (at t y)) (thread (at t x))))

@@ -37,17 +37,17 @@ use Rattle.rows.specs.Copy.{copyOf}
 use Rattle.rows.specs.Chained.{Chained}
 use Rattle.rows.proofs.Rows.{bit-bounds}
 use Rattle.rows.proofs.Whole.{empty-bit, empty-long, empty-words, copy-same, rows-one}
-use Rattle.edges.specs.Kept.{keptOf}
+use Rattle.pairs.specs.Kept.{keptOf}
 use Rattle.edges.specs.Supposed.{supposedOf}
-use Rattle.edges.specs.Rules.{Chains, Edge, Last, Within}
+use Rattle.rules.specs.Rules.{Chains, Edge, Last, Within}
 use Rattle.edges.specs.Adds.{Adds, Only, Union, Cover}
 use Rattle.edges.specs.Drawn.{paired, SettledFor, Loaded}
 use Rattle.edges.specs.Ended.{Goes, Full, Ends}
 use Rattle.edges.specs.Turns.{Facts, Begun, Closed, Advanced, stays, grows}
-use Rattle.edges.proofs.Ends.{joins-within}
-use Rattle.edges.proofs.Kept.{kept-joins}
+use Rattle.rules.proofs.Ends.{joins-within}
+use Rattle.pairs.proofs.KeptPairs.{kept-joins}
 use Rattle.edges.proofs.Supposed.{supposed-joins}
-use Rattle.edges.proofs.Closing.{last-next}
+use Rattle.rules.proofs.Closing.{last-next}
 use Rattle.edges.proofs.Turns.{first-edges, settled-gives, next-edges, writers-noted}
 
 -- a list of 0 holds no pair

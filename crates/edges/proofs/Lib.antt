@@ -1,23 +1,8 @@
-pub mod Kept
+-- Laws of the rounds, for the proofs of functions here and in the crates above.
 pub mod Supposed
-pub mod SourceOf
 pub mod Adds
 pub mod Drawn
 pub mod Turns
 pub mod Ended
 pub mod Answers
-pub mod Orders
-pub mod Sound
-pub mod Rounds
-pub mod Ends
-pub mod Tests
-pub mod Closing
-pub mod Circle
-pub mod Walk
-pub mod Shown
-pub mod ShownCircle
-pub mod Missing
-pub mod Clear
-pub mod Sorted
-pub mod Counter
 pub mod One

@@ -10,7 +10,7 @@ use Rattle.laws.proofs.Tests.{and-iff, same-iff}
 use Rattle.trace.specs.Meaning.{frameOf}
 use Rattle.trace.specs.declared.Trace.{Trace}
 use Rattle.rows.specs.Rows.{bit}
-use Rattle.edges.specs.Rules.{Joins}
+use Rattle.rules.specs.Rules.{Joins}
 use Rattle.edges.specs.Supposed.{supposedOf}
 
 pub supposed-iff : (t : Trace) (rows : List ℕ) (x y : ℕ) → So (supposedOf t rows x y) ↔ ((So (frameOf t .operation x) × So (frameOf t .operation y)) × So (bit rows x y))

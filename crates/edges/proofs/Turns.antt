@@ -17,15 +17,15 @@ use Rattle.laws.proofs.Tests.{and-iff, or-iff, not-iff, same-iff, so-eq, so-lt}
 use Rattle.trace.specs.Bounds.{RECORDS}
 use Rattle.trace.specs.Frame.{Frame, Good, Writer, Source, First}
 use Rattle.rows.specs.Rows.{bit}
-use Rattle.edges.specs.Rules.{Gives, rule1, rule2, rule3, rule4, rule5, rule6, rule7, rule8, Chains, Edge, Within}
-use Rattle.edges.specs.Tests.{writer?}
+use Rattle.rules.specs.Rules.{Gives, rule1, rule2, rule3, rule4, rule5, rule6, rule7, rule8, Chains, Edge, Within}
+use Rattle.rules.specs.Tests.{writer?}
 use Rattle.edges.specs.Adds.{Adds, Only, Union, Cover}
-use Rattle.edges.specs.SourceOf.{sourceOf}
+use Rattle.rules.specs.SourceOf.{sourceOf}
 use Rattle.edges.specs.Drawn.{Valued, readsFirst, ValuedFor, second, third, fourth, fifth, Settled, SettledFor, sixth, seventh}
 use Rattle.edges.specs.Turns.{Facts}
-use Rattle.edges.proofs.Rounds.{edge-next}
-use Rattle.edges.proofs.Tests.{writer-iff}
-use Rattle.edges.proofs.SourceOf.{source-of-is, source-of-has}
+use Rattle.rules.proofs.Rounds.{edge-next}
+use Rattle.rules.proofs.Tests.{writer-iff}
+use Rattle.rules.proofs.SourceOf.{source-of-is, source-of-has}
 
 module _ (f : Frame) (g : Good f) (small : f .records ≤ RECORDS) where
   writer-below : {S L : ℕ} → Writer f S L → S < f .records

@@ -13,9 +13,9 @@ use Rattle.trace.specs.declared.Trace.{Trace}
 use Rattle.rows.specs.Bounds.{CELLS}
 use Rattle.rows.specs.Rows.{bit}
 use Rattle.rows.specs.Empty.{emptyOf}
-use Rattle.edges.specs.Kept.{modelled, keptOf}
+use Rattle.pairs.specs.Kept.{modelled, keptOf}
 use Rattle.edges.specs.Supposed.{supposedOf}
-use Rattle.edges.specs.Closing.{Closing}
+use Rattle.rules.specs.Closing.{Closing}
 use Rattle.edges.specs.Ended.{Full, Ends}
 use Rattle.edges.specs.declared.Forced.{Forced}
 use Rattle.edges.specs.declared.force.Round.{Round}

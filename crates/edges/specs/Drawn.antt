@@ -20,11 +20,11 @@ use Rattle.trace.specs.Bounds.{RECORDS}
 use Rattle.trace.specs.Frame.{Frame}
 use Rattle.trace.specs.declared.Trace.{Trace}
 use Rattle.rows.specs.Rows.{bit}
-use Rattle.edges.specs.Kept.{keptOf}
-use Rattle.edges.specs.Tests.{writer?}
+use Rattle.pairs.specs.Kept.{keptOf}
+use Rattle.rules.specs.Tests.{writer?}
 use Rattle.edges.specs.Adds.{Adds, Only, Union}
 use Rattle.edges.specs.Supposed.{supposedOf}
-use Rattle.edges.specs.SourceOf.{sourceOf}
+use Rattle.rules.specs.SourceOf.{sourceOf}
 
 abbrev pub paired : ℕ → Trace → List ℕ → Table
 paired m t rows x y = keptOf m t x y || supposedOf t rows x y

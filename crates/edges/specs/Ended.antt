@@ -13,7 +13,7 @@ use Rattle.laws.specs.Relation.{Table}
 use Rattle.trace.specs.Frame.{Frame}
 use Rattle.rows.specs.Bounds.{CELLS}
 use Rattle.rows.specs.Rows.{bit, Words}
-use Rattle.edges.specs.Rules.{Chains, Edge, Last}
+use Rattle.rules.specs.Rules.{Chains, Edge, Last}
 
 pub record Goes (f : Frame) (K P : Table) (k : ℕ) : Type 0 where
   pub clear : (x : ℕ) → Chains f K P (suc k) x x → ⊥

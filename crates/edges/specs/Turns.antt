@@ -16,9 +16,9 @@ use Rattle.trace.specs.Bounds.{RECORDS}
 use Rattle.trace.specs.Frame.{Frame, Writer}
 use Rattle.rows.specs.Bounds.{CELLS}
 use Rattle.rows.specs.Rows.{bit, Edges}
-use Rattle.edges.specs.Rules.{Edge}
+use Rattle.rules.specs.Rules.{Edge}
 use Rattle.edges.specs.Adds.{Adds, Union}
-use Rattle.edges.specs.SourceOf.{sourceOf}
+use Rattle.rules.specs.SourceOf.{sourceOf}
 use Rattle.edges.specs.Drawn.{SettledFor}
 use Rattle.edges.specs.Ended.{Full}
 

@@ -22,10 +22,10 @@ use Rattle.trace.specs.Order.{Valid}
 use Rattle.trace.specs.declared.Trace.{Trace}
 use Rattle.trace.proofs.WellFormed.{form-iff}
 use Rattle.trace.proofs.Good.{good}
-use Rattle.edges.specs.Rules.{Within}
-use Rattle.edges.specs.Kept.{modelled, keptOf}
-use Rattle.edges.proofs.Ends.{joins-within}
-use Rattle.edges.proofs.Kept.{kept-joins}
+use Rattle.rules.specs.Rules.{Within}
+use Rattle.pairs.specs.Kept.{modelled, keptOf}
+use Rattle.rules.proofs.Ends.{joins-within}
+use Rattle.pairs.proofs.KeptPairs.{kept-joins}
 use Rattle.orders.specs.Ready.{operations}
 use Rattle.orders.specs.Valid.{valid?}
 use Rattle.orders.specs.Accepted.{Accepted}

@@ -25,12 +25,12 @@ use Rattle.trace.specs.Meaning.{frameOf}
 use Rattle.trace.specs.WellFormed.{wellFormed}
 use Rattle.trace.specs.declared.Trace.{Trace}
 use Rattle.trace.proofs.Good.{good}
-use Rattle.edges.specs.Tests.{source?}
-use Rattle.edges.specs.SourceOf.{sourceOf}
-use Rattle.edges.specs.Missing.{Missing, missing?}
-use Rattle.edges.proofs.Tests.{source-iff}
-use Rattle.edges.proofs.SourceOf.{source-of-is, source-of-has}
-use Rattle.edges.proofs.Missing.{missing-iff}
+use Rattle.rules.specs.Tests.{source?}
+use Rattle.rules.specs.SourceOf.{sourceOf}
+use Rattle.rules.specs.Missing.{Missing, missing?}
+use Rattle.rules.proofs.Tests.{source-iff}
+use Rattle.rules.proofs.SourceOf.{source-of-is, source-of-has}
+use Rattle.rules.proofs.Missing.{missing-iff}
 use Rattle.orders.specs.MissingOf.{found, record?, missingOf}
 use Rattle.orders.specs.declared.sources.Found.{Found}
 use Rattle.orders.specs.declared.sources.Found.the-variants.{At, Nothing}

@@ -33,14 +33,14 @@ use Rattle.laws.proofs.Steps.{steps-at, steps-first, steps-join, steps-same}
 use Rattle.laws.proofs.Prefixes.{pos-in, pos-out}
 use Rattle.trace.specs.Frame.{Frame, Good, Writer, Source}
 use Rattle.trace.specs.Order.{Once, Valid}
-use Rattle.edges.specs.Rules.{Chains, Edge, Held, nothing, Joins}
-use Rattle.edges.specs.Missing.{Sourced}
-use Rattle.edges.specs.Clear.{Clear}
-use Rattle.edges.proofs.Rounds.{step-mono}
-use Rattle.edges.proofs.Ends.{step-joins, chains-ends}
-use Rattle.edges.proofs.Sound.{source-latest, chains-sound, edge-sound, held-sound}
-use Rattle.edges.proofs.Orders.{either}
-use Rattle.edges.proofs.Clear.{clear-valid}
+use Rattle.rules.specs.Rules.{Chains, Edge, Held, nothing, Joins}
+use Rattle.rules.specs.Missing.{Sourced}
+use Rattle.rules.specs.Clear.{Clear}
+use Rattle.rules.proofs.Rounds.{step-mono}
+use Rattle.rules.proofs.Ends.{step-joins, chains-ends}
+use Rattle.rules.proofs.Sound.{source-latest, chains-sound, edge-sound, held-sound}
+use Rattle.rules.proofs.Orders.{either}
+use Rattle.rules.proofs.Clear.{clear-valid}
 use Rattle.orders.specs.Ready.{operations, Ready, Disciplined, Served, Guide}
 use Rattle.orders.proofs.Valid.{at-most-one, operation-there}
 

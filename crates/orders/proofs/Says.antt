@@ -16,13 +16,13 @@ use Rattle.laws.proofs.Lowest.{lowest-one}
 use Rattle.laws.proofs.Dict.{answer-one}
 use Rattle.trace.specs.Frame.{Frame, Good}
 use Rattle.trace.specs.Order.{Sees, nobody, latest, Valid}
-use Rattle.edges.specs.Rules.{nothing, Edge}
-use Rattle.edges.specs.Missing.{Missing, Sourced}
-use Rattle.edges.specs.Circle.{Circle}
-use Rattle.edges.specs.ShownCircle.{Circled}
-use Rattle.edges.proofs.Sound.{contradicted-none}
-use Rattle.edges.proofs.Circle.{circle-chain}
-use Rattle.edges.proofs.ShownCircle.{circled-one}
+use Rattle.rules.specs.Rules.{nothing, Edge}
+use Rattle.rules.specs.Missing.{Missing, Sourced}
+use Rattle.rules.specs.Circle.{Circle}
+use Rattle.rules.specs.ShownCircle.{Circled}
+use Rattle.rules.proofs.Sound.{contradicted-none}
+use Rattle.rules.proofs.Circle.{circle-chain}
+use Rattle.rules.proofs.ShownCircle.{circled-one}
 use Rattle.orders.specs.Verdict.{Verdict, noSource, circle, order, noneLeft, Says, faulty}
 
 module _ (f : Frame) (K : Table) where

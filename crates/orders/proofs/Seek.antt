@@ -23,7 +23,7 @@ use Rattle.laws.proofs.Search.{tried-none, tried-next, tried-some, tried-all, f
 use Rattle.laws.proofs.Steps.{steps-join}
 use Rattle.trace.specs.Frame.{Frame, Good}
 use Rattle.trace.specs.Order.{Valid}
-use Rattle.edges.specs.Missing.{Sourced}
+use Rattle.rules.specs.Missing.{Sourced}
 use Rattle.orders.specs.Ready.{operations, Ready, Disciplined, Guide}
 use Rattle.orders.specs.Stop.{Failed}
 use Rattle.orders.specs.Seek.{Kit, Fits, walk, seek, Dead, Right}

@@ -24,7 +24,7 @@ use Rattle.trace.specs.Op.{fence}
 use Rattle.trace.specs.Trace.{at}
 use Rattle.trace.specs.Meaning.{frameOf}
 use Rattle.trace.specs.declared.Trace.{Trace}
-use Rattle.edges.specs.Tests.{writer?}
+use Rattle.rules.specs.Tests.{writer?}
 use Rattle.orders.specs.Valid.{stands, visible?, seen, valid?}
 use Rattle.orders.specs.Sited.{Sited, SitedFrom, thereAt, keepsAt}
 use Rattle.orders.proofs.Records.{operation-past, operation-at, lt-not-le}

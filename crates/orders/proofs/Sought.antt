@@ -25,14 +25,14 @@ use Rattle.laws.proofs.Places.{count-here}
 use Rattle.laws.proofs.Lowest.{lowest-iff}
 use Rattle.trace.specs.Frame.{Frame, Good, Writer, Source}
 use Rattle.trace.specs.Order.{Valid}
-use Rattle.edges.specs.Rules.{Chains, nothing, Within, Joins}
-use Rattle.edges.specs.Tests.{source?, chains?}
-use Rattle.edges.specs.Missing.{Missing, Sourced, missing?}
-use Rattle.edges.specs.ShownCircle.{Circled, circled?}
-use Rattle.edges.proofs.Ends.{joins-within, chains-within}
-use Rattle.edges.proofs.Tests.{writer-iff, source-iff, chains-iff}
-use Rattle.edges.proofs.Missing.{missing-iff}
-use Rattle.edges.proofs.ShownCircle.{circled-computed}
+use Rattle.rules.specs.Rules.{Chains, nothing, Within, Joins}
+use Rattle.rules.specs.Tests.{source?, chains?}
+use Rattle.rules.specs.Missing.{Missing, Sourced, missing?}
+use Rattle.rules.specs.ShownCircle.{Circled, circled?}
+use Rattle.rules.proofs.Ends.{joins-within, chains-within}
+use Rattle.rules.proofs.Tests.{writer-iff, source-iff, chains-iff}
+use Rattle.rules.proofs.Missing.{missing-iff}
+use Rattle.rules.proofs.ShownCircle.{circled-computed}
 use Rattle.orders.specs.Verdict.{Verdict, noSource, circle, order, noneLeft, Says}
 use Rattle.orders.specs.Ready.{Ready, Disciplined, Guide}
 use Rattle.orders.specs.Stop.{Stop, unread, covered}

@@ -14,12 +14,12 @@ use Rattle.trace.specs.Trace.{first}
 use Rattle.trace.specs.Meaning.{frameOf}
 use Rattle.trace.specs.WellFormed.{bounded, writtenBefore, fresh, follows, isIdle, wellFormed}
 use Rattle.trace.proofs.Good.{good}
-use Rattle.edges.specs.Kept.{SC, TSO, keptBy, fenced, keptOf}
-use Rattle.edges.specs.Tests.{writer?, source?, first?, rules, gives?, step?, chains?}
-use Rattle.edges.specs.Missing.{missing?}
-use Rattle.edges.specs.Walk.{walk?, follow, shown?}
-use Rattle.edges.specs.ShownCircle.{rule?, rulesOf, rounds, circled?}
-use Rattle.edges.proofs.Kept.{kept-joins}
+use Rattle.pairs.specs.Kept.{SC, TSO, keptBy, fenced, keptOf}
+use Rattle.rules.specs.Tests.{writer?, source?, first?, rules, gives?, step?, chains?}
+use Rattle.rules.specs.Missing.{missing?}
+use Rattle.rules.specs.Walk.{walk?, follow, shown?}
+use Rattle.rules.specs.ShownCircle.{rule?, rulesOf, rounds, circled?}
+use Rattle.pairs.proofs.KeptPairs.{kept-joins}
 use Rattle.orders.specs.Verdict.{Verdict}
 use Rattle.orders.specs.Ready.{operations}
 use Rattle.orders.specs.Seek.{walk, seek}

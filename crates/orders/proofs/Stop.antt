@@ -26,7 +26,7 @@ use Rattle.laws.proofs.Steps.{steps-join, steps-same}
 use Rattle.laws.proofs.Prefixes.{first-of}
 use Rattle.trace.specs.Frame.{Frame, Good, Writer, Source}
 use Rattle.trace.specs.Order.{Once, Valid}
-use Rattle.edges.specs.Missing.{Sourced}
+use Rattle.rules.specs.Missing.{Sourced}
 use Rattle.orders.specs.Ready.{Ready, Guide}
 use Rattle.orders.specs.Stop.{Harmless, Stop, unread, covered, Failed}
 use Rattle.orders.proofs.Valid.{at-most-one}

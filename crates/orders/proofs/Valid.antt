@@ -23,10 +23,10 @@ use Rattle.laws.proofs.Places.{pos-inj, pos-at, pos-lt, at-pos, pos-here, pos-l
 use Rattle.laws.proofs.Latest.{latest-of}
 use Rattle.trace.specs.Frame.{Frame, Good}
 use Rattle.trace.specs.Order.{Visible, Sees, nobody, latest, Once, Valid}
-use Rattle.edges.specs.Rules.{Within}
-use Rattle.edges.specs.Tests.{writer?}
-use Rattle.edges.proofs.Tests.{writer-iff}
-use Rattle.edges.proofs.Orders.{placed}
+use Rattle.rules.specs.Rules.{Within}
+use Rattle.rules.specs.Tests.{writer?}
+use Rattle.rules.proofs.Tests.{writer-iff}
+use Rattle.rules.proofs.Orders.{placed}
 use Rattle.orders.specs.Valid.{stands, visible?, seen, valid?}
 
 -- a list in which each place is the first of its number has no number twice

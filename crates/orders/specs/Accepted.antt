@@ -8,7 +8,7 @@ use Rattle.trace.specs.WellFormed.{wellFormed}
 use Rattle.trace.specs.Meaning.{frameOf}
 use Rattle.trace.specs.Order.{Valid}
 use Rattle.trace.specs.declared.Trace.{Trace}
-use Rattle.edges.specs.Kept.{modelled, keptOf}
+use Rattle.pairs.specs.Kept.{modelled, keptOf}
 
 pub record Accepted (t : Trace) (m : ℕ) (xs : List ℕ) : Type 0 where
   pub well : So (wellFormed t)

@@ -10,7 +10,7 @@ use Rattle.laws.specs.Lowest.{lowest}
 use Rattle.trace.specs.WellFormed.{wellFormed}
 use Rattle.trace.specs.Meaning.{frameOf}
 use Rattle.trace.specs.declared.Trace.{Trace}
-use Rattle.edges.specs.Missing.{missing?}
+use Rattle.rules.specs.Missing.{missing?}
 use Rattle.orders.specs.declared.sources.Found.{Found}
 use Rattle.orders.specs.declared.sources.Found.the-variants.{At, Nothing}
 

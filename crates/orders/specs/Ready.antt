@@ -16,7 +16,7 @@ use Rattle.laws.specs.Sums.{sum}
 use Rattle.laws.specs.Steps.{Steps}
 use Rattle.trace.specs.Frame.{Frame, Writer, Source}
 use Rattle.trace.specs.Order.{Valid}
-use Rattle.edges.specs.Rules.{Edge, nothing}
+use Rattle.rules.specs.Rules.{Edge, nothing}
 
 unfoldable pub operations : Frame → ℕ
 operations f = sum (f .records) (λ x. cond (f .operation x) 1 0)

@@ -19,10 +19,10 @@ use Rattle.laws.specs.Places.{count}
 use Rattle.laws.specs.Relation.{Table}
 use Rattle.laws.specs.Lowest.{lowest}
 use Rattle.trace.specs.Frame.{Frame}
-use Rattle.edges.specs.Rules.{nothing}
-use Rattle.edges.specs.Tests.{writer?, source?, chains?}
-use Rattle.edges.specs.Missing.{missing?}
-use Rattle.edges.specs.ShownCircle.{circled?}
+use Rattle.rules.specs.Rules.{nothing}
+use Rattle.rules.specs.Tests.{writer?, source?, chains?}
+use Rattle.rules.specs.Missing.{missing?}
+use Rattle.rules.specs.ShownCircle.{circled?}
 use Rattle.orders.specs.Verdict.{Verdict, noSource, circle, order, noneLeft}
 use Rattle.orders.specs.Ready.{operations}
 use Rattle.orders.specs.Seek.{Kit, seek}

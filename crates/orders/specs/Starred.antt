@@ -16,7 +16,7 @@ use Rattle.trace.specs.declared.Op.{Op}
 use Rattle.trace.specs.declared.Op.the-variants.{Load, Store, Swap, Fence}
 use Rattle.trace.specs.declared.Record.{Record}
 use Rattle.trace.specs.declared.Trace.{Trace}
-use Rattle.edges.specs.Kept.{SC, TSO, keptOf}
+use Rattle.pairs.specs.Kept.{SC, TSO, keptOf}
 use Rattle.orders.specs.Verdict.{Verdict, noSource, circle, order, noneLeft, Says}
 
 unfoldable pub places : List Op → List Record

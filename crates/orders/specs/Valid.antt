@@ -14,7 +14,7 @@ use Rattle.laws.specs.Relation.{Table}
 use Rattle.laws.specs.Places.{pos}
 use Rattle.laws.specs.Latest.{lastOf}
 use Rattle.trace.specs.Frame.{Frame}
-use Rattle.edges.specs.Tests.{writer?}
+use Rattle.rules.specs.Tests.{writer?}
 
 unfoldable pub stands : Frame → List ℕ → ℕ → Bool
 stands f xs i = f .operation (getD xs i 0) && eqb (pos xs (getD xs i 0)) i

@@ -12,8 +12,8 @@ use Rattle.laws.specs.Dict.{Least}
 use Rattle.laws.specs.Lowest.{Lowest}
 use Rattle.trace.specs.Frame.{Frame}
 use Rattle.trace.specs.Order.{Valid}
-use Rattle.edges.specs.Missing.{Missing, Sourced}
-use Rattle.edges.specs.ShownCircle.{Circled}
+use Rattle.rules.specs.Missing.{Missing, Sourced}
+use Rattle.rules.specs.ShownCircle.{Circled}
 
 pub data Verdict : Type 0 where
   noSource : ℕ → Verdict

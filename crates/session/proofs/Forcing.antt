@@ -31,17 +31,17 @@ use Rattle.rows.specs.Empty.{emptyOf}
 use Rattle.rows.specs.Put.{putOf}
 use Rattle.rows.proofs.Pair.{put-iff, put-long}
 use Rattle.rows.proofs.Whole.{empty-bit, empty-long}
-use Rattle.edges.specs.Rules.{Joins, Within, Held}
-use Rattle.edges.specs.Kept.{modelled, keptOf}
+use Rattle.rules.specs.Rules.{Joins, Within, Held}
+use Rattle.pairs.specs.Kept.{modelled, keptOf}
 use Rattle.edges.specs.Supposed.{supposedOf}
-use Rattle.edges.specs.Closing.{Closing, contradicted?, held?}
+use Rattle.rules.specs.Closing.{Closing, contradicted?, held?}
 use Rattle.edges.specs.Answers.{answered, Forces}
 use Rattle.edges.specs.declared.Forced.{Forced}
 use Rattle.edges.proofs.Supposed.{supposed-iff}
-use Rattle.edges.proofs.Kept.{kept-joins}
-use Rattle.edges.proofs.Ends.{joins-within, held-joins}
+use Rattle.pairs.proofs.KeptPairs.{kept-joins}
+use Rattle.rules.proofs.Ends.{joins-within, held-joins}
 use Rattle.edges.proofs.Ended.{kept-within}
-use Rattle.edges.proofs.Closing.{closing-one, closing-computed}
+use Rattle.rules.proofs.Closing.{closing-one, closing-computed}
 use Rattle.session.specs.Stack.{unused, supposable, Allowed, among, drawn}
 use Rattle.session.specs.Filled.{filled}
 use Rattle.session.specs.Session.{afresh}

@@ -27,9 +27,9 @@ use Rattle.trace.proofs.Good.{good}
 use Rattle.trace.proofs.Growth.{empty-well}
 use Rattle.trace.proofs.Meaning.{reads-iff}
 use Rattle.trace.proofs.WellFormed.{form-iff}
-use Rattle.edges.specs.Missing.{Missing, Sourced, missing?}
-use Rattle.edges.specs.Kept.{SC, modelled}
-use Rattle.edges.proofs.Missing.{missing-iff}
+use Rattle.rules.specs.Missing.{Missing, Sourced, missing?}
+use Rattle.pairs.specs.Kept.{SC, modelled}
+use Rattle.rules.proofs.Missing.{missing-iff}
 use Rattle.session.specs.Opening.{missingOf, openingOf, isDone, openable}
 use Rattle.session.specs.declared.Reason.the-variants.{NoModel, NotWellFormed}
 use Rattle.session.specs.declared.Answer.{Answer}

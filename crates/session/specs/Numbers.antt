@@ -15,8 +15,8 @@ use Prim.Native.Nat.{ℕ, _≤_}
 use Rattle.trace.specs.WellFormed.{wellFormed}
 use Rattle.trace.specs.Meaning.{frameOf}
 use Rattle.trace.specs.declared.Trace.{Trace}
-use Rattle.edges.specs.Missing.{Missing}
-use Rattle.edges.specs.Kept.{modelled}
+use Rattle.rules.specs.Missing.{Missing}
+use Rattle.pairs.specs.Kept.{modelled}
 use Rattle.session.specs.Bounds.{PAIRS}
 use Rattle.session.specs.Session.{Intact}
 use Rattle.session.specs.Entries.{openOf, supposeOf, takeBackOf, askOf}

@@ -13,8 +13,8 @@ use Rattle.trace.specs.Bounds.{RECORDS}
 use Rattle.trace.specs.WellFormed.{wellFormed}
 use Rattle.trace.specs.Meaning.{frameOf}
 use Rattle.trace.specs.declared.Trace.{Trace}
-use Rattle.edges.specs.Missing.{missing?}
-use Rattle.edges.specs.Kept.{modelled}
+use Rattle.rules.specs.Missing.{missing?}
+use Rattle.pairs.specs.Kept.{modelled}
 use Rattle.session.specs.declared.Reason.the-variants.{NoModel, NotWellFormed}
 use Rattle.session.specs.declared.Answer.{Answer}
 use Rattle.session.specs.declared.Answer.the-variants.{Done, Held, NotHeld, Contradicted, NoSource, Refused}

@@ -1,6 +1,6 @@
 -- `rule::begins`: the parts of the definition, joined.
 use Rattle.trace.specs.Meaning.{frameOf}
-use Rattle.edges.specs.Tests.{first?}
+use Rattle.rules.specs.Tests.{first?}
 use borrow.Author.Needs.{needs}
 use Rattle.circle.proofs.rule.begins.Statement.{statement}
 use Rattle.circle.proofs.rule.begins.Tie as tie

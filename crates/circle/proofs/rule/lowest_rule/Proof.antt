@@ -5,10 +5,10 @@ use Prim.Native.Nat.{ℕ}
 use borrow.Author.Needs.{needs}
 use Rattle.trace.specs.Meaning.{frameOf}
 use Rattle.rows.specs.Rows.{bit}
-use Rattle.edges.specs.Kept.{keptOf}
-use Rattle.edges.specs.Rules.{nothing}
-use Rattle.edges.specs.Tests.{rules, gives?}
-use Rattle.edges.specs.ShownCircle.{rule?}
+use Rattle.pairs.specs.Kept.{keptOf}
+use Rattle.rules.specs.Rules.{nothing}
+use Rattle.rules.specs.Tests.{rules, gives?}
+use Rattle.rules.specs.ShownCircle.{rule?}
 use Rattle.circle.proofs.Picked.{lowestFrom, lowest-here, lowest-next, lowest-none, rule-from}
 use Rattle.circle.proofs.rule.lowest_rule.Statement.{statement}
 use Rattle.circle.proofs.rule.lowest_rule.Tie as tie

@@ -1,6 +1,6 @@
 -- `rule::source`: the parts of the definition, joined.
 use Rattle.trace.specs.Meaning.{frameOf}
-use Rattle.edges.specs.Tests.{source?}
+use Rattle.rules.specs.Tests.{source?}
 use borrow.Author.Needs.{needs}
 use Rattle.circle.proofs.rule.source.Statement.{statement}
 use Rattle.circle.proofs.rule.source.Tie as tie

@@ -1,6 +1,6 @@
 -- `rule::writer`: the parts of the definition, joined.
 use Rattle.trace.specs.Meaning.{frameOf}
-use Rattle.edges.specs.Tests.{writer?}
+use Rattle.rules.specs.Tests.{writer?}
 use borrow.Author.Needs.{needs}
 use Rattle.circle.proofs.rule.writer.Statement.{statement}
 use Rattle.circle.proofs.rule.writer.Tie as tie

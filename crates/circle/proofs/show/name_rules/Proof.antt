@@ -6,10 +6,10 @@ use lib.ListN.{length, getD, take}
 use lib.Seq.{getD-take}
 use Rattle.trace.specs.Meaning.{frameOf}
 use Rattle.rows.specs.Rows.{bit}
-use Rattle.edges.specs.Kept.{keptOf}
-use Rattle.edges.specs.Rules.{nothing}
-use Rattle.edges.specs.Circle.{after}
-use Rattle.edges.specs.ShownCircle.{rule?}
+use Rattle.pairs.specs.Kept.{keptOf}
+use Rattle.rules.specs.Rules.{nothing}
+use Rattle.rules.specs.Circle.{after}
+use Rattle.rules.specs.ShownCircle.{rule?}
 use Rattle.circle.specs.Named.{Named}
 use Rattle.circle.proofs.Named.{named-none, named-more}
 use borrow.Author.Needs.{needs}

@@ -3,7 +3,7 @@ use mathlib.Core.Path.{_≡_, refl, sym, _∙_}
 use Prim.Native.Nat.{_≤_, _-_}
 use native.Mathlib.Omega.{arith}
 use Rattle.laws.specs.Tests.{any}
-use Rattle.edges.specs.Kept.{fenced}
+use Rattle.pairs.specs.Kept.{fenced}
 use Rattle.edges.specs.Adds.{Adds, Only, Union}
 use Rattle.edges.specs.Drawn.{paired}
 use Rattle.edges.proofs.Adds.{adds-only, union-none, union-more}

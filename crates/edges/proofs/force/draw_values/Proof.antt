@@ -5,7 +5,7 @@ use Prim.Native.Nat.{_<_, _≤_, _-_}
 use native.Mathlib.Omega.{arith}
 use Rattle.trace.specs.Bounds.{RECORDS}
 use Rattle.trace.specs.Meaning.{frameOf}
-use Rattle.edges.specs.Tests.{writer?}
+use Rattle.rules.specs.Tests.{writer?}
 use Rattle.edges.specs.Adds.{Adds, Only, Union}
 use Rattle.edges.specs.Drawn.{ValuedFor, Loaded}
 use Rattle.edges.proofs.Drawn.{reads-at, loaded-none, loaded-more, loaded-skip}

@@ -7,7 +7,7 @@ use Rattle.trace.specs.Bounds.{RECORDS}
 use Rattle.trace.specs.Trace.{first}
 use Rattle.trace.specs.Meaning.{frameOf}
 use Rattle.rows.specs.Put.{putOf}
-use Rattle.edges.specs.Tests.{writer?}
+use Rattle.rules.specs.Tests.{writer?}
 use Rattle.edges.specs.Adds.{Adds, Only, Union}
 use Rattle.edges.specs.Drawn.{Valued, ValuedFor}
 use Rattle.edges.proofs.Adds.{union-none, union-more, union-skip}

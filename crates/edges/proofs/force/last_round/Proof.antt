@@ -3,7 +3,7 @@ use mathlib.Core.Path.{_≡_, refl, sym, ap₂, _∙_}
 use mathlib.Core.Bool.{true, false, So, _&&_}
 use Rattle.laws.proofs.Tests.{and-iff, same-iff}
 use Rattle.trace.specs.WellFormed.{wellFormed}
-use Rattle.edges.specs.Kept.{modelled}
+use Rattle.pairs.specs.Kept.{modelled}
 use Rattle.edges.proofs.Answers.{rounded-some, rounded-none}
 use borrow.Author.Needs.{needs}
 use Rattle.edges.proofs.force.last_round.Statement.{statement}

@@ -14,7 +14,7 @@ use Rattle.trace.proofs.WellFormed.{form-iff}
 use Rattle.trace.proofs.Good.{good}
 use Rattle.rows.specs.Bounds.{CELLS}
 use Rattle.rows.specs.Rows.{bit}
-use Rattle.edges.specs.Kept.{keptOf}
+use Rattle.pairs.specs.Kept.{keptOf}
 use Rattle.edges.specs.Supposed.{supposedOf}
 use Rattle.edges.specs.Turns.{Closed, Facts}
 use Rattle.edges.proofs.Ended.{kept-within, supposed-within, stayed, grown, fewer, turns, Stands, stands-first, stands-next, ended-circle, ended-last}

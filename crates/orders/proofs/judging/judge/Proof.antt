@@ -4,7 +4,7 @@ use mathlib.Core.Bool.{true, false, So, _&&_}
 use borrow.Author.Tests.{not-true, not-false}
 use Rattle.laws.proofs.Tests.{and-iff, same-iff}
 use Rattle.trace.specs.WellFormed.{wellFormed}
-use Rattle.edges.specs.Kept.{modelled}
+use Rattle.pairs.specs.Kept.{modelled}
 use Rattle.orders.proofs.Accepted.{well-fits, accepted-long, accepted-bad, accepted-valid}
 use borrow.Author.Needs.{needs}
 use Rattle.orders.proofs.judging.judge.Statement.{statement}

@@ -6,7 +6,7 @@ use native.Mathlib.Omega.{arith}
 use borrow.Author.Tests.{not-true, not-false}
 use Rattle.laws.specs.Tests.{all}
 use Rattle.laws.proofs.Loops.{all-more, all-stops, all-fewer}
-use Rattle.edges.specs.Kept.{keptOf}
+use Rattle.pairs.specs.Kept.{keptOf}
 use Rattle.orders.specs.Sited.{keepsFrom}
 use borrow.Author.Needs.{needs}
 use Rattle.orders.proofs.judging.keeps.Statement.{statement}

@@ -9,7 +9,7 @@ use lib.Dec.{ltb}
 use lib.ListN.{getD}
 use Rattle.laws.specs.Tests.{_⇒_, all}
 use Rattle.laws.proofs.Loops.{all-more, all-stops, all-fewer}
-use Rattle.edges.specs.Kept.{keptOf}
+use Rattle.pairs.specs.Kept.{keptOf}
 use Rattle.orders.proofs.Records.{imp-fails, imp-idle, imp-passes}
 use borrow.Author.Needs.{needs}
 use Rattle.orders.proofs.judging.keeps_from.Statement.{statement}

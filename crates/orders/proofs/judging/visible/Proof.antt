@@ -1,6 +1,6 @@
 -- `orders::judging::visible`: the parts of the test, joined.
 use Rattle.trace.specs.Meaning.{frameOf}
-use Rattle.edges.specs.Tests.{writer?}
+use Rattle.rules.specs.Tests.{writer?}
 use borrow.Author.Needs.{needs}
 use Rattle.orders.proofs.judging.visible.Statement.{statement}
 use Rattle.orders.proofs.judging.visible.Tie as tie

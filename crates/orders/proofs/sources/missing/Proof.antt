@@ -6,7 +6,7 @@ use borrow.Author.Tests.{not-true, not-false}
 use Rattle.laws.proofs.LowestLoops.{NoneBelow, none-below, more-below}
 use Rattle.trace.specs.WellFormed.{wellFormed}
 use Rattle.trace.specs.Meaning.{frameOf}
-use Rattle.edges.specs.Missing.{missing?}
+use Rattle.rules.specs.Missing.{missing?}
 use Rattle.orders.proofs.MissingOf.{unformed, found-at, found-none}
 use borrow.Author.Needs.{needs}
 use Rattle.orders.proofs.sources.missing.Statement.{statement}

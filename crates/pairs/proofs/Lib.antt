@@ -1,0 +1,3 @@
+-- Laws of kept pairs, for the crates above.
+pub mod KeptPairs
+pub mod One

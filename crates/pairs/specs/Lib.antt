@@ -1,0 +1,2 @@
+-- Which pairs of a trace a model keeps.
+pub mod Kept

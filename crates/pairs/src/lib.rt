@@ -1,0 +1,157 @@
+// Which pairs of a trace a model keeps, and from whom its loads and swaps read.
+ghost use mathlib.Core.Path.{_≡_};
+ghost use Rattle.trace.specs.Trace.{at};
+ghost use Rattle.trace.specs.Meaning.{frameOf};
+ghost use Rattle.pairs.specs.Kept.{modelled, kindOf, keptBy, keptPair, fenced, keptOf};
+ghost use Rattle.rules.specs.SourceOf.{readsFrom, sourceOf};
+use trace::Op;
+use trace::RECORDS;
+use trace::Trace;
+use trace::first;
+
+// Models are numbered from 1 to this: 1 is SC, 2 is TSO.
+pub const MODELS: u8 = 2;
+
+// How many kinds of records there are: 0 load, 1 store, 2 swap, 3 fence.
+pub const KINDS: u8 = 4;
+
+// Whether a model keeps a pair without a fence between: by model, kind of the first and kind of the second. Model 0 does not exist.
+const KEPT: [[[bool; 4]; 4]; 3] = [
+    [
+        [false, false, false, false],
+        [false, false, false, false],
+        [false, false, false, false],
+        [false, false, false, false],
+    ],
+    [
+        [true, true, true, false], // SC, a load first
+        [true, true, true, false], // SC, a store first
+        [true, true, true, false], // SC, a swap first
+        [false, false, false, false], // SC, a fence
+    ],
+    [
+        [true, true, true, false], // TSO, a load first
+        [false, true, true, false], // TSO, a store first
+        [true, true, true, false], // TSO, a swap first
+        [false, false, false, false], // TSO, a fence
+    ],
+];
+
+// Whether there is a model of this number.
+pub fn modelled(model: u8) -> bool
+    ensures { λ r. ⌜ r ≡ modelled model ⌝ }
+{
+    (0 < model) & (model <= MODELS)
+}
+
+// The kind of a record.
+pub fn kind(op: Op) -> u8
+    ensures { λ r. ⌜ r ≡ kindOf op ⌝ }
+{
+    match op {
+        Op::Load { .. } => 0,
+        Op::Store { .. } => 1,
+        Op::Swap { .. } => 2,
+        Op::Fence { .. } => 3,
+    }
+}
+
+// Whether a model keeps a pair of these kinds without a fence between; a model or a kind that does not exist keeps nothing.
+pub fn kept_by(model: u8, first: u8, second: u8) -> bool
+    ensures { λ r. ⌜ r ≡ keptBy model first second ⌝ }
+{
+    if model <= MODELS {
+        if first < KINDS {
+            if second < KINDS {
+                let m = model as usize;
+                let a = first as usize;
+                let b = second as usize;
+                return KEPT[m][a][b];
+            }
+        }
+    }
+    false
+}
+
+// What stands at a place of a trace; past its end, what the language has there.
+pub fn op_at(t: Trace, i: usize) -> Op
+    ensures { λ r. ⌜ r ≡ at t i ⌝ }
+{
+    if i < RECORDS {
+        let record = t.records[i];
+        return record.op;
+    }
+    Op::Load {
+        thread: 0,
+        addr: 0,
+        read: 0,
+    }
+}
+
+// Whether a fence of the first one's thread stands between two records.
+pub fn fenced(t: Trace, x: usize, y: usize) -> bool
+    ensures { λ r. ⌜ r ≡ fenced t x y ⌝ }
+{
+    let thread = op_at(t, x).thread();
+    let mut i = 0;
+    while i < y {
+        if RECORDS <= i {
+            return false;
+        }
+        let record = t.records[i];
+        let op = record.op;
+        if op.fence() & (x < i) & (op.thread() == thread) {
+            return true;
+        }
+        i += 1;
+    }
+    false
+}
+
+// Whether a model keeps a pair of records, told whether the second is later and whether a fence stands between.
+pub fn kept_pair(model: u8, a: Op, b: Op, later: bool, fenced: bool) -> bool
+    ensures { λ r. ⌜ r ≡ keptPair model a b later fenced ⌝ }
+{
+    let near = later & (a.thread() == b.thread());
+    let across = modelled(model) & !a.fence() & !b.fence() & fenced;
+    near & (kept_by(model, kind(a), kind(b)) | across)
+}
+
+// Whether a model keeps the pair x, y of a trace.
+pub fn kept(t: Trace, model: u8, x: usize, y: usize) -> bool
+    ensures { λ r. ⌜ r ≡ keptOf model t x y ⌝ }
+{
+    let n = t.len;
+    let later = (x < y) & (y < n);
+    kept_pair(model, op_at(t, x), op_at(t, y), later, fenced(t, x, y))
+}
+
+// Whether the second record reads what the first wrote, and not what its address began with.
+fn reads_from(a: Op, b: Op, begins: u16) -> bool
+    ensures { λ r. ⌜ r ≡ readsFrom a b begins ⌝ }
+{
+    let there = a.writes() & (a.address() == b.address()) & b.reads();
+    there & (b.read() == a.written()) & (b.read() != begins)
+}
+
+// The record that a load or swap reads from, RECORDS where there is none; of several, which a well formed trace does not have, the lowest.
+pub fn source_of(t: Trace, load: usize) -> usize
+    ensures { λ r. ⌜ r ≡ sourceOf (frameOf t) load ⌝ }
+{
+    let n = t.len;
+    let b = op_at(t, load);
+    if !b.reads() {
+        return RECORDS;
+    }
+    let begins = first(t, b.address());
+    let mut i: usize = 0;
+    while i < RECORDS {
+        let record = t.records[i];
+        let a = record.op;
+        if (i < n) & (load < n) & (i != load) & reads_from(a, b, begins) {
+            return i;
+        }
+        i += 1;
+    }
+    RECORDS
+}
