@@ -9,7 +9,7 @@
 --   circle-of-one  == no second answer fits
 use mathlib.Core.Path.{_≡_, refl, sym, ap, ap₂, _∙_, subst}
 use mathlib.Core.Logic.{inl, inr, _↔_}
-use mathlib.Core.Bool.{Bool, true, false, So, _&&_, false≢true}
+use mathlib.Core.Bool.{Bool, true, false, So, false≢true}
 use mathlib.Core.List.{List, [], _∷_}
 use mathlib.Core.Option.{Option, none, some, Option·some-injective}
 use Prim.Native.Nat.{ℕ, zero, suc, _≤_, _<_}
@@ -31,7 +31,7 @@ use Rattle.pairs.specs.Kept.{modelled, keptOf}
 use Rattle.rules.specs.Rules.{Edge, nothing}
 use Rattle.edges.specs.Supposed.{supposedOf}
 use Rattle.rules.specs.Circle.{Run, Circle as Ring, Shown, after}
-use Rattle.rules.specs.ShownCircle.{Ruled, ShownCircle, Circled}
+use Rattle.rules.specs.ShownCircle.{Circled}
 use Rattle.edges.specs.Ended.{Ends}
 use Rattle.circle.specs.ShownIn.{circleOf, ShownIn}
 use Rattle.circle.specs.Named.{Named}

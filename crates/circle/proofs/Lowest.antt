@@ -2,9 +2,9 @@
 --
 --   lowest-found, lowest-past == the first that is of the kind; none is
 --   lowest-some               == where one is, the lowest is found
-use mathlib.Core.Path.{_≡_, refl}
+use mathlib.Core.Path.{_≡_}
 use mathlib.Core.Option.{some}
-use Prim.Native.Nat.{ℕ, _≤_, _<_}
+use Prim.Native.Nat.{ℕ, _<_}
 use native.Mathlib.Decide.{decLe}
 use native.Mathlib.Omega.{arith}
 use Rattle.laws.specs.Lowest.{Lowest}

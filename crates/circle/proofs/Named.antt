@@ -2,7 +2,7 @@
 --
 --   named-none, named-more == before the first place, and one place more
 --   after-next, after-last == what follows a place of a circle that a buffer begins with
-use mathlib.Core.Path.{_≡_, refl, sym, ap, _∙_}
+use mathlib.Core.Path.{_≡_, refl, _∙_}
 use mathlib.Core.List.{List, [], _∷_}
 use Prim.Native.Nat.{ℕ, zero, suc, _+_, _≤_, _<_}
 use native.Mathlib.Numerals.{add-one}

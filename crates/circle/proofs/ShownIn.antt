@@ -6,7 +6,7 @@
 --   shown-laid    == the walk that was laid is the circle shown
 --   same-used     == two buffers that agree where they are used, and elsewhere too
 --   shown-in-one  == no second answer fits
-use mathlib.Core.Path.{_≡_, refl, sym, ap, _∙_, subst}
+use mathlib.Core.Path.{_≡_, refl, sym, ap, _∙_}
 use mathlib.Core.Logic.{_≢_, _⊎_, inl, inr}
 use mathlib.Core.List.{List}
 use mathlib.Core.Option.{Option, none, some, Option·some-injective}

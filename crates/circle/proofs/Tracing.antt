@@ -4,7 +4,7 @@
 --   trace-first, trace-next == the start; and one place more, by the lowest step
 --   trace-lowest            == the step that rows of what is reached give is the lowest that leads back in time
 --   traced                  == all places are laid
-use mathlib.Core.Path.{_≡_, refl, sym, _∙_, subst}
+use mathlib.Core.Path.{_≡_, _∙_, subst}
 use mathlib.Core.Logic.{_≢_, inl, inr}
 use mathlib.Core.List.{List}
 use mathlib.Core.Option.{some}

@@ -2,7 +2,7 @@
 --
 --   alike-iff == two lists of numbers
 --   beq-iff   == two truth values
-use mathlib.Core.Path.{_≡_, refl, sym, ap, subst}
+use mathlib.Core.Path.{_≡_, refl, sym, ap}
 use mathlib.Core.Logic.{_↔_}
 use mathlib.Core.Bool.{Bool, true, false, So, Bool·beq, false≢true}
 use mathlib.Core.List.{List}

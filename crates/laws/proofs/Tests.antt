@@ -7,7 +7,7 @@
 --   eq?, three, last?           == cases on numbers
 --   so-all, so-any              == the tests over all numbers below a bound
 --   all-iff, any-iff            == the same over a test whose meaning is known
-use mathlib.Core.Path.{_≡_, refl, sym, ap, _∙_}
+use mathlib.Core.Path.{_≡_, refl, sym, _∙_}
 use mathlib.Core.Logic.{_≢_, _↔_, _⊎_, inl, inr}
 use mathlib.Core.Bool.{Bool, true, false, not, _&&_, _||_, So, false≢true}
 use Prim.Native.Nat.{ℕ, zero, suc, _≤_, _<_}

@@ -17,7 +17,7 @@ use Rattle.laws.proofs.Dict.{answer-one}
 use Rattle.trace.specs.Frame.{Frame, Good}
 use Rattle.trace.specs.Order.{Sees, nobody, latest, Valid}
 use Rattle.rules.specs.Rules.{nothing, Edge}
-use Rattle.rules.specs.Missing.{Missing, Sourced}
+use Rattle.rules.specs.Missing.{Missing}
 use Rattle.rules.specs.Circle.{Circle}
 use Rattle.rules.specs.ShownCircle.{Circled}
 use Rattle.rules.proofs.Sound.{contradicted-none}

@@ -5,12 +5,11 @@
 --   visible-iff                  == `visible?` is whom a load's value is taken from
 --   sees-one, seen-sees          == a load sees one value, and `seen` is it
 --   valid-iff                    == `valid?` says so
-use mathlib.Core.Path.{_≡_, refl, sym, ap, _∙_, subst}
+use mathlib.Core.Path.{_≡_, sym, ap, _∙_, subst}
 use mathlib.Core.Logic.{_≢_, inl, inr, _↔_}
 use mathlib.Core.Bool.{false, cond, So, _&&_, _||_, false≢true}
 use mathlib.Core.List.{List, [], _∷_}
 use Prim.Native.Nat.{ℕ, suc, _≤_, _<_}
-use native.Mathlib.Nat.{not-suc-le-zero}
 use native.Mathlib.Omega.{arith}
 use lib.Dec.{ltb}
 use lib.ListN.{length, getD}
@@ -18,7 +17,7 @@ use Rattle.laws.specs.Tests.{all, _⇒_}
 use Rattle.laws.specs.Places.{pos, count, Before}
 use Rattle.laws.specs.Relation.{Table}
 use Rattle.laws.specs.Latest.{Latest, nobody-yet, at}
-use Rattle.laws.proofs.Tests.{and-iff, or-iff, imp-iff, same-iff, all-iff, so-all, so-eq, so-lt, test, eq?}
+use Rattle.laws.proofs.Tests.{and-iff, or-iff, imp-iff, same-iff, all-iff, so-eq, so-lt, test, eq?}
 use Rattle.laws.proofs.Places.{pos-inj, pos-at, pos-lt, at-pos, pos-here, pos-later, count-at, count-here, count-later}
 use Rattle.laws.proofs.Latest.{latest-of}
 use Rattle.trace.specs.Frame.{Frame, Good}

@@ -6,7 +6,7 @@
 --   Holds c    == the trace of the case is well formed, and its verdicts are those that the case has
 use mathlib.Core.Bool.{So}
 use mathlib.Core.List.{List, [], _∷_, _++_}
-use Prim.Native.Nat.{ℕ, _-_}
+use Prim.Native.Nat.{_-_}
 use lib.ListN.{length, replicate}
 use Rattle.trace.specs.Bounds.{RECORDS}
 use Rattle.trace.specs.Trace.{idle}

@@ -11,11 +11,11 @@
 --   sc-keeps, tso-keeps                  == SC keeps program order; TSO too, but for what it lets off
 use mathlib.Core.Path.{_≡_, refl}
 use mathlib.Core.Logic.{_↔_, _⊎_, inl, inr}
-use mathlib.Core.Bool.{Bool, true, false, So, not, _&&_, _||_, false≢true, Bool·beq}
+use mathlib.Core.Bool.{Bool, true, false, So, not, _&&_, false≢true, Bool·beq}
 use mathlib.Core.List.{List, []}
 use Prim.Native.Nat.{ℕ, suc, _<_, _≤_}
 use native.Mathlib.Omega.{arith}
-use lib.Dec.{eqb, ltb}
+use lib.Dec.{ltb}
 use lib.ListN.{getD}
 use Rattle.laws.specs.Tests.{all}
 use Rattle.laws.proofs.Tests.{and-iff, or-iff, not-iff, same-iff, so-all, any-iff, so-eq, so-lt, so-le, so-not, test, test-one}

@@ -6,7 +6,7 @@
 use mathlib.Core.Path.{_≡_, refl, sym, ap, _∙_}
 use mathlib.Core.Bool.{So}
 use mathlib.Core.Logic.{inl, inr}
-use Prim.Native.Nat.{ℕ, _<_, _≤_, min}
+use Prim.Native.Nat.{ℕ, _<_, _≤_}
 use native.Mathlib.Omega.{arith}
 use native.Mathlib.Decide.{decLt}
 use lib.Dec.{ltb}
@@ -16,7 +16,7 @@ use Rattle.trace.specs.Bounds.{THREADS, ADDRESSES, VALUES}
 use Rattle.trace.specs.declared.Trace.{Trace}
 use Rattle.text.specs.Number.{cut}
 use Rattle.reader.specs.Form.{cutRaw, cutForm}
-use Rattle.reader.specs.Answer.{inBounds, oneAddress, checked, checkedForm}
+use Rattle.reader.specs.Answer.{inBounds, checked, checkedForm}
 use Rattle.reader.specs.declared.Raw.{Raw}
 use Rattle.reader.specs.declared.Raw.the-variants.{Load, Store, Swap, Fence}
 use Rattle.reader.specs.declared.Form.{Form}

@@ -1,9 +1,9 @@
 -- The answers of `joined`, in the order of their numbers.
 --
 --   joined-first, joined-many, joined-twice, joined-new, joined-plain == each with the tests that lead to it
-use mathlib.Core.Path.{_≡_, refl, sym, ap, _∙_}
+use mathlib.Core.Path.{_≡_}
 use mathlib.Core.Bool.{true, false, _&&_}
-use Prim.Native.Nat.{ℕ, _<_, _≤_}
+use Prim.Native.Nat.{_<_, _≤_}
 use lib.Dec.{eqb}
 use borrow.Author.Tests.{le-leb, lt-leb}
 use Rattle.trace.specs.Bounds.{RECORDS}

@@ -2,8 +2,8 @@
 --
 --   read-taken, bad-taken     == a line that is taken leaves the answer to the lines behind it
 --   read-refused, bad-refused == a line that is refused ends it
-use mathlib.Core.Path.{_≡_, refl, sym, ap}
-use mathlib.Core.List.{List, [], _∷_}
+use mathlib.Core.Path.{_≡_, ap}
+use mathlib.Core.List.{List, _∷_}
 use Prim.Native.Nat.{ℕ, _+_}
 use Rattle.trace.specs.Trace.{pushed}
 use Rattle.trace.specs.declared.Op.{Op}

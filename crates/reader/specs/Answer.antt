@@ -7,7 +7,7 @@
 --   joined t o       == a record of good numbers behind the trace so far: taken, or why not (6, 7, 8)
 --   checked t raw    == a raw record behind the trace so far (4 to 8)
 --   turned t l       == a line behind the trace so far (2 to 8); the lowest number that applies
-use mathlib.Core.Bool.{Bool, true, _&&_, not, cond}
+use mathlib.Core.Bool.{Bool, true, _&&_, cond}
 use Prim.Native.Nat.{ℕ}
 use lib.Dec.{eqb, ltb, leb}
 use lib.ListN.{length}

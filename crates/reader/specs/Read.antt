@@ -8,7 +8,7 @@
 --   renderTrace t          == the text of a trace
 use mathlib.Core.Bool.{cond}
 use mathlib.Core.List.{List, [], _∷_, _++_}
-use Prim.Native.Nat.{ℕ, zero, suc, _+_}
+use Prim.Native.Nat.{ℕ, _+_}
 use lib.Dec.{ltb}
 use lib.ListN.{length, take}
 use Rattle.trace.specs.Trace.{empty, pushed}
@@ -23,7 +23,6 @@ use Rattle.reader.specs.declared.Reason.{Reason}
 use Rattle.reader.specs.declared.Reason.the-variants.{LongText}
 use Rattle.reader.specs.declared.Turn.{Turn}
 use Rattle.reader.specs.declared.Turn.the-variants as turn
-use Rattle.reader.specs.declared.Answer.{Answer}
 use Rattle.reader.specs.declared.Answer.the-variants.{Good, Refused}
 use Rattle.reader.specs.declared.Reading.{Reading}
 

@@ -8,12 +8,12 @@
 --   isDigitClass k  == k is the class of digits
 --   digit-class     == that class is given exactly to digits
 use mathlib.Core.Path.{_≡_, refl, sym, ap, _∙_}
-use mathlib.Core.Logic.{_⊎_, inl, inr, _↔_}
+use mathlib.Core.Logic.{_⊎_, inl, inr}
 use mathlib.Core.Bool.{Bool, true, false, _&&_, _||_, not, So, cond}
 use Prim.Native.Nat.{ℕ, zero, suc, _<_, _≤_}
 use lib.Dec.{eqb, leb, ltb}
 use Rattle.laws.specs.Tests.{_⇒_, all}
-use Rattle.laws.proofs.Tests.{and-iff, or-iff, not-iff, same-iff, imp-iff, so-all, so-eq, so-le, so-lt, off}
+use Rattle.laws.proofs.Tests.{and-iff, or-iff, not-iff, same-iff, imp-iff, so-all, so-eq, so-le, so-lt}
 use Rattle.text.specs.Class.{classOf, within, isMark}
 use Rattle.text.specs.Number.{isDigit}
 use Rattle.text.specs.declared.Class.{Class}

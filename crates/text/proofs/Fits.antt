@@ -21,7 +21,6 @@ use lib.Seq.{drop-cons, drop-drop, sets, getD-set-other, getD-set-same}
 use Rattle.laws.proofs.Tests.{eq?}
 use Rattle.text.specs.Number.{digits, value, isNumber, cut, numberAt}
 use Rattle.text.specs.Template.{HOLE, NUMBERS, Hit, hit, miss, also, begins, found, stepAt, fitFrom, missed}
-use Rattle.text.specs.declared.Fit.{Fit}
 use Rattle.text.specs.declared.Number.{Number}
 use Rattle.text.specs.declared.Number.the-variants.{At, Missing}
 

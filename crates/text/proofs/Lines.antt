@@ -19,7 +19,7 @@ use mathlib.Core.Logic.{inl, inr}
 use Rattle.laws.proofs.Tests.{test}
 use lib.Seq.{drop-cons, drop-drop, drop-length, take-nil}
 use Rattle.text.specs.Bounds.{FEED}
-use Rattle.text.specs.Lines.{Line, ahead, lines, lineLen, endAt, lineAt}
+use Rattle.text.specs.Lines.{ahead, lines, lineLen, endAt, lineAt}
 
 len-le : (s : List ℕ) → lineLen s ≤ length s
 unfolding lineLen

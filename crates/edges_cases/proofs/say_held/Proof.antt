@@ -1,9 +1,6 @@
 -- `edges_cases::say_held`: the records are counted up.
-use mathlib.Core.Path.{_≡_}
 use Prim.Native.Nat.{_≤_, _-_}
-use lib.ListN.{length}
 use Rattle.trace.specs.Bounds.{RECORDS}
-use Rattle.rows.specs.Bounds.{CELLS}
 use borrow.Author.Needs.{needs}
 use Rattle.edges_cases.proofs.say_held.Statement.{statement}
 use Rattle.edges_cases.proofs.say_held.Tie as tie

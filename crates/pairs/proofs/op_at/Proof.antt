@@ -1,5 +1,5 @@
 -- `pairs::op_at`: past the array stands the first variant at zeros.
-use mathlib.Core.Path.{sym, ap, _∙_}
+use mathlib.Core.Path.{sym, _∙_}
 use native.Mathlib.Omega.{arith}
 use lib.ListN.{length-map}
 use Rattle.trace.proofs.Places.{at-past}

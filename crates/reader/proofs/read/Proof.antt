@@ -1,12 +1,11 @@
 -- `reader::read`: number 1 first, then line by line.
-use mathlib.Core.Path.{_≡_, sym, ap, _∙_}
+use mathlib.Core.Path.{ap}
 use borrow.Author.Tests.{lt-ltb, le-ltb}
 use Rattle.trace.specs.declared.Trace.{Trace}
 use Rattle.reader.specs.Bounds.{TEXT}
 use Rattle.reader.specs.Read.{readText}
 use Rattle.reader.specs.declared.Reason.the-variants.{LongText}
 use Rattle.reader.specs.declared.Answer.the-variants.{Refused}
-use Rattle.reader.specs.declared.Reading.{Reading}
 use borrow.Author.Needs.{needs}
 use Rattle.reader.proofs.read.Statement.{statement}
 use Rattle.reader.proofs.read.Tie as tie

@@ -1,7 +1,7 @@
 -- `reader::walked`: what the lines from here on say behind the trace so far is what all lines say.
 use mathlib.Core.Path.{_≡_, refl, sym, ap, _∙_}
-use mathlib.Core.List.{List, [], _∷_}
-use Prim.Native.Nat.{ℕ, _+_, _≤_, _-_, _<_}
+use mathlib.Core.List.{List, _∷_}
+use Prim.Native.Nat.{ℕ, _+_, _≤_, _-_}
 use native.Mathlib.Omega.{arith}
 use lib.Dec.{ltb}
 use mathlib.Core.Logic.{⊎-elim}
@@ -15,7 +15,6 @@ use Rattle.trace.specs.declared.Trace.{Trace}
 use Rattle.reader.specs.Answer.{turned}
 use Rattle.reader.specs.Read.{readLines, badLines}
 use Rattle.reader.specs.declared.Answer.the-variants.{Refused}
-use Rattle.reader.specs.declared.Reading.{Reading}
 use Rattle.text.proofs.Lines.{lines-on, lines-over, line-none, line-part, end-within}
 use Rattle.reader.proofs.Walks.{read-taken, bad-taken, read-refused, bad-refused}
 use borrow.Author.Needs.{needs}

@@ -1,7 +1,5 @@
 -- `reader_cases::main`: the arguments are counted up.
 use Prim.Native.Nat.{_-_}
-use mathlib.Core.Path.{_≡_}
-use mathlib.Core.List.{[]}
 use borrow.Author.Needs.{needs}
 use Rattle.reader_cases.proofs.main.Statement.{statement}
 use Rattle.reader_cases.proofs.main.Tie as tie

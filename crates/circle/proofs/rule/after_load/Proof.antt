@@ -1,8 +1,7 @@
 -- `rule::after_load`: none of the records passed is such a source.
 use mathlib.Core.Path.{_≡_, sym, _∙_}
-use mathlib.Core.Bool.{Bool, false, not, _&&_}
-use Prim.Native.Nat.{ℕ, _≤_, _-_}
-use native.Mathlib.Omega.{arith}
+use mathlib.Core.Bool.{false, not, _&&_}
+use Prim.Native.Nat.{_-_}
 use borrow.Author.Needs.{needs}
 use lib.Dec.{eqb}
 use Rattle.laws.specs.Tests.{any}

@@ -1,12 +1,10 @@
 -- `trail::back`: row j + 1 has what below x has an edge to something of row j.
-use mathlib.Core.Path.{_≡_, sym, _∙_}
+use mathlib.Core.Path.{_≡_, _∙_}
 use mathlib.Core.Logic.{_↔_, ⊎-elim}
 use mathlib.Core.Bool.{So}
-use mathlib.Core.List.{List}
 use Prim.Native.Nat.{ℕ, _+_, _≤_, _-_}
 use native.Mathlib.Omega.{arith}
 use borrow.Author.Needs.{needs}
-use lib.ListN.{length}
 use Rattle.trace.specs.Bounds.{RECORDS}
 use Rattle.rows.specs.Put.{putOf}
 use Rattle.rows.specs.Rows.{bit, Edges}

@@ -1,10 +1,10 @@
 -- `trail::follow`: the first i places are laid, and those past k are as they were.
 use mathlib.Core.Path.{_≡_, refl, _∙_}
 use mathlib.Core.Option.{some}
-use Prim.Native.Nat.{ℕ, _+_, _≤_, _<_, _-_}
+use Prim.Native.Nat.{ℕ, _≤_, _<_, _-_}
 use native.Mathlib.Omega.{arith}
 use borrow.Author.Needs.{needs}
-use lib.ListN.{length, getD, set, length-set}
+use lib.ListN.{length, getD, length-set}
 use lib.Seq.{getD-set-other}
 use Rattle.laws.specs.Lowest.{Lowest}
 use Rattle.trace.specs.Bounds.{RECORDS}

@@ -1,12 +1,10 @@
 -- `trail::further`: the rows have the walks from numbers below x that are an edge longer.
-use mathlib.Core.Path.{_≡_, sym, _∙_, subst}
-use mathlib.Core.List.{List}
-use Prim.Native.Nat.{ℕ, _≤_, _-_}
+use mathlib.Core.Path.{_≡_, sym, _∙_}
+use Prim.Native.Nat.{_≤_, _-_}
 use native.Mathlib.Omega.{arith}
 use lib.ListN.{length}
 use Rattle.trace.specs.Bounds.{RECORDS}
 use Rattle.rows.specs.Bounds.{CELLS}
-use Rattle.rows.proofs.Whole.{empty-long}
 use Rattle.circle.specs.Added.{Added}
 use Rattle.circle.proofs.Added.{Some, added-same, added-none, added-turn, added-exactly}
 use Rattle.circle.proofs.Further.{AllTurn, all-all}

@@ -4,7 +4,6 @@ use Prim.Native.Nat.{ℕ, _+_, _≤_, _-_}
 use native.Mathlib.Omega.{arith}
 use borrow.Author.Needs.{needs}
 use lib.ListN.{length}
-use Rattle.trace.specs.Bounds.{RECORDS}
 use Rattle.rows.specs.Bounds.{CELLS}
 use Rattle.rows.specs.Empty.{emptyOf}
 use Rattle.rows.specs.Put.{putOf}

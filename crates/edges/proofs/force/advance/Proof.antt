@@ -9,7 +9,7 @@ use Rattle.rows.proofs.Whole.{copy-same}
 use Rattle.laws.specs.Relation.{Rel}
 use Rattle.edges.specs.Adds.{Union}
 use Rattle.edges.specs.Drawn.{SettledFor}
-use Rattle.edges.specs.Turns.{Advanced, stays, grows}
+use Rattle.edges.specs.Turns.{stays, grows}
 use Rattle.edges.proofs.Ended.{stayed-at, grown-at}
 use borrow.Author.Needs.{needs}
 use Rattle.edges.proofs.force.advance.Statement.{statement}

@@ -1,5 +1,5 @@
 -- `edges::force::draw_pairs_from`: the pairs from x to records below y are drawn, and it is known whether a fence of x's thread was passed.
-use mathlib.Core.Path.{_≡_, refl, sym, _∙_}
+use mathlib.Core.Path.{_≡_, refl, _∙_}
 use Prim.Native.Nat.{_≤_, _-_}
 use native.Mathlib.Omega.{arith}
 use Rattle.laws.specs.Tests.{any}

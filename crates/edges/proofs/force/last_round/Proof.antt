@@ -1,6 +1,6 @@
 -- `edges::force::last_round`: the rounds are run where there is something to answer.
 use mathlib.Core.Path.{_≡_, refl, sym, ap₂, _∙_}
-use mathlib.Core.Bool.{true, false, So, _&&_}
+use mathlib.Core.Bool.{true, _&&_}
 use Rattle.laws.proofs.Tests.{and-iff, same-iff}
 use Rattle.trace.specs.WellFormed.{wellFormed}
 use Rattle.pairs.specs.Kept.{modelled}

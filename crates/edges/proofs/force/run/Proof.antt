@@ -16,7 +16,7 @@ use Rattle.rows.specs.Bounds.{CELLS}
 use Rattle.rows.specs.Rows.{bit}
 use Rattle.pairs.specs.Kept.{keptOf}
 use Rattle.edges.specs.Supposed.{supposedOf}
-use Rattle.edges.specs.Turns.{Closed, Facts}
+use Rattle.edges.specs.Turns.{Closed}
 use Rattle.edges.proofs.Ended.{kept-within, supposed-within, stayed, grown, fewer, turns, Stands, stands-first, stands-next, ended-circle, ended-last}
 use borrow.Author.Needs.{needs}
 use Rattle.edges.proofs.force.run.Statement.{statement}

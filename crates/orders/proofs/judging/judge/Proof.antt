@@ -1,6 +1,6 @@
 -- `orders::judging::judge`: each of its three ways out.
-use mathlib.Core.Path.{_≡_, sym, ap₂, _∙_}
-use mathlib.Core.Bool.{true, false, So, _&&_}
+use mathlib.Core.Path.{sym, ap₂, _∙_}
+use mathlib.Core.Bool.{So, _&&_}
 use borrow.Author.Tests.{not-true, not-false}
 use Rattle.laws.proofs.Tests.{and-iff, same-iff}
 use Rattle.trace.specs.WellFormed.{wellFormed}

@@ -1,5 +1,5 @@
 -- `orders::judging::keeps_from`: the pairs of x with the records passed stand in order.
-use mathlib.Core.Path.{_≡_, sym, _∙_}
+use mathlib.Core.Path.{sym, _∙_}
 use mathlib.Core.Logic.{⊎-elim}
 use mathlib.Core.Bool.{So}
 use Prim.Native.Nat.{_-_}

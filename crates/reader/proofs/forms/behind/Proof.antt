@@ -1,5 +1,5 @@
 -- `reader::forms::behind`: by the first byte.
-use mathlib.Core.Path.{_≡_, sym, ap, _∙_}
+use mathlib.Core.Path.{ap, _∙_}
 use borrow.Author.Tests.{ne-eqb}
 use Rattle.reader.specs.Form.{cutForm}
 use Rattle.text.proofs.Fits.{begins-at}

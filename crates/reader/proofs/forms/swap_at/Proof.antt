@@ -1,10 +1,9 @@
 -- `reader::forms::swap_at`: a swap or nothing.
-use mathlib.Core.Path.{_≡_, sym, ap, _∙_}
+use mathlib.Core.Path.{sym, ap}
 use lib.ListN.{drop}
-use Rattle.reader.specs.Form.{cutForm, storeRest, loadRest, swapRest, sync, storeOf, loadOf, swapOf, fenceOf, orElse}
-use Rattle.text.specs.Template.{also, found}
+use Rattle.reader.specs.Form.{cutForm, swapRest, swapOf}
 use Rattle.reader.specs.declared.Form.the-variants.{Nothing}
-use Rattle.reader.proofs.Chosen.{store-makes, load-makes, swap-makes, fence-makes, fit-taken, fit-left}
+use Rattle.reader.proofs.Chosen.{swap-makes, fit-taken, fit-left}
 use borrow.Author.Needs.{needs}
 use Rattle.reader.proofs.forms.swap_at.Statement.{statement}
 use Rattle.reader.proofs.forms.swap_at.Tie as tie

@@ -1,6 +1,6 @@
 -- `reader::turns::checked`: bounds, then addresses, then what the trace so far says.
-use mathlib.Core.Path.{_≡_, sym, ap, _∙_}
-use Rattle.reader.specs.Answer.{inBounds, oneAddress, joined, checked}
+use mathlib.Core.Path.{sym, ap, _∙_}
+use Rattle.reader.specs.Answer.{joined, checked}
 use borrow.Author.Needs.{needs}
 use Rattle.reader.proofs.turns.checked.Statement.{statement}
 use Rattle.reader.proofs.turns.checked.Tie as tie

@@ -1,7 +1,6 @@
 -- `reader::turns::joined`: the tests in the order of their numbers.
 use mathlib.Core.Path.{_≡_, sym, ap, ap₂, _∙_}
-use mathlib.Core.Bool.{Bool, true, false, _&&_}
-use Prim.Native.Nat.{ℕ}
+use mathlib.Core.Bool.{Bool, _&&_}
 use lib.Dec.{eqb}
 use Rattle.trace.specs.Op.{writes, written, address}
 use Rattle.trace.specs.Trace.{first}

@@ -1,5 +1,5 @@
 -- `reader::turns::turned`: length, then ending, then form.
-use mathlib.Core.Path.{_≡_, sym, ap, _∙_}
+use mathlib.Core.Path.{sym, _∙_}
 use borrow.Author.Tests.{lt-ltb, le-ltb, not-true, not-false}
 use Rattle.reader.specs.Bounds.{LINE}
 use Rattle.reader.specs.Form.{formOf}

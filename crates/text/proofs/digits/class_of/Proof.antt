@@ -6,7 +6,7 @@ use Prim.Native.Nat.{ℕ}
 use native.Mathlib.Omega.{arith}
 use Rattle.laws.specs.Tests.{all}
 use Rattle.text.specs.Class.{classOf}
-use Rattle.text.specs.declared.Class.the-variants.{Digit, Space, Mark, Letter, Other}
+use Rattle.text.specs.declared.Class.the-variants.{Digit, Mark, Letter, Other}
 use Rattle.text.proofs.Classes.{between, test, single, not-single, code}
 use Rattle.text.proofs.digits.class_of.Statement.{statement}
 use Rattle.text.proofs.digits.class_of.Tie as tie
