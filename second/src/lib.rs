@@ -12,9 +12,13 @@
 //! | `verdict` | the verdict, numbers 9 and 10 |
 //! | `session` | suppose, take back, ask, numbers 9 to 16 |
 //! | `bench` | the output of the program at the bench |
+//! | `chance`, `machine`, `families` | texts to compare on (these are ours, not the document's) |
 //! | `stated` | the document's own traces with the outputs it states |
 
 pub mod bench;
+pub mod chance;
+pub mod families;
+pub mod machine;
 pub mod orders;
 pub mod reader;
 pub mod rules;
