@@ -13,10 +13,11 @@ pub struct Family {
     pub draw: fn(&mut Chance) -> Vec<u8>,
 }
 
-pub const FAMILIES: [Family; 13] = [
+pub const FAMILIES: [Family; 14] = [
     Family { name: "stated", what: "the traces of document 01, in other text orders too", draw: stated },
     Family { name: "sc", what: "runs of a simulated SC machine", draw: sc },
     Family { name: "tso", what: "runs of a simulated TSO machine", draw: tso },
+    Family { name: "weak", what: "short TSO runs that are slow to drain, a third with a read changed", draw: weak },
     Family { name: "sc-changed", what: "the same with one or two reads changed", draw: sc_changed },
     Family { name: "tso-changed", what: "the same with one or two reads changed", draw: tso_changed },
     Family { name: "knot", what: "KNOT's shape: renamed, merged, dropped, added, padded, copied", draw: knot },
@@ -86,6 +87,23 @@ fn sc(chance: &mut Chance) -> Vec<u8> {
 
 fn tso(chance: &mut Chance) -> Vec<u8> {
     text_of(&ran(chance, true))
+}
+
+/// Few threads, few addresses, many stores that stay in their buffers: here SC and TSO often part.
+fn weak(chance: &mut Chance) -> Vec<u8> {
+    let (threads, addresses) = (chance.between(2, 4), chance.between(2, 3));
+    let shape = Shape {
+        records: chance.between(4, 14),
+        threads: chance.different(threads, LAST_THREAD + 1),
+        addresses: chance.different(addresses, LAST_ADDRESS + 1),
+        stores: chance.between(35, 55),
+        swaps: *chance.of(&[0, 0, 0, 8]),
+        fences: *chance.of(&[0, 0, 8]),
+        drains: *chance.of(&[0, 5, 15, 25]),
+    };
+    let records = run(chance, &shape, true);
+    let records = rewritten(chance, records);
+    text_of(&if chance.percent(33) { with_changed_reads(chance, records) } else { records })
 }
 
 fn sc_changed(chance: &mut Chance) -> Vec<u8> {
