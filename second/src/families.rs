@@ -13,7 +13,7 @@ pub struct Family {
     pub draw: fn(&mut Chance) -> Vec<u8>,
 }
 
-pub const FAMILIES: [Family; 14] = [
+pub const FAMILIES: [Family; 16] = [
     Family { name: "stated", what: "the traces of document 01, in other text orders too", draw: stated },
     Family { name: "sc", what: "runs of a simulated SC machine", draw: sc },
     Family { name: "tso", what: "runs of a simulated TSO machine", draw: tso },
@@ -23,8 +23,10 @@ pub const FAMILIES: [Family; 14] = [
     Family { name: "knot", what: "KNOT's shape: renamed, merged, dropped, added, padded, copied", draw: knot },
     Family { name: "dense", what: "2 to 8 operations on 1 or 2 addresses, reads by chance", draw: dense },
     Family { name: "middle", what: "9 to 16 operations on 1 to 3 addresses, reads by chance", draw: middle },
+    Family { name: "rounds", what: "runs on 1 to 3 crowded addresses, a read changed to a neighbouring value", draw: rounds },
     Family { name: "edges", what: "one line of a good text on either side of a refusal's edge", draw: edges },
     Family { name: "numbers", what: "lines of the forms with numbers at and past their bounds", draw: numbers },
+    Family { name: "ranks", what: "a line to which several numbers apply, often as the 65th record", draw: ranks },
     Family { name: "sizes", what: "80 and 81 bytes, 64 and 65 records, 8,192 and 8,193 bytes", draw: sizes },
     Family { name: "damaged", what: "a good text with one to three bytes put in, taken out or changed", draw: damaged },
     Family { name: "bytes", what: "random bytes, and random pieces of the forms", draw: bytes },
@@ -64,14 +66,18 @@ fn shape(chance: &mut Chance) -> Shape {
     };
     let threads = chance.between(1, if records < 8 { 4 } else { 8 });
     let addresses = if chance.percent(70) { chance.between(1, 4) } else { chance.between(1, 16) };
+    let stores = *chance.of(&[20, 30, 40, 50]);
     Shape {
         records,
         threads: chance.different(threads, LAST_THREAD + 1),
         addresses: chance.different(addresses, LAST_ADDRESS + 1),
-        stores: *chance.of(&[20, 30, 40, 50]),
+        stores,
+        late_stores: *chance.of(&[10, stores, stores]),
         swaps: *chance.of(&[0, 0, 5, 15, 30]),
         fences: *chance.of(&[0, 5, 10]),
         drains: *chance.of(&[0, 5, 20, 40]),
+        own: *chance.of(&[0, 30]),
+        home: *chance.of(&[0, 0, 80]),
     }
 }
 
@@ -91,15 +97,18 @@ fn tso(chance: &mut Chance) -> Vec<u8> {
 
 /// Few threads, few addresses, many stores that stay in their buffers: here SC and TSO often part.
 fn weak(chance: &mut Chance) -> Vec<u8> {
-    let (threads, addresses) = (chance.between(2, 4), chance.between(2, 3));
+    let (threads, addresses) = (*chance.of(&[2, 2, 3, 4]), *chance.of(&[2, 2, 3]));
     let shape = Shape {
-        records: chance.between(4, 14),
+        records: chance.between(6, 18),
         threads: chance.different(threads, LAST_THREAD + 1),
         addresses: chance.different(addresses, LAST_ADDRESS + 1),
-        stores: chance.between(35, 55),
+        stores: chance.between(40, 80),
+        late_stores: chance.between(5, 30),
         swaps: *chance.of(&[0, 0, 0, 8]),
         fences: *chance.of(&[0, 0, 8]),
-        drains: *chance.of(&[0, 5, 15, 25]),
+        drains: *chance.of(&[0, 0, 4, 8, 15]),
+        own: *chance.of(&[0, 15, 40]),
+        home: *chance.of(&[50, 80, 100]),
     };
     let records = run(chance, &shape, true);
     let records = rewritten(chance, records);
@@ -171,12 +180,26 @@ fn by_chance(chance: &mut Chance, operations: usize, threads: usize, addresses: 
             Record::Load { thread, address, read: BEGINNING }
         });
     }
+    let (beginnings, nobody) = (*chance.of(&[0, 30, 60]), chance.percent(8));
     for x in 0..records.len() {
         if let (Some(_), Some(address)) = (records[x].read(), records[x].address()) {
-            records[x] = reading_of(records[x], some_value_at(chance, &records, address));
+            let read = if nobody { some_value_at(chance, &records, address) } else { value_of_others(chance, &records, x, beginnings) };
+            records[x] = reading_of(records[x], read);
         }
     }
     text_of(&records)
+}
+
+/// The beginning at least so many times in a hundred, otherwise what someone else writes there: every read has a source.
+fn value_of_others(chance: &mut Chance, records: &[Record], load: usize, beginnings: usize) -> u64 {
+    let writes = |x: &usize| *x != load && records[*x].address() == records[load].address();
+    let mut choices: Vec<u64> = (0..records.len()).filter(writes).filter_map(|x| records[x].written()).collect();
+    choices.push(BEGINNING);
+    if chance.percent(beginnings) {
+        BEGINNING
+    } else {
+        *chance.of(&choices)
+    }
 }
 
 fn dense(chance: &mut Chance) -> Vec<u8> {
@@ -187,6 +210,46 @@ fn dense(chance: &mut Chance) -> Vec<u8> {
 fn middle(chance: &mut Chance) -> Vec<u8> {
     let (operations, threads, addresses) = (chance.between(9, 16), chance.between(2, 6), chance.between(1, 3));
     by_chance(chance, operations, threads, addresses)
+}
+
+/// Many writers of few addresses, whose order comes out only bit by bit: circles that take several rounds, and values that fit nearly.
+fn rounds(chance: &mut Chance) -> Vec<u8> {
+    let (threads, addresses) = (chance.between(3, 7), chance.between(1, 3));
+    let stores = chance.between(25, 45);
+    let shape = Shape {
+        records: chance.between(10, 32),
+        threads: chance.different(threads, LAST_THREAD + 1),
+        addresses: chance.different(addresses, LAST_ADDRESS + 1),
+        stores,
+        late_stores: stores,
+        swaps: *chance.of(&[0, 0, 5, 20]),
+        fences: *chance.of(&[0, 5]),
+        drains: *chance.of(&[20, 40, 60]),
+        own: 0,
+        home: 0,
+    };
+    let mut records = run(chance, &shape, true);
+    for _ in 0..chance.between(1, 2) {
+        change_to_neighbour(chance, &mut records);
+    }
+    text_of(&rewritten(chance, records))
+}
+
+/// The records stand as they were run, so a value written shortly before or after is one that the load just missed.
+fn change_to_neighbour(chance: &mut Chance, records: &mut [Record]) {
+    let reading: Vec<usize> = (0..records.len()).filter(|&x| records[x].read().is_some()).collect();
+    if reading.is_empty() {
+        return;
+    }
+    let load = *chance.of(&reading);
+    let writes = |x: &usize| *x != load && records[*x].address() == records[load].address() && records[*x].written().is_some();
+    let mut near: Vec<usize> = (0..records.len()).filter(writes).collect();
+    near.sort_by_key(|x| x.abs_diff(load));
+    near.truncate(4);
+    if !near.is_empty() {
+        let value = records[*chance.of(&near)].written().expect("a writer writes");
+        records[load] = reading_of(records[load], value);
+    }
 }
 
 // ---- KNOT ----
@@ -366,9 +429,12 @@ fn good_lines(chance: &mut Chance, records: usize) -> Vec<String> {
         threads: chance.different(threads, LAST_THREAD + 1),
         addresses: chance.different(addresses, LAST_ADDRESS + 1),
         stores: 40,
+        late_stores: 40,
         swaps: 10,
         fences: 10,
         drains: 20,
+        own: 0,
+        home: 0,
     };
     run(chance, &shape, true).iter().map(Record::to_string).collect()
 }
@@ -459,6 +525,43 @@ fn line_of_numbers(chance: &mut Chance) -> String {
         3 | 4 => format!("{thread}: M[{address}] := {written}"),
         _ => format!("{thread}: {{ M[{address}] == {read}; M[{second}] := {written} }}"),
     }
+}
+
+fn ranks(chance: &mut Chance) -> Vec<u8> {
+    let above = *chance.of(&[1, 3, 63, 64, 64, 64, 64]);
+    let mut lines: Vec<String> = (0..above).map(|i| format!("{}: M[3] := {}", i % 8, 7 + i)).collect();
+    let place = if chance.percent(90) { lines.len() } else { chance.between(1, lines.len()) };
+    lines.insert(place, line_of_faults(chance));
+    if chance.percent(20) {
+        lines.push(line_of_faults(chance));
+    }
+    let mut text = joined(&lines);
+    if chance.percent(8) {
+        text.pop();
+    }
+    text
+}
+
+/// Each fault by chance and apart from the others. The value 7 at address 3 was written before.
+fn line_of_faults(chance: &mut Chance) -> String {
+    let thread = if chance.percent(12) { "8" } else { "0" };
+    let first = if chance.percent(6) { "16" } else { "3" };
+    let second = if chance.percent(30) { *chance.of(&["2", "2", "16"]) } else { first };
+    let read = if chance.percent(8) { "65536" } else { "7" };
+    let written = *chance.of(&["7", "7", "7", "0", "0", "1000", "1000", "65536"]);
+    let mut line = match chance.below(10) {
+        0 => format!("{thread}: sync"),
+        1 => format!("{thread}: M[{first}] == {read}"),
+        2..=4 => format!("{thread}: M[{first}] := {written}"),
+        _ => format!("{thread}: {{ M[{first}] == {read}; M[{second}] := {written} }}"),
+    };
+    if chance.percent(10) {
+        line.push(' ');
+    }
+    if chance.percent(8) {
+        line = format!("{line:width$}", width = chance.between(80, 82));
+    }
+    line
 }
 
 fn sizes(chance: &mut Chance) -> Vec<u8> {

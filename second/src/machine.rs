@@ -15,10 +15,17 @@ pub struct Shape {
     pub addresses: Vec<u64>,
     /// Times in a hundred, each; the rest are loads.
     pub stores: usize,
+    /// Instead of `stores`, in the second half of the run: few, and the run ends with loads while stores still wait.
+    pub late_stores: usize,
     pub swaps: usize,
     pub fences: usize,
     /// Times in a hundred that a step drains a buffer. At 0 they are drained only where they must be.
     pub drains: usize,
+    /// Times in a hundred that a step goes to an address that waits in the thread's own buffer, if there is one.
+    pub own: usize,
+    /// Times in a hundred that a store goes to the thread's home, an address that it seldom shares with others. Threads that store all
+    /// over see mostly their own values, and then a TSO run is seldom anything that SC forbids.
+    pub home: usize,
 }
 
 /// Values that were not written yet, address by address.
@@ -84,8 +91,10 @@ pub fn run(chance: &mut Chance, shape: &Shape, buffered: bool) -> Vec<Record> {
             continue;
         }
         let thread = *chance.of(&shape.threads);
-        let address = *chance.of(&shape.addresses);
-        let record = step(chance, shape, &mut machine, &mut values, thread, address);
+        let stores = if 2 * records.len() < shape.records { shape.stores } else { shape.late_stores };
+        let kind = kind(chance, shape, stores);
+        let address = some_address(chance, shape, &machine, &kind, thread);
+        let record = step(chance, kind, &mut machine, &mut values, thread, address);
         records.push(record);
         if !buffered {
             machine.drain_all(thread);
@@ -94,23 +103,58 @@ pub fn run(chance: &mut Chance, shape: &Shape, buffered: bool) -> Vec<Record> {
     records
 }
 
-fn step(chance: &mut Chance, shape: &Shape, machine: &mut Machine, values: &mut Values, thread: u64, address: u64) -> Record {
-    let kind = chance.below(100);
-    if kind < shape.stores {
-        let written = values.fresh(chance, address);
-        machine.buffers.entry(thread).or_default().push_back((address, written));
-        Record::Store { thread, address, written }
-    } else if kind < shape.stores + shape.swaps {
-        machine.drain_all(thread);
-        let read = machine.load(thread, address);
-        let written = values.fresh(chance, address);
-        machine.memory.insert(address, written);
-        Record::Swap { thread, address, read, written }
-    } else if kind < shape.stores + shape.swaps + shape.fences {
-        machine.drain_all(thread);
-        Record::Fence { thread }
+/// Going back to one's own waiting stores is what makes a core see them early.
+fn some_address(chance: &mut Chance, shape: &Shape, machine: &Machine, kind: &Kind, thread: u64) -> u64 {
+    if matches!(kind, Kind::Store) && chance.percent(shape.home) {
+        return shape.addresses[thread as usize % shape.addresses.len()];
+    }
+    let waiting: Vec<u64> = machine.buffers.get(&thread).into_iter().flatten().map(|&(address, _)| address).collect();
+    if !waiting.is_empty() && chance.percent(shape.own) {
+        *chance.of(&waiting)
     } else {
-        Record::Load { thread, address, read: machine.load(thread, address) }
+        *chance.of(&shape.addresses)
+    }
+}
+
+enum Kind {
+    Load,
+    Store,
+    Swap,
+    Fence,
+}
+
+fn kind(chance: &mut Chance, shape: &Shape, stores: usize) -> Kind {
+    let drawn = chance.below(100);
+    if drawn < stores {
+        Kind::Store
+    } else if drawn < stores + shape.swaps {
+        Kind::Swap
+    } else if drawn < stores + shape.swaps + shape.fences {
+        Kind::Fence
+    } else {
+        Kind::Load
+    }
+}
+
+fn step(chance: &mut Chance, kind: Kind, machine: &mut Machine, values: &mut Values, thread: u64, address: u64) -> Record {
+    match kind {
+        Kind::Load => Record::Load { thread, address, read: machine.load(thread, address) },
+        Kind::Store => {
+            let written = values.fresh(chance, address);
+            machine.buffers.entry(thread).or_default().push_back((address, written));
+            Record::Store { thread, address, written }
+        }
+        Kind::Swap => {
+            machine.drain_all(thread);
+            let read = machine.load(thread, address);
+            let written = values.fresh(chance, address);
+            machine.memory.insert(address, written);
+            Record::Swap { thread, address, read, written }
+        }
+        Kind::Fence => {
+            machine.drain_all(thread);
+            Record::Fence { thread }
+        }
     }
 }
 
