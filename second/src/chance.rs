@@ -12,10 +12,10 @@ impl Chance {
     /// Cases are drawn by number, in any order and on any thread; each has a stream of its own.
     pub fn of_case(seed: u64, case: u64) -> Chance {
         let mut first = Chance::new(seed);
-        Chance::new(first.next() ^ Chance::new(case).next())
+        Chance::new(first.draw() ^ Chance::new(case).draw())
     }
 
-    pub fn next(&mut self) -> u64 {
+    pub fn draw(&mut self) -> u64 {
         self.state = self.state.wrapping_add(0x9E37_79B9_7F4A_7C15);
         let mut mixed = self.state;
         mixed = (mixed ^ (mixed >> 30)).wrapping_mul(0xBF58_476D_1CE4_E5B9);
@@ -25,7 +25,7 @@ impl Chance {
 
     /// A number below the limit, which is not 0.
     pub fn below(&mut self, limit: usize) -> usize {
-        (self.next() % limit as u64) as usize
+        (self.draw() % limit as u64) as usize
     }
 
     /// A number from low to high, both included.

@@ -38,7 +38,7 @@ pub fn family(name: &str) -> Option<&'static Family> {
 
 /// The seed is mixed with the family's name, so that two families do not share their chance.
 pub fn text(family: &Family, seed: u64, case: u64) -> Vec<u8> {
-    let named = family.name.bytes().fold(seed, |sum, byte| Chance::new(sum ^ u64::from(byte)).next());
+    let named = family.name.bytes().fold(seed, |sum, byte| Chance::new(sum ^ u64::from(byte)).draw());
     (family.draw)(&mut Chance::of_case(named, case))
 }
 
@@ -479,30 +479,13 @@ fn digits_after(line: &str, word: &str) -> String {
 
 const THREADS: [&str; 8] = ["0", "1", "7", "8", "9", "10", "00", "4294967296"];
 const ADDRESSES: [&str; 9] = ["0", "1", "15", "16", "17", "150", "01", "256", "18446744073709551616"];
-const NUMBERS: [&str; 14] = [
-    "0",
-    "1",
-    "2",
-    "9",
-    "10",
-    "65534",
-    "65535",
-    "65536",
-    "65537",
-    "99999",
-    "100000",
-    "00",
-    "065535",
-    "18446744073709551617",
-];
+const NUMBERS: [&str; 14] =
+    ["0", "1", "2", "9", "10", "65534", "65535", "65536", "65537", "99999", "100000", "00", "065535", "18446744073709551617"];
 
 /// The first few choices are good ones: most numbers of a line are, so that each refusal is seen alone and with others.
 fn drawn(chance: &mut Chance, choices: &[&'static str], good: usize) -> &'static str {
-    if chance.percent(85) {
-        choices[chance.below(good)]
-    } else {
-        *chance.of(choices)
-    }
+    let among = if chance.percent(85) { good } else { choices.len() };
+    choices[chance.below(among)]
 }
 
 fn numbers(chance: &mut Chance) -> Vec<u8> {
@@ -578,7 +561,8 @@ fn long_line(chance: &mut Chance) -> Vec<u8> {
     let count = chance.between(0, 3);
     let mut lines = good_lines(chance, count);
     let length = chance.between(79, 82);
-    let (front, back) = *chance.of(&[("0: M[0] := ", ""), ("0: M[", "] == 0"), ("", ": sync"), ("0: { M[0] == 0; M[0] := ", " }"), ("x", "")]);
+    let (front, back) =
+        *chance.of(&[("0: M[0] := ", ""), ("0: M[", "] == 0"), ("", ": sync"), ("0: { M[0] == 0; M[0] := ", " }"), ("x", "")]);
     let filler = *chance.of(&["1", "0", "9", " "]);
     let line = format!("{front}{}{back}", filler.repeat(length - front.len() - back.len()));
     let place = chance.between(0, lines.len());
@@ -617,8 +601,8 @@ fn many_records(chance: &mut Chance) -> Vec<u8> {
 /// 8,191 to 8,194 bytes and far more; of good lines, of one long line, of feeds.
 fn long_text(chance: &mut Chance) -> Vec<u8> {
     let length = *chance.of(&[8_190, 8_191, 8_192, 8_192, 8_193, 8_193, 8_194, 9_000, 16_384]);
-    let piece: &[u8] = *chance.of(&[&b"0: sync\n"[..], b"0: M[0] == 0\n", b"\n", b"0", b"0: M[0] := 1\n", b"\x00"]);
-    let mut text: Vec<u8> = piece.iter().copied().cycle().take(length).collect();
+    let piece = *chance.of(&["0: sync\n", "0: M[0] == 0\n", "\n", "0", "0: M[0] := 1\n", "\0"]);
+    let mut text: Vec<u8> = piece.bytes().cycle().take(length).collect();
     if chance.percent(50) {
         text[length - 1] = b'\n';
     }
@@ -667,8 +651,30 @@ fn damage(chance: &mut Chance, text: &mut Vec<u8>) {
 }
 
 const PIECES: [&str; 24] = [
-    "0", "1", "7", "8", "15", "16", "65535", "65536", ": ", ":", " ", "M[", "]", " := ", " == ", "{ ", " }", "; ", "sync", "\n", "\n", "0: sync\n",
-    "0: M[0] == 0\n", "0: M[0] := ",
+    "0",
+    "1",
+    "7",
+    "8",
+    "15",
+    "16",
+    "65535",
+    "65536",
+    ": ",
+    ":",
+    " ",
+    "M[",
+    "]",
+    " := ",
+    " == ",
+    "{ ",
+    " }",
+    "; ",
+    "sync",
+    "\n",
+    "\n",
+    "0: sync\n",
+    "0: M[0] == 0\n",
+    "0: M[0] := ",
 ];
 
 fn bytes(chance: &mut Chance) -> Vec<u8> {

@@ -155,7 +155,7 @@ impl Trace {
 }
 
 pub fn within_bounds(record: &Record) -> bool {
-    let below = |number: Option<u64>, last: u64| number.map_or(true, |number| number <= last);
+    let below = |number: Option<u64>, last: u64| number.is_none_or(|number| number <= last);
     record.thread() <= LAST_THREAD
         && below(record.address(), LAST_ADDRESS)
         && below(record.read(), LAST_VALUE)

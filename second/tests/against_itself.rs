@@ -134,7 +134,8 @@ fn gives(trace: &Trace, model: Model, chains: &BTreeSet<Pair>, rule: u8, x: usiz
     let all = 0..trace.count;
     let po = |a: usize, b: usize| a < b && trace.places[a].thread() == trace.places[b].thread();
     let reads = |l: usize| trace.places[l].read();
-    let writes = |s: usize, l: usize| trace.places[s].written().is_some() && trace.places[s].address() == trace.places[l].address() && s != l;
+    let writes =
+        |s: usize, l: usize| trace.places[s].written().is_some() && trace.places[s].address() == trace.places[l].address() && s != l;
     let source = |s: usize, l: usize| reads(l).is_some() && reads(l) != Some(0) && writes(s, l) && trace.places[s].written() == reads(l);
     match rule {
         1 => kept(trace, model, x, y),

@@ -115,7 +115,10 @@ enum Outcome {
     NotKnown,
     /// The program under test took longer than our patience.
     TooSlow,
-    Failed { why: String, got: Vec<u8> },
+    Failed {
+        why: String,
+        got: Vec<u8>,
+    },
 }
 
 fn alone(wanted: &str) -> Outcome {
@@ -231,6 +234,7 @@ impl Tally {
             Outcome::TooSlow => {
                 counts.too_slow += 1;
                 println!("too slow: family {} seed {} case {case}", family.name, plan.seed);
+                println!("text ({} bytes):\n{}", text.len(), shown(text));
             }
             Outcome::Failed { why, got } => {
                 counts.failed += 1;
