@@ -47,7 +47,8 @@ fn main() -> ExitCode {
     });
     let tally = tally.into_inner().expect("no worker panicked");
     tally.print(&plan, begun.elapsed());
-    if tally.failed() == 0 {
+    // A program that never answers in time has not passed anything.
+    if tally.failed() == 0 && tally.passed() > 0 {
         ExitCode::SUCCESS
     } else {
         ExitCode::FAILURE
@@ -246,12 +247,16 @@ impl Tally {
         }
     }
 
+    fn passed(&self) -> u64 {
+        self.families.values().map(|counts| counts.passed).sum()
+    }
+
     fn failed(&self) -> u64 {
         self.families.values().map(|counts| counts.failed).sum()
     }
 
     fn print(&self, plan: &Plan, time: Duration) {
-        let (mut passed, mut not_known, mut too_slow) = (0, 0, 0);
+        let (mut not_known, mut too_slow) = (0, 0);
         for (name, counts) in &self.families {
             let kinds: Vec<String> = counts.kinds.iter().map(|(kind, count)| format!("{kind} {count}")).collect();
             println!(
@@ -263,15 +268,14 @@ impl Tally {
                 counts.too_slow,
                 kinds.join(", ")
             );
-            passed += counts.passed;
             not_known += counts.not_known;
             too_slow += counts.too_slow;
         }
-        let all = passed + not_known + too_slow + self.failed();
+        let all = self.passed() + self.failed() + not_known + too_slow;
         let rate = all as f64 / time.as_secs_f64().max(0.001);
         println!("seed {}: {all} cases in {:.1} s, {rate:.0} a second on {} threads", plan.seed, time.as_secs_f64(), plan.threads);
         println!("skipped {}: not known {not_known}, too slow {too_slow}", not_known + too_slow);
-        println!("{passed} passed, {} failed", self.failed());
+        println!("{} passed, {} failed", self.passed(), self.failed());
     }
 }
 
