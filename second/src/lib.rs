@@ -12,7 +12,7 @@
 //! | `verdict` | the verdict, numbers 9 and 10 |
 //! | `session` | suppose, take back, ask, numbers 9 to 16 |
 //! | `bench` | the output of the program at the bench |
-//! | `chance`, `machine`, `families` | texts to compare on (these are ours, not the document's) |
+//! | `chance`, `machine`, `families`, `script` | texts and session words to compare on (these are ours, not the document's) |
 //! | `stated` | the document's own traces with the outputs it states |
 
 pub mod bench;
@@ -22,6 +22,7 @@ pub mod machine;
 pub mod orders;
 pub mod reader;
 pub mod rules;
+pub mod script;
 pub mod session;
 pub mod stated;
 pub mod trace;

@@ -208,3 +208,13 @@ fn sessions_that_nobody_opened() {
     other_model.model = 2;
     assert_eq!(ask(&other_model, 0, 1), Ok(Answer::Held), "under TSO this session would be the same: it is sound");
 }
+
+#[test]
+fn a_session_in_words() {
+    let trace = trace("0: M[0] := 1\n0: M[1] == 0\n1: M[1] := 1\n1: M[0] == 0\n0: sync\n");
+    let words = ["ask", "1", "2", "suppose", "0", "1", "suppose", "2", "3", "ask", "0", "1", "back", "ask", "4", "4", "back", "back"];
+    let wanted = "open: held 1-2 3-0\nask 1 2: held\nsuppose 0 1: held 0-1 0-2 1-2 3-0 3-1 3-2\nsuppose 2 3: contradicted\n\
+                  ask 0 1: contradicted\nback: held 0-1 0-2 1-2 3-0 3-1 3-2\nask 4 4: refused 13\nback: held 1-2 3-0\nback: refused 16\n";
+    assert_eq!(second::script::answers(&trace, 2, &words).as_deref(), Some(wanted));
+    assert_eq!(second::script::answers(&trace, 2, &["ask", "1"]), None);
+}

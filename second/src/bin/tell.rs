@@ -6,8 +6,8 @@
 
 use second::bench::standard_input;
 use second::reader::read;
-use second::rules::{circle, last_round, Pairs};
-use second::session::{ask, open, suppose, take_back, Answer, Session};
+use second::rules::{circle, last_round};
+use second::script::{answers, told_pairs};
 use second::trace::{Model, Record, Trace};
 use std::fs;
 use std::process::ExitCode;
@@ -76,69 +76,8 @@ fn forced(trace: &Trace, model: Model) -> String {
     }
 }
 
-fn told_pairs(held: &Pairs) -> String {
-    held.iter().fold("held".to_string(), |told, (x, y)| format!("{told} {x}-{y}"))
-}
-
 /// None where the words are not of the form or the text is refused.
-fn told_session(model: &str, mut script: &[&str]) -> Option<String> {
+fn told_session(model: &str, script: &[&str]) -> Option<String> {
     let trace = read(&standard_input().ok()?).ok()?;
-    let mut session = match open(&trace, model.parse().ok()?) {
-        Ok(session) => session,
-        Err(refused) => {
-            let record = refused.record.map_or(String::new(), |record| format!(" record {record}"));
-            return Some(format!("open: refused {}{record}\n", refused.number));
-        }
-    };
-    let mut told = format!("open: {}\n", told_state(&session));
-    loop {
-        script = match *script {
-            [] => return Some(told),
-            ["back", ref rest @ ..] => {
-                told += &format!("back: {}\n", moved(&mut session, take_back));
-                rest
-            }
-            ["suppose", x, y, ref rest @ ..] => {
-                let (x, y) = (x.parse().ok()?, y.parse().ok()?);
-                told += &format!("suppose {x} {y}: {}\n", moved(&mut session, |session| suppose(session, x, y)));
-                rest
-            }
-            ["ask", x, y, ref rest @ ..] => {
-                let (x, y) = (x.parse().ok()?, y.parse().ok()?);
-                told += &format!("ask {x} {y}: {}\n", answered(&session, x, y));
-                rest
-            }
-            _ => return None,
-        };
-    }
-}
-
-fn told_state(session: &Session) -> String {
-    if session.contradicted {
-        "contradicted".to_string()
-    } else {
-        told_pairs(&session.held)
-    }
-}
-
-fn moved(session: &mut Session, change: impl Fn(&Session) -> Result<Session, (u8, Session)>) -> String {
-    match change(session) {
-        Ok(next) => {
-            *session = next;
-            told_state(session)
-        }
-        Err((number, as_given)) => {
-            *session = as_given;
-            format!("refused {number}")
-        }
-    }
-}
-
-fn answered(session: &Session, x: usize, y: usize) -> String {
-    match ask(session, x, y) {
-        Ok(Answer::Held) => "held".to_string(),
-        Ok(Answer::NotHeld) => "not held".to_string(),
-        Ok(Answer::Contradicted) => "contradicted".to_string(),
-        Err((number, _)) => format!("refused {number}"),
-    }
+    answers(&trace, model.parse().ok()?, script)
 }
