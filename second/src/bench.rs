@@ -1,0 +1,44 @@
+//! The whole output of the program at the bench.
+
+use crate::reader::{self, MOST_TEXT};
+use crate::trace::Model;
+use crate::verdict::{verdict, Verdict};
+use std::io::{self, Read};
+
+/// What a line says where this program does not know; the document has no such line.
+pub const NOT_KNOWN: &str = "not known";
+
+/// Up to one byte more than a text may have, which is enough to see that it is too long.
+pub fn standard_input() -> io::Result<Vec<u8>> {
+    let mut text = Vec::new();
+    io::stdin().lock().take(MOST_TEXT as u64 + 1).read_to_end(&mut text)?;
+    Ok(text)
+}
+
+pub fn output(text: &[u8], most_steps: u64) -> String {
+    match reader::read(text) {
+        Err(refusal) => format!("refused {} line {}\n", refusal.number, refusal.line),
+        Ok(trace) => [1, 2]
+            .map(|model| {
+                let verdict = verdict(&trace, model, most_steps).expect("the reader gives well formed traces");
+                let name = Model::numbered(model).expect("1 and 2 are models").name();
+                format!("{name}: {}\n", told(&verdict))
+            })
+            .concat(),
+    }
+}
+
+fn told(verdict: &Verdict) -> String {
+    match verdict {
+        Verdict::NoSource(load) => format!("no order, no source {load}"),
+        Verdict::Circle(circle) => format!("no order, circle{} by{}", listed(&circle.operations), listed(&circle.rules)),
+        Verdict::Order(list) => format!("order{}", listed(list)),
+        Verdict::NoneLeft => "no order, none left".to_string(),
+        Verdict::NotKnown => NOT_KNOWN.to_string(),
+    }
+}
+
+/// Each number with a space before it, so that an empty list leaves no space.
+fn listed<T: ToString>(numbers: &[T]) -> String {
+    numbers.iter().map(|number| format!(" {}", number.to_string())).collect()
+}

@@ -1,0 +1,305 @@
+//! compare [--seed N] [--seconds N | --cases N] [--family NAME].. [--steps N] [--patience SECONDS] [--threads N] -- PROGRAM [WORD..]
+//!
+//! Feeds the same texts to PROGRAM (on its standard input) and to this package's own reading of document 01, and compares the outputs
+//! byte for byte. Each difference is printed with its text and both outputs. The very last line is `N passed, M failed`.
+//! Without `-- PROGRAM` only this package runs, to see how fast it is.
+
+use second::bench::{self, NOT_KNOWN};
+use second::families::{family, text, Family, FAMILIES};
+use second::orders;
+use second::reader;
+use second::trace::Model;
+use second::verdict::MOST_STEPS;
+use std::collections::BTreeMap;
+use std::io::{self, Read, Write};
+use std::process::{Command, ExitCode, Stdio};
+use std::sync::atomic::{AtomicU64, Ordering};
+use std::sync::Mutex;
+use std::thread;
+use std::time::{Duration, Instant};
+
+struct Plan {
+    seed: u64,
+    time: Option<Duration>,
+    cases: u64,
+    families: Vec<&'static Family>,
+    steps: u64,
+    patience: Duration,
+    threads: usize,
+    program: Vec<String>,
+}
+
+const USAGE: &str = "usage: compare [--seed N] [--seconds N | --cases N] [--family NAME].. [--steps N] [--patience SECONDS] \
+                     [--threads N] [-- PROGRAM [WORD..]]";
+
+fn main() -> ExitCode {
+    let Some(plan) = plan(std::env::args().skip(1)) else {
+        eprintln!("{USAGE}");
+        return ExitCode::from(2);
+    };
+    let begun = Instant::now();
+    let tally = Mutex::new(Tally::default());
+    let next = AtomicU64::new(0);
+    thread::scope(|scope| {
+        for _ in 0..plan.threads {
+            scope.spawn(|| work(&plan, &next, &tally, begun));
+        }
+    });
+    let tally = tally.into_inner().expect("no worker panicked");
+    tally.print(&plan, begun.elapsed());
+    // A program that never answers in time has not passed anything.
+    if tally.failed() == 0 && tally.passed() > 0 {
+        ExitCode::SUCCESS
+    } else {
+        ExitCode::FAILURE
+    }
+}
+
+fn plan(mut words: impl Iterator<Item = String>) -> Option<Plan> {
+    let mut plan = Plan {
+        seed: 1,
+        time: None,
+        cases: u64::MAX,
+        families: Vec::new(),
+        steps: MOST_STEPS,
+        patience: Duration::from_secs(20),
+        threads: 2,
+        program: Vec::new(),
+    };
+    while let Some(word) = words.next() {
+        if word == "--" {
+            plan.program = words.by_ref().collect();
+            break;
+        }
+        let value = words.next()?;
+        match word.as_str() {
+            "--seed" => plan.seed = value.parse().ok()?,
+            "--seconds" => plan.time = Some(Duration::from_secs(value.parse().ok()?)),
+            "--cases" => plan.cases = value.parse().ok()?,
+            "--family" => plan.families.push(family(&value)?),
+            "--steps" => plan.steps = value.parse().ok()?,
+            "--patience" => plan.patience = Duration::from_secs(value.parse().ok()?),
+            "--threads" => plan.threads = value.parse().ok().filter(|&n| n > 0)?,
+            _ => return None,
+        }
+    }
+    if plan.families.is_empty() {
+        plan.families = FAMILIES.iter().collect();
+    }
+    if plan.time.is_none() && plan.cases == u64::MAX {
+        plan.cases = 1_000;
+    }
+    Some(plan)
+}
+
+/// Cases go round the families, so that every family gets its share however early the time ends.
+fn work(plan: &Plan, next: &AtomicU64, tally: &Mutex<Tally>, begun: Instant) {
+    loop {
+        let number = next.fetch_add(1, Ordering::Relaxed);
+        if number >= plan.cases || plan.time.is_some_and(|time| begun.elapsed() >= time) {
+            return;
+        }
+        let count = plan.families.len() as u64;
+        let family = plan.families[(number % count) as usize];
+        let case = number / count;
+        let text = text(family, plan.seed, case);
+        let wanted = bench::output(&text, plan.steps);
+        let outcome = if plan.program.is_empty() { alone(&wanted) } else { compared(plan, &text, &wanted) };
+        tally.lock().expect("no worker panicked").note(plan, family, case, &text, &wanted, outcome);
+    }
+}
+
+/// What came of one case. A case that is skipped counts neither as passed nor as failed.
+enum Outcome {
+    Passed,
+    /// This package does not know one of the lines; whatever could be compared was right.
+    NotKnown,
+    /// The program under test took longer than our patience.
+    TooSlow,
+    Failed {
+        why: String,
+        got: Vec<u8>,
+    },
+}
+
+fn alone(wanted: &str) -> Outcome {
+    if wanted.contains(NOT_KNOWN) {
+        Outcome::NotKnown
+    } else {
+        Outcome::Passed
+    }
+}
+
+fn compared(plan: &Plan, text: &[u8], wanted: &str) -> Outcome {
+    match fed(plan, text) {
+        Err(error) => Outcome::Failed { why: format!("cannot be run: {error}"), got: Vec::new() },
+        Ok(None) => Outcome::TooSlow,
+        Ok(Some(got)) if got == wanted.as_bytes() => alone(wanted),
+        Ok(Some(got)) if wanted.contains(NOT_KNOWN) => halfway(text, wanted, got),
+        Ok(Some(got)) => Outcome::Failed { why: "outputs differ".to_string(), got },
+    }
+}
+
+/// Lines that this package knows are compared; where it does not know, an order that the program gives is held against the definition.
+/// That it is the first order, or that none is left, stays untested: hence skipped.
+fn halfway(text: &[u8], wanted: &str, got: Vec<u8>) -> Outcome {
+    let told = String::from_utf8_lossy(&got).into_owned();
+    let (wanted, lines): (Vec<&str>, Vec<&str>) = (wanted.split('\n').collect(), told.split('\n').collect());
+    if wanted.len() != lines.len() {
+        return Outcome::Failed { why: "another number of lines".to_string(), got };
+    }
+    for ((wanted, line), model) in wanted.iter().zip(&lines).zip([Some(Model::Sc), Some(Model::Tso), None]) {
+        let fits = match model {
+            Some(model) if wanted.ends_with(NOT_KNOWN) => may_be(text, model, line),
+            _ => wanted == line,
+        };
+        if !fits {
+            return Outcome::Failed { why: format!("not a right line: {line}"), got };
+        }
+    }
+    Outcome::NotKnown
+}
+
+fn may_be(text: &[u8], model: Model, line: &str) -> bool {
+    if line == format!("{}: no order, none left", model.name()) {
+        return true;
+    }
+    let Some(list) = line.strip_prefix(&format!("{}: order ", model.name())) else { return false };
+    let numbers: Option<Vec<usize>> = list.split(' ').map(|number| number.parse().ok()).collect();
+    match (reader::read(text), numbers) {
+        (Ok(trace), Some(numbers)) => orders::judge(&trace, model, &numbers),
+        _ => false,
+    }
+}
+
+/// The output of the program under test; None if it did not end in time. Texts and outputs fit into a pipe, so writing and waiting
+/// before reading cannot lock up.
+fn fed(plan: &Plan, text: &[u8]) -> io::Result<Option<Vec<u8>>> {
+    let mut child = Command::new(&plan.program[0])
+        .args(&plan.program[1..])
+        .stdin(Stdio::piped())
+        .stdout(Stdio::piped())
+        .stderr(Stdio::null())
+        .spawn()?;
+    let mut input = child.stdin.take().expect("piped");
+    // A program that ends before it has read all of a long text is within its rights: it needs one byte past the bound and no more.
+    let fed = input.write_all(text);
+    drop(input);
+    let deadline = Instant::now() + plan.patience;
+    let status = loop {
+        match child.try_wait()? {
+            Some(status) => break status,
+            None if Instant::now() >= deadline => {
+                child.kill()?;
+                child.wait()?;
+                return Ok(None);
+            }
+            None => thread::sleep(Duration::from_micros(300)),
+        }
+    };
+    let mut got = Vec::new();
+    child.stdout.take().expect("piped").read_to_end(&mut got)?;
+    match (fed, status.code()) {
+        (Err(error), _) if error.kind() != io::ErrorKind::BrokenPipe => Err(error),
+        (_, None) => Err(io::Error::other(format!("it was ended by a signal: {status}"))),
+        _ => Ok(Some(got)),
+    }
+}
+
+// ---- counting ----
+
+#[derive(Default)]
+struct Counts {
+    passed: u64,
+    failed: u64,
+    not_known: u64,
+    too_slow: u64,
+    /// How often each kind of line was wanted, so that a family that tests nothing is seen.
+    kinds: BTreeMap<String, u64>,
+}
+
+#[derive(Default)]
+struct Tally {
+    families: BTreeMap<&'static str, Counts>,
+}
+
+impl Tally {
+    fn note(&mut self, plan: &Plan, family: &'static Family, case: u64, text: &[u8], wanted: &str, outcome: Outcome) {
+        let counts = self.families.entry(family.name).or_default();
+        for line in wanted.lines() {
+            *counts.kinds.entry(kind(line)).or_default() += 1;
+        }
+        match outcome {
+            Outcome::Passed => counts.passed += 1,
+            Outcome::NotKnown => counts.not_known += 1,
+            Outcome::TooSlow => {
+                counts.too_slow += 1;
+                println!("too slow: family {} seed {} case {case}", family.name, plan.seed);
+                println!("text ({} bytes):\n{}", text.len(), shown(text));
+            }
+            Outcome::Failed { why, got } => {
+                counts.failed += 1;
+                println!("DIFFERENCE: family {} seed {} case {case}: {why}", family.name, plan.seed);
+                println!("text ({} bytes):\n{}", text.len(), shown(text));
+                println!("wanted:\n{}", shown(wanted.as_bytes()));
+                println!("got:\n{}", shown(&got));
+            }
+        }
+    }
+
+    fn passed(&self) -> u64 {
+        self.families.values().map(|counts| counts.passed).sum()
+    }
+
+    fn failed(&self) -> u64 {
+        self.families.values().map(|counts| counts.failed).sum()
+    }
+
+    fn print(&self, plan: &Plan, time: Duration) {
+        let (mut not_known, mut too_slow) = (0, 0);
+        for (name, counts) in &self.families {
+            let kinds: Vec<String> = counts.kinds.iter().map(|(kind, count)| format!("{kind} {count}")).collect();
+            println!(
+                "{name:12} {} passed, {} failed, {} skipped (not known {}, too slow {}); {}",
+                counts.passed,
+                counts.failed,
+                counts.not_known + counts.too_slow,
+                counts.not_known,
+                counts.too_slow,
+                kinds.join(", ")
+            );
+            not_known += counts.not_known;
+            too_slow += counts.too_slow;
+        }
+        let all = self.passed() + self.failed() + not_known + too_slow;
+        let rate = all as f64 / time.as_secs_f64().max(0.001);
+        println!("seed {}: {all} cases in {:.1} s, {rate:.0} a second on {} threads", plan.seed, time.as_secs_f64(), plan.threads);
+        println!("skipped {}: not known {not_known}, too slow {too_slow}", not_known + too_slow);
+        println!("{} passed, {} failed", self.passed(), self.failed());
+    }
+}
+
+/// "SC: no order, circle 1 2 by 1 4" is of the kind "SC circle", "refused 3 line 2" of the kind "refused 3".
+fn kind(line: &str) -> String {
+    let words: Vec<&str> = line.split(' ').collect();
+    match words.as_slice() {
+        ["refused", number, ..] => format!("refused {number}"),
+        [model, "no", "order,", rest @ ..] => {
+            let name: Vec<&str> = rest.iter().copied().take_while(|word| word.parse::<u64>().is_err()).collect();
+            format!("{} {}", model.trim_end_matches(':'), name.join(" "))
+        }
+        [model, "order", ..] => format!("{} order", model.trim_end_matches(':')),
+        _ => line.replace(':', ""),
+    }
+}
+
+/// Readable, and exact: bytes that do not print are told by their escapes, feeds also end the shown line. Long texts are cut; the case
+/// number gives them whole.
+fn shown(bytes: &[u8]) -> String {
+    let cut = &bytes[..bytes.len().min(6_000)];
+    let mut shown = cut.escape_ascii().to_string().replace("\\n", "\\n\n").replace("\\'", "'").replace("\\\"", "\"");
+    if cut.len() < bytes.len() {
+        shown.push_str(" ...");
+    }
+    shown
+}

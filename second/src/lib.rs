@@ -1,0 +1,29 @@
+//! Document 01 told a second time, by someone who has not seen the first telling.
+//!
+//! Nothing here is proved and little of it is fast. What it is good for: where its answer and the proved program's answer differ, at
+//! least one of the two has misread the document. So every module stays as near to the document's own words as a program can.
+//!
+//! | Module | Its part of the document |
+//! |---|---|
+//! | `trace` | what the bench records, models, kept pairs, well formed |
+//! | `reader` | the four line forms, numbers 1 to 8 |
+//! | `rules` | the edges that the rules force, rounds, held, the circle shown |
+//! | `orders` | valid orders, the judge, the first order in dictionary order |
+//! | `verdict` | the verdict, numbers 9 and 10 |
+//! | `session` | suppose, take back, ask, numbers 9 to 16 |
+//! | `bench` | the output of the program at the bench |
+//! | `chance`, `machine`, `families`, `script` | texts and session words to compare on (these are ours, not the document's) |
+//! | `stated` | the document's own traces with the outputs it states |
+
+pub mod bench;
+pub mod chance;
+pub mod families;
+pub mod machine;
+pub mod orders;
+pub mod reader;
+pub mod rules;
+pub mod script;
+pub mod session;
+pub mod stated;
+pub mod trace;
+pub mod verdict;

@@ -1,0 +1,302 @@
+//! Valid orders: the definition, the judge of a proposed list, and the first order in dictionary order.
+//!
+//! Nothing here looks at the rules' edges, so that an order found here is a test of the rules, and the other way round.
+
+use crate::trace::{kept, Model, Trace, BEGINNING};
+use std::collections::HashSet;
+
+/// The first valid order, the knowledge that there is none, or neither.
+#[derive(Clone, Debug, PartialEq, Eq)]
+pub enum First {
+    Order(Vec<usize>),
+    None,
+    NotKnown,
+}
+
+/// Up to this many operations every permutation is held against the definition; above, `search` decides.
+pub const MOST_PERMUTED: usize = 8;
+
+pub fn first_order(trace: &Trace, model: Model, most_steps: u64) -> First {
+    if trace.operations().len() <= MOST_PERMUTED {
+        first_permutation(trace, model)
+    } else {
+        search(trace, model, most_steps)
+    }
+}
+
+// ---- the definition ----
+
+/// Yes exactly for a valid order. Nothing is expected of the list: it may hold any numbers.
+pub fn judge(trace: &Trace, model: Model, list: &[usize]) -> bool {
+    all_there(trace, list) && kept_pairs(trace, model, list) && values(trace, list)
+}
+
+fn all_there(trace: &Trace, list: &[usize]) -> bool {
+    let mut sorted = list.to_vec();
+    sorted.sort_unstable();
+    sorted == trace.operations()
+}
+
+fn kept_pairs(trace: &Trace, model: Model, list: &[usize]) -> bool {
+    list.iter().enumerate().all(|(i, &later)| list[..i].iter().all(|&earlier| !kept(trace, model, later, earlier)))
+}
+
+fn values(trace: &Trace, list: &[usize]) -> bool {
+    (0..list.len()).all(|at| match trace.places[list[at]].read() {
+        None => true,
+        Some(read) => read == value_at(trace, list, at),
+    })
+}
+
+/// What the load or swap at this place of the list has to read. Going through the list from its end, the first writer that counts is
+/// the latest.
+fn value_at(trace: &Trace, list: &[usize], at: usize) -> u64 {
+    let load = list[at];
+    let address = trace.places[load].address().expect("a load has an address");
+    (0..list.len())
+        .rev()
+        .filter(|&i| list[i] != load && trace.writes_to(list[i], address))
+        .find(|&i| i < at || trace.before_in_program(list[i], load))
+        .map_or(BEGINNING, |i| trace.places[list[i]].written().expect("a writer writes"))
+}
+
+// ---- all permutations ----
+
+pub fn first_permutation(trace: &Trace, model: Model) -> First {
+    let mut list = trace.operations();
+    loop {
+        // All there holds of every permutation; the other two are asked as they stand in the definition.
+        if kept_pairs(trace, model, &list) && values(trace, &list) {
+            return First::Order(list);
+        }
+        if !next_permutation(&mut list) {
+            return First::None;
+        }
+    }
+}
+
+/// The next list in dictionary order of the same numbers; false after the last one.
+pub fn next_permutation(list: &mut [usize]) -> bool {
+    let Some(turn) = (1..list.len()).rev().find(|&i| list[i - 1] < list[i]) else { return false };
+    let higher = (turn..list.len()).rev().find(|&i| list[i] > list[turn - 1]).expect("list[turn] is higher");
+    list.swap(turn - 1, higher);
+    list[turn..].reverse();
+    true
+}
+
+// ---- depth first, plainly ----
+
+/// Depth first in dictionary order; gives up a list as soon as a kept pair is broken or a load's value is wrong. Slow, and the nearest
+/// to the definition: `search` is tested against it where permutations are too many.
+pub fn plain_search(trace: &Trace, model: Model, most_steps: u64) -> First {
+    let board = Board::new(trace, model);
+    let mut list = Vec::new();
+    let mut steps = most_steps;
+    match plainly(&board, &mut list, board.start(), &mut steps) {
+        Some(true) => First::Order(list),
+        Some(false) => First::None,
+        None => First::NotKnown,
+    }
+}
+
+fn plainly(board: &Board, list: &mut Vec<usize>, state: State, steps: &mut u64) -> Option<bool> {
+    if board.is_full(&state) {
+        return Some(true);
+    }
+    for y in board.unplaced(&state) {
+        if !board.is_ready(&state, y) || !board.reads_rightly(&state, y) {
+            continue;
+        }
+        *steps = steps.checked_sub(1)?;
+        list.push(y);
+        if plainly(board, list, board.placed(&state, y), steps)? {
+            return Some(true);
+        }
+        list.pop();
+    }
+    Some(false)
+}
+
+// ---- a list so far ----
+
+/// What matters of a list so far: who stands in it, and which writer of each address stands last.
+///
+/// Nothing else does: whether y may follow, and what it then reads, is told from these two (`is_ready`, `reads_rightly`), and so is the
+/// state after it. Hence two lists with the same state can be completed in the same ways.
+#[derive(Clone, Copy, PartialEq, Eq, Hash)]
+struct State {
+    placed: u64,
+    latest: [u8; 16],
+}
+
+const NOBODY: u8 = u8::MAX;
+
+/// The trace, laid out for placing operations one after the other.
+struct Board<'a> {
+    trace: &'a Trace,
+    operations: Vec<usize>,
+    /// For each record, those that a kept pair puts before it.
+    needs: Vec<u64>,
+    /// For each record that reads, the writers of its address before it in program order, first to last.
+    own_writers: Vec<Vec<usize>>,
+    /// For each address, the records that read it.
+    readers: Vec<Vec<usize>>,
+}
+
+impl<'a> Board<'a> {
+    fn new(trace: &'a Trace, model: Model) -> Board<'a> {
+        let operations = trace.operations();
+        let needs = (0..trace.count).map(|y| (0..y).filter(|&x| kept(trace, model, x, y)).map(|x| 1 << x).sum()).collect();
+        let own_writers = (0..trace.count).map(|load| own_writers(trace, load)).collect();
+        let readers = (0..16).map(|address| readers(trace, address)).collect();
+        Board { trace, operations, needs, own_writers, readers }
+    }
+
+    fn start(&self) -> State {
+        State { placed: 0, latest: [NOBODY; 16] }
+    }
+
+    fn is_placed(&self, state: &State, x: usize) -> bool {
+        state.placed >> x & 1 == 1
+    }
+
+    fn is_full(&self, state: &State) -> bool {
+        state.placed.count_ones() as usize == self.operations.len()
+    }
+
+    fn unplaced(&self, state: &State) -> Vec<usize> {
+        self.operations.iter().copied().filter(|&x| !self.is_placed(state, x)).collect()
+    }
+
+    fn address(&self, x: usize) -> usize {
+        self.trace.places[x].address().expect("an operation has an address") as usize
+    }
+
+    /// All that a kept pair puts before y stands in the list.
+    fn is_ready(&self, state: &State, y: usize) -> bool {
+        self.needs[y] & !state.placed == 0
+    }
+
+    /// What y would read if it came next is settled already, whatever follows. Writers that count are those in the list and those before
+    /// y in program order. Of the latter any that is still to come stands later than the whole list so far; of several the last in
+    /// program order stands last, since both models keep a pair of two writers. If none is to come, the list's latest is the latest.
+    fn reads_rightly(&self, state: &State, y: usize) -> bool {
+        let Some(read) = self.trace.places[y].read() else { return true };
+        let to_come = self.own_writers[y].iter().rev().copied().find(|&w| !self.is_placed(state, w));
+        let writer = to_come.or_else(|| self.latest(state, self.address(y)));
+        read == writer.map_or(BEGINNING, |w| self.trace.places[w].written().expect("a writer writes"))
+    }
+
+    fn latest(&self, state: &State, address: usize) -> Option<usize> {
+        Some(state.latest[address]).filter(|&w| w != NOBODY).map(usize::from)
+    }
+
+    fn placed(&self, state: &State, y: usize) -> State {
+        let mut next = *state;
+        next.placed |= 1 << y;
+        if self.trace.places[y].written().is_some() {
+            next.latest[self.address(y)] = y as u8;
+        }
+        next
+    }
+
+    /// Writer y would come to stand between a load that is still to come and the value it has to read: behind y, that load can read
+    /// neither the beginning nor what the latest writer so far wrote, for y counts for it and stands later. (Values name their writers,
+    /// so y does not write the same.) Every completion is then wrong. The load may be a swap, but not y itself.
+    fn spoils(&self, state: &State, y: usize) -> bool {
+        if self.trace.places[y].written().is_none() {
+            return false;
+        }
+        let address = self.address(y);
+        let covered = self.latest(state, address).map_or(BEGINNING, |w| self.trace.places[w].written().expect("a writer writes"));
+        self.readers[address].iter().any(|&load| {
+            let read = self.trace.places[load].read();
+            load != y && !self.is_placed(state, load) && (read == Some(covered) || read == Some(BEGINNING))
+        })
+    }
+
+    fn may_follow(&self, state: &State, y: usize) -> bool {
+        self.is_ready(state, y) && self.reads_rightly(state, y) && !self.spoils(state, y)
+    }
+}
+
+fn own_writers(trace: &Trace, load: usize) -> Vec<usize> {
+    match (trace.places[load].read(), trace.places[load].address()) {
+        (Some(_), Some(address)) => (0..load).filter(|&w| trace.before_in_program(w, load) && trace.writes_to(w, address)).collect(),
+        _ => Vec::new(),
+    }
+}
+
+fn readers(trace: &Trace, address: u64) -> Vec<usize> {
+    let reads = |x: &usize| trace.places[*x].read().is_some() && trace.places[*x].address() == Some(address);
+    (0..trace.count).filter(reads).collect()
+}
+
+// ---- the search ----
+
+/// Can this list be completed? Remembers the states that cannot.
+struct Search<'a> {
+    board: Board<'a>,
+    dead: HashSet<State>,
+    steps: u64,
+}
+
+/// The first valid order in dictionary order: place after place, the lowest operation with which the list can still be completed.
+pub fn search(trace: &Trace, model: Model, most_steps: u64) -> First {
+    let mut search = Search { board: Board::new(trace, model), dead: HashSet::new(), steps: most_steps };
+    let mut state = search.board.start();
+    match search.can_be_completed(state) {
+        None => return First::NotKnown,
+        Some(false) => return First::None,
+        Some(true) => {}
+    }
+    let mut list = Vec::new();
+    while !search.board.is_full(&state) {
+        let Some(y) = search.lowest_next(&state) else { return First::NotKnown };
+        list.push(y);
+        state = search.board.placed(&state, y);
+    }
+    First::Order(list)
+}
+
+impl Search<'_> {
+    /// None when the steps are used up. The state can be completed, so some operation is found.
+    fn lowest_next(&mut self, state: &State) -> Option<usize> {
+        for y in self.board.unplaced(state) {
+            if self.board.may_follow(state, y) && self.can_be_completed(self.board.placed(state, y))? {
+                return Some(y);
+            }
+        }
+        unreachable!("a list that can be completed has a next operation")
+    }
+
+    fn can_be_completed(&mut self, state: State) -> Option<bool> {
+        let state = self.with_loads_that_fit(state);
+        if self.board.is_full(&state) {
+            return Some(true);
+        }
+        if self.dead.contains(&state) {
+            return Some(false);
+        }
+        self.steps = self.steps.checked_sub(1)?;
+        for y in self.board.unplaced(&state) {
+            if self.board.may_follow(&state, y) && self.can_be_completed(self.board.placed(&state, y))? {
+                return Some(true);
+            }
+        }
+        self.dead.insert(state);
+        Some(false)
+    }
+
+    /// Places every plain load that may follow at once. That loses no completion: in any completion move the load to the front. It is
+    /// ready, so no kept pair breaks; it reads rightly there; and it writes nothing, so nobody else's value changes.
+    fn with_loads_that_fit(&self, mut state: State) -> State {
+        loop {
+            let fits = |x: &usize| self.board.trace.places[*x].is_plain_load() && self.board.may_follow(&state, *x);
+            match self.board.unplaced(&state).into_iter().find(fits) {
+                Some(load) => state = self.board.placed(&state, load),
+                None => return state,
+            }
+        }
+    }
+}

@@ -1,0 +1,195 @@
+//! What the bench records: records, traces, models, the pairs that a model keeps, and when a trace is well formed.
+
+use std::collections::BTreeSet;
+use std::fmt;
+
+pub const MOST_RECORDS: usize = 64;
+pub const LAST_THREAD: u64 = 7;
+pub const LAST_ADDRESS: u64 = 15;
+pub const LAST_VALUE: u64 = 65_535;
+
+/// The value of every address before anything is written.
+pub const BEGINNING: u64 = 0;
+
+/// Numbers are wide on purpose: a record past its bound can then be written down, and found not well formed.
+#[derive(Clone, Copy, Debug, PartialEq, Eq, PartialOrd, Ord)]
+pub enum Record {
+    Load { thread: u64, address: u64, read: u64 },
+    Store { thread: u64, address: u64, written: u64 },
+    Swap { thread: u64, address: u64, read: u64, written: u64 },
+    Fence { thread: u64 },
+}
+
+impl Record {
+    pub fn thread(&self) -> u64 {
+        match *self {
+            Record::Load { thread, .. } | Record::Store { thread, .. } | Record::Swap { thread, .. } | Record::Fence { thread } => thread,
+        }
+    }
+
+    /// None for a fence, which has no address.
+    pub fn address(&self) -> Option<u64> {
+        match *self {
+            Record::Load { address, .. } | Record::Store { address, .. } | Record::Swap { address, .. } => Some(address),
+            Record::Fence { .. } => None,
+        }
+    }
+
+    pub fn read(&self) -> Option<u64> {
+        match *self {
+            Record::Load { read, .. } | Record::Swap { read, .. } => Some(read),
+            Record::Store { .. } | Record::Fence { .. } => None,
+        }
+    }
+
+    pub fn written(&self) -> Option<u64> {
+        match *self {
+            Record::Store { written, .. } | Record::Swap { written, .. } => Some(written),
+            Record::Load { .. } | Record::Fence { .. } => None,
+        }
+    }
+
+    pub fn is_fence(&self) -> bool {
+        matches!(self, Record::Fence { .. })
+    }
+
+    pub fn is_plain_load(&self) -> bool {
+        matches!(self, Record::Load { .. })
+    }
+
+    pub fn is_plain_store(&self) -> bool {
+        matches!(self, Record::Store { .. })
+    }
+}
+
+/// A record as its line, without the line feed.
+impl fmt::Display for Record {
+    fn fmt(&self, f: &mut fmt::Formatter<'_>) -> fmt::Result {
+        match *self {
+            Record::Load { thread, address, read } => write!(f, "{thread}: M[{address}] == {read}"),
+            Record::Store { thread, address, written } => write!(f, "{thread}: M[{address}] := {written}"),
+            Record::Swap { thread, address, read, written } => {
+                write!(f, "{thread}: {{ M[{address}] == {read}; M[{address}] := {written} }}")
+            }
+            Record::Fence { thread } => write!(f, "{thread}: sync"),
+        }
+    }
+}
+
+/// The text that records are read from: one line each, each with its line feed.
+pub fn text_of(records: &[Record]) -> Vec<u8> {
+    records.iter().map(|record| format!("{record}\n")).collect::<String>().into_bytes()
+}
+
+pub const UNUSED: Record = Record::Fence { thread: 0 };
+
+/// Sixty-four places, of which the first `count` are records. Anyone can build one, well formed or not.
+#[derive(Clone, Debug, PartialEq, Eq)]
+pub struct Trace {
+    pub count: usize,
+    pub places: [Record; MOST_RECORDS],
+}
+
+impl Trace {
+    pub fn empty() -> Trace {
+        Trace { count: 0, places: [UNUSED; MOST_RECORDS] }
+    }
+
+    /// Panics past 64 records: callers have counted.
+    pub fn of(records: &[Record]) -> Trace {
+        let mut trace = Trace::empty();
+        trace.places[..records.len()].copy_from_slice(records);
+        trace.count = records.len();
+        trace
+    }
+
+    pub fn records(&self) -> &[Record] {
+        &self.places[..self.count]
+    }
+
+    /// Record numbers of the loads, stores and swaps, lowest first.
+    pub fn operations(&self) -> Vec<usize> {
+        (0..self.count).filter(|&x| !self.places[x].is_fence()).collect()
+    }
+
+    pub fn is_operation(&self, x: usize) -> bool {
+        x < self.count && !self.places[x].is_fence()
+    }
+
+    pub fn before_in_program(&self, x: usize, y: usize) -> bool {
+        x < y && self.places[x].thread() == self.places[y].thread()
+    }
+
+    fn fence_between(&self, x: usize, y: usize) -> bool {
+        let thread = self.places[x].thread();
+        (x + 1..y).any(|f| self.places[f] == Record::Fence { thread })
+    }
+
+    pub fn writes_to(&self, x: usize, address: u64) -> bool {
+        self.places[x].written().is_some() && self.places[x].address() == Some(address)
+    }
+
+    /// The store or swap that a load or swap has its value from, if it reads something else than the beginning and such a writer stands
+    /// in the trace. A swap is never its own source.
+    pub fn source(&self, load: usize) -> Option<usize> {
+        let value = self.places[load].read().filter(|&value| value != BEGINNING)?;
+        let address = self.places[load].address()?;
+        (0..self.count).find(|&s| s != load && self.writes_to(s, address) && self.places[s].written() == Some(value))
+    }
+
+    pub fn well_formed(&self) -> bool {
+        self.count <= MOST_RECORDS
+            && self.records().iter().all(within_bounds)
+            && self.places[self.count..].iter().all(|place| *place == UNUSED)
+            && self.writes_are_names()
+    }
+
+    /// Nobody writes the beginning value, and no address gets a value twice.
+    fn writes_are_names(&self) -> bool {
+        let mut seen = BTreeSet::new();
+        self.records().iter().all(|record| match record.written() {
+            None => true,
+            Some(value) => value != BEGINNING && seen.insert((record.address(), value)),
+        })
+    }
+}
+
+pub fn within_bounds(record: &Record) -> bool {
+    let below = |number: Option<u64>, last: u64| number.is_none_or(|number| number <= last);
+    record.thread() <= LAST_THREAD
+        && below(record.address(), LAST_ADDRESS)
+        && below(record.read(), LAST_VALUE)
+        && below(record.written(), LAST_VALUE)
+}
+
+#[derive(Clone, Copy, Debug, PartialEq, Eq)]
+pub enum Model {
+    Sc,
+    Tso,
+}
+
+impl Model {
+    pub fn numbered(number: u64) -> Option<Model> {
+        match number {
+            1 => Some(Model::Sc),
+            2 => Some(Model::Tso),
+            _ => None,
+        }
+    }
+
+    pub fn name(self) -> &'static str {
+        match self {
+            Model::Sc => "SC",
+            Model::Tso => "TSO",
+        }
+    }
+}
+
+/// x is before y in program order, both are operations, and the model does not let the pair off.
+pub fn kept(trace: &Trace, model: Model, x: usize, y: usize) -> bool {
+    trace.is_operation(x) && trace.is_operation(y) && trace.before_in_program(x, y) && !let_off(trace, model, x, y)
+}
+
+fn let_off(trace: &Trace, model: Model, x: usize, y: usize) -> bool {
+    model == Model::Tso && trace.places[x].is_plain_store() && trace.places[y].is_plain_load() && !trace.fence_between(x, y)
+}

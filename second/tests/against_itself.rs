@@ -1,0 +1,364 @@
+//! One way of finding an answer against another, on many texts drawn by chance.
+
+use second::families::{family, text};
+use second::orders::{first_permutation, judge, plain_search, search, First};
+use second::reader::read;
+use second::rules::{around, chains, circle, last_round, Edges, Pair};
+use second::session::{ask, open, suppose, take_back, Answer};
+use second::trace::{kept, text_of, Model, Trace};
+use second::verdict::lowest_without_source;
+use std::collections::{BTreeMap, BTreeSet};
+
+const MODELS: [Model; 2] = [Model::Sc, Model::Tso];
+
+/// The traces among a family's first cases.
+fn traces(name: &str, cases: u64) -> Vec<Trace> {
+    let family = family(name).expect("a family");
+    (0..cases).filter_map(|case| read(&text(family, 77, case)).ok()).collect()
+}
+
+fn shown(trace: &Trace) -> String {
+    String::from_utf8(text_of(trace.records())).expect("letters")
+}
+
+#[test]
+fn permutations_and_both_searches_agree() {
+    for trace in traces("dense", 4_000).iter().chain(&traces("weak", 2_000)) {
+        if trace.operations().len() > 7 {
+            continue;
+        }
+        for model in MODELS {
+            let wanted = first_permutation(trace, model);
+            assert_eq!(search(trace, model, u64::MAX), wanted, "{model:?}\n{}", shown(trace));
+            assert_eq!(plain_search(trace, model, u64::MAX), wanted, "{model:?}\n{}", shown(trace));
+        }
+    }
+}
+
+#[test]
+fn permutations_of_eight_and_the_search_agree() {
+    let eight = traces("dense", 2_000).into_iter().filter(|trace| trace.operations().len() == 8).take(120);
+    for trace in eight {
+        for model in MODELS {
+            assert_eq!(search(&trace, model, u64::MAX), first_permutation(&trace, model), "{model:?}\n{}", shown(&trace));
+        }
+    }
+}
+
+#[test]
+fn the_search_agrees_with_the_plain_one_on_longer_traces() {
+    let mut compared = 0;
+    for name in ["middle", "weak", "knot", "rounds", "tso-changed", "sc"] {
+        for trace in traces(name, 600) {
+            for model in MODELS {
+                let wanted = plain_search(&trace, model, 20_000);
+                if wanted != First::NotKnown {
+                    compared += 1;
+                    assert_eq!(search(&trace, model, u64::MAX), wanted, "{model:?}\n{}", shown(&trace));
+                }
+            }
+        }
+    }
+    assert!(compared > 3_000, "only {compared}");
+}
+
+#[test]
+fn what_the_rules_hold_is_kept_by_every_order_found() {
+    let (mut orders, mut circles) = (0, 0);
+    for name in ["dense", "weak", "middle", "rounds", "knot", "sc", "tso", "sc-changed", "tso-changed", "stated"] {
+        for trace in traces(name, 500) {
+            if lowest_without_source(&trace).is_some() {
+                continue;
+            }
+            for model in MODELS {
+                let round = last_round(&trace, model, &[]);
+                match search(&trace, model, 100_000) {
+                    First::Order(list) => {
+                        orders += 1;
+                        assert!(judge(&trace, model, &list), "{model:?}\n{}", shown(&trace));
+                        assert!(!round.contradicted(), "{model:?}\n{}", shown(&trace));
+                        assert!(keeps(&list, round.chains.iter()), "{model:?}\n{}", shown(&trace));
+                    }
+                    First::None => circles += usize::from(round.contradicted()),
+                    First::NotKnown => {}
+                }
+            }
+        }
+    }
+    assert!(orders > 1_000 && circles > 500, "{orders} orders, {circles} circles");
+}
+
+fn keeps<'a>(list: &[usize], mut pairs: impl Iterator<Item = &'a Pair>) -> bool {
+    let place: BTreeMap<usize, usize> = list.iter().enumerate().map(|(at, &x)| (x, at)).collect();
+    pairs.all(|(x, y)| place[x] < place[y])
+}
+
+/// Not only the first order: all valid ones of small traces.
+#[test]
+fn every_valid_order_keeps_what_is_held() {
+    for trace in traces("dense", 1_500).iter().chain(&traces("weak", 1_000)) {
+        let mut list = trace.operations();
+        if list.len() > 6 || lowest_without_source(trace).is_some() {
+            continue;
+        }
+        let rounds = MODELS.map(|model| (model, last_round(trace, model, &[])));
+        loop {
+            for (model, round) in &rounds {
+                if judge(trace, *model, &list) {
+                    assert!(!round.contradicted() && keeps(&list, round.chains.iter()), "{model:?}\n{}", shown(trace));
+                }
+            }
+            if !second::orders::next_permutation(&mut list) {
+                break;
+            }
+        }
+    }
+}
+
+#[test]
+fn an_order_under_sc_is_one_under_tso() {
+    for trace in traces("sc", 400) {
+        let First::Order(list) = search(&trace, Model::Sc, 100_000) else { panic!("an SC run has an order\n{}", shown(&trace)) };
+        assert!(judge(&trace, Model::Tso, &list));
+    }
+    for trace in traces("tso", 400).iter() {
+        let wanted = search(trace, Model::Tso, 100_000);
+        assert!(matches!(wanted, First::Order(_)), "a TSO run has an order\n{}", shown(trace));
+    }
+}
+
+// ---- the rules, as a question about one edge ----
+
+/// Does this rule give x before y, by these chains? Every rule is asked for with all its letters, in a way apart from rules.rs.
+fn gives(trace: &Trace, model: Model, chains: &BTreeSet<Pair>, rule: u8, x: usize, y: usize) -> bool {
+    let all = 0..trace.count;
+    let po = |a: usize, b: usize| a < b && trace.places[a].thread() == trace.places[b].thread();
+    let reads = |l: usize| trace.places[l].read();
+    let writes =
+        |s: usize, l: usize| trace.places[s].written().is_some() && trace.places[s].address() == trace.places[l].address() && s != l;
+    let source = |s: usize, l: usize| reads(l).is_some() && reads(l) != Some(0) && writes(s, l) && trace.places[s].written() == reads(l);
+    match rule {
+        1 => kept(trace, model, x, y),
+        2 => source(x, y) && !po(x, y),
+        3 => x != y && all.clone().any(|l| source(y, l) && writes(x, l) && po(x, l)),
+        4 => reads(x) == Some(0) && writes(y, x),
+        5 => reads(y) == Some(0) && writes(x, y) && po(x, y),
+        6 => x != y && all.clone().any(|l| source(y, l) && writes(x, l) && chains.contains(&(x, l))),
+        7 => all.clone().any(|s| s != y && source(s, x) && writes(y, x) && chains.contains(&(s, y))),
+        _ => false,
+    }
+}
+
+/// All edges of a round, from the chains of the one before; with them the lowest rule.
+fn asked_edges(trace: &Trace, model: Model, chains: &BTreeSet<Pair>) -> Edges {
+    let mut edges = Edges::new();
+    for x in trace.operations() {
+        for y in trace.operations() {
+            if let Some(rule) = (1..=7).find(|&rule| gives(trace, model, chains, rule, x, y)) {
+                edges.insert((x, y), rule);
+            }
+        }
+    }
+    edges
+}
+
+/// Chains by squaring the relation until it stays.
+fn squared(edges: &Edges) -> BTreeSet<Pair> {
+    let mut all: BTreeSet<Pair> = edges.keys().copied().collect();
+    loop {
+        let joined: BTreeSet<Pair> = all.iter().flat_map(|&(x, y)| all.iter().filter(move |p| p.0 == y).map(move |p| (x, p.1))).collect();
+        let size = all.len();
+        all.extend(joined);
+        if all.len() == size {
+            return all;
+        }
+    }
+}
+
+fn asked_last_round(trace: &Trace, model: Model) -> (Edges, BTreeSet<Pair>) {
+    let mut edges = asked_edges(trace, model, &BTreeSet::new());
+    loop {
+        let chains = squared(&edges);
+        let next = asked_edges(trace, model, &chains);
+        if chains.iter().any(|(x, y)| x == y) || next.len() == edges.len() {
+            return (edges, chains);
+        }
+        edges = next;
+    }
+}
+
+#[test]
+fn rounds_agree_with_the_rules_asked_edge_by_edge() {
+    let mut rules_seen = BTreeSet::new();
+    for name in ["dense", "weak", "middle", "rounds", "stated", "tso-changed"] {
+        for trace in traces(name, 300) {
+            if trace.operations().len() > 24 || lowest_without_source(&trace).is_some() {
+                continue;
+            }
+            for model in MODELS {
+                let round = last_round(&trace, model, &[]);
+                let (edges, asked) = asked_last_round(&trace, model);
+                assert_eq!(round.chains, asked, "{model:?}\n{}", shown(&trace));
+                assert_eq!(round.edges, edges, "{model:?}\n{}", shown(&trace));
+                rules_seen.extend(edges.values().copied());
+            }
+        }
+    }
+    assert_eq!(rules_seen, (1..=7).collect());
+}
+
+// ---- the circle ----
+
+/// Every list of different operations with an edge from each to the next and from the last to the first, that begins with its lowest.
+fn all_circles(edges: &Edges, list: &mut Vec<usize>, most: usize, found: &mut Vec<Vec<usize>>) {
+    let here = list[list.len() - 1];
+    if list.len() > 1 && edges.contains_key(&(here, list[0])) {
+        found.push(list.clone());
+    }
+    if list.len() == most {
+        return;
+    }
+    for &(_, y) in edges.keys().filter(|pair| pair.0 == here) {
+        if y > list[0] && !list.contains(&y) {
+            list.push(y);
+            all_circles(edges, list, most, found);
+            list.pop();
+        }
+    }
+}
+
+#[test]
+fn the_circle_shown_is_the_first_of_all_circles() {
+    let mut lengths = BTreeMap::new();
+    for name in ["dense", "weak", "middle", "stated", "sc-changed"] {
+        for trace in traces(name, 600) {
+            if trace.operations().len() > 10 || lowest_without_source(&trace).is_some() {
+                continue;
+            }
+            for model in MODELS {
+                let (edges, _) = asked_last_round(&trace, model);
+                let mut found = Vec::new();
+                for start in trace.operations() {
+                    all_circles(&edges, &mut vec![start], 5, &mut found);
+                }
+                let wanted = found.into_iter().min_by(|a, b| (a.len(), a).cmp(&(b.len(), b)));
+                let shown_circle = circle(&trace, model);
+                assert_eq!(shown_circle.as_ref().map(|c| &c.operations), wanted.as_ref(), "{model:?}\n{}", shown(&trace));
+                if let Some(circle) = shown_circle {
+                    *lengths.entry(circle.operations.len()).or_insert(0) += 1;
+                    assert!(around(&circle.operations).zip(&circle.rules).all(|(pair, rule)| edges[&pair] == *rule));
+                }
+            }
+        }
+    }
+    assert!(lengths.len() >= 3, "{lengths:?}");
+}
+
+/// Chance edges without any trace, where long circles and many of one length are common.
+#[test]
+fn the_first_shortest_circle_of_chance_edges() {
+    let mut chance = second::chance::Chance::new(5);
+    for _ in 0..3_000 {
+        let (size, percent) = (chance.between(2, 8), chance.between(5, 40));
+        let mut edges = Edges::new();
+        for pair in (0..size).flat_map(|x| (0..size).map(move |y| (x, y))) {
+            if pair.0 != pair.1 && chance.percent(percent) {
+                edges.insert(pair, 1);
+            }
+        }
+        let mut found = Vec::new();
+        (0..size).for_each(|start| all_circles(&edges, &mut vec![start], size, &mut found));
+        let wanted = found.into_iter().min_by(|a, b| (a.len(), a).cmp(&(b.len(), b)));
+        assert_eq!(second::rules::first_shortest_circle(&edges), wanted, "{edges:?}");
+        assert_eq!(chains(&edges), squared(&edges));
+    }
+}
+
+// ---- the reader ----
+
+/// A text that is read can be written again from its records, byte for byte: there is one way only to write a record.
+#[test]
+fn good_texts_can_be_written_again() {
+    let mut good = 0;
+    for name in ["damaged", "edges", "numbers", "ranks", "sizes", "bytes", "tso"] {
+        let family = family(name).expect("a family");
+        for case in 0..3_000 {
+            let text = text(family, 3, case);
+            match read(&text) {
+                Ok(trace) => {
+                    good += 1;
+                    assert!(trace.well_formed());
+                    assert_eq!(text_of(trace.records()), text);
+                }
+                Err(refusal) => assert!(refusal.number == 1 || nth_line(&text, refusal.line) == Some(refusal.part)),
+            }
+        }
+    }
+    assert!(good > 1_000, "{good}");
+}
+
+fn nth_line(text: &[u8], line: usize) -> Option<&[u8]> {
+    text.split(|&byte| byte == b'\n').nth(line - 1)
+}
+
+#[test]
+fn every_refusal_and_its_edge_is_drawn() {
+    let mut seen = BTreeSet::new();
+    for name in ["damaged", "edges", "numbers", "ranks", "sizes", "bytes"] {
+        let family = family(name).expect("a family");
+        seen.extend((0..2_000).filter_map(|case| read(&text(family, 9, case)).err().map(|refusal| refusal.number)));
+    }
+    assert_eq!(seen, (1..=8).collect());
+}
+
+// ---- sessions ----
+
+#[test]
+fn sessions_hold_what_all_orders_with_their_pairs_keep() {
+    let mut chance = second::chance::Chance::new(11);
+    let (mut contradicted, mut held) = (0, 0);
+    for trace in traces("dense", 700).iter().chain(&traces("weak", 500)) {
+        let operations = trace.operations();
+        if !(2..=6).contains(&operations.len()) || lowest_without_source(trace).is_some() {
+            continue;
+        }
+        for model in [1, 2] {
+            let kind = Model::numbered(model).expect("a model");
+            let mut stack = vec![open(trace, model).expect("opens")];
+            for _ in 0..6 {
+                let session = &stack[stack.len() - 1];
+                if chance.percent(30) && stack.len() > 1 {
+                    let back = take_back(session).expect("a pair stands");
+                    stack.pop();
+                    assert_eq!(back, stack[stack.len() - 1]);
+                    continue;
+                }
+                let (x, y) = (*chance.of(&operations), *chance.of(&operations));
+                if x == y {
+                    assert_eq!(suppose(session, x, y), Err((14, session.clone())));
+                    continue;
+                }
+                let next = suppose(session, x, y).expect("good numbers");
+                let answer = ask(&next, x, y).expect("good numbers");
+                assert_eq!(answer, if next.contradicted { Answer::Contradicted } else { Answer::Held });
+                contradicted += usize::from(next.contradicted);
+                held += next.held.len();
+                assert!(kept_by_all_orders(trace, kind, &next.pairs, next.contradicted, &next.held), "{}", shown(trace));
+                stack.push(next);
+            }
+        }
+    }
+    assert!(contradicted > 100 && held > 1_000, "{contradicted} contradicted, {held} held");
+}
+
+fn kept_by_all_orders(trace: &Trace, model: Model, pairs: &[Pair], contradicted: bool, held: &BTreeSet<Pair>) -> bool {
+    let mut list = trace.operations();
+    loop {
+        if judge(trace, model, &list) && keeps(&list, pairs.iter()) && (contradicted || !keeps(&list, held.iter())) {
+            return false;
+        }
+        if !second::orders::next_permutation(&mut list) {
+            return true;
+        }
+    }
+}

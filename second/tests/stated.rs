@@ -1,0 +1,220 @@
+//! What document 01 states outright: its traces, its bounds, its session on KNOT.
+
+use second::bench::output;
+use second::reader::read;
+use second::session::{ask, open, suppose, take_back, Answer};
+use second::stated::{KNOT, STATED};
+use second::trace::{Record, Trace, UNUSED};
+use second::verdict::{judge, verdict, MOST_STEPS};
+
+fn told(text: &str) -> String {
+    output(text.as_bytes(), MOST_STEPS)
+}
+
+fn refused(text: &[u8]) -> Option<(u8, usize, Vec<u8>)> {
+    read(text).err().map(|refusal| (refusal.number, refusal.line, refusal.part.to_vec()))
+}
+
+fn trace(text: &str) -> Trace {
+    read(text.as_bytes()).expect("a good text")
+}
+
+#[test]
+fn traces_to_try() {
+    for stated in &STATED {
+        assert_eq!(told(stated.text), stated.output, "{}", stated.name);
+    }
+}
+
+#[test]
+fn refusals_are_told_in_one_line() {
+    assert_eq!(told("0: sync\n0: syn\n"), "refused 3 line 2\n");
+    assert_eq!(output(&[b'\n'; 8_193], MOST_STEPS), "refused 1 line 0\n");
+}
+
+#[test]
+fn sixty_four_and_sixty_five_records() {
+    let fences = "0: sync\n".repeat(64);
+    assert_eq!(trace(&fences).count, 64);
+    let one_more = |line: &str| refused(format!("{fences}{line}").as_bytes());
+    assert_eq!(one_more("0: sync\n"), Some((7, 65, b"0: sync".to_vec())));
+    assert_eq!(one_more("0: sync"), Some((3, 65, b"0: sync".to_vec())), "3 ranks before 7");
+    assert_eq!(one_more("0: M[0] := 0\n"), Some((6, 65, b"0: M[0] := 0".to_vec())), "6 ranks before 7");
+    let stores: String = (1..=64).map(|value| format!("0: M[0] := {value}\n")).collect();
+    assert_eq!(trace(&stores).count, 64);
+    assert_eq!(refused(format!("{stores}0: M[0] := 1\n").as_bytes()).map(|r| r.0), Some(7), "7 ranks before 8");
+}
+
+#[test]
+fn lines_of_eighty_and_eighty_one_bytes() {
+    let line = |length: usize| format!("0: M[0] := {}", "1".repeat(length - 11));
+    assert_eq!(refused(format!("{}\n", line(80)).as_bytes()), Some((4, 1, line(80).into_bytes())));
+    assert_eq!(refused(format!("{}\n", line(81)).as_bytes()), Some((2, 1, line(81).into_bytes())));
+    assert_eq!(refused(line(80).as_bytes()).map(|r| r.0), Some(3));
+    assert_eq!(refused(line(81).as_bytes()).map(|r| r.0), Some(2));
+}
+
+#[test]
+fn texts_of_8192_and_8193_bytes() {
+    let text: Vec<u8> = b"0: sync\n".iter().copied().cycle().take(8_193).collect();
+    assert_eq!(refused(&text[..8_192]), Some((7, 65, b"0: sync".to_vec())));
+    assert_eq!(refused(&text), Some((1, 0, Vec::new())));
+}
+
+#[test]
+fn numbers_at_their_bounds() {
+    let number = |line: &str| refused(format!("{line}\n").as_bytes()).map_or(0, |refusal| refusal.0);
+    for (line, wanted) in [
+        ("7: sync", 0),
+        ("8: sync", 4),
+        ("7: M[15] := 65535", 0),
+        ("8: M[0] := 1", 4),
+        ("0: M[16] := 1", 4),
+        ("0: M[0] := 65536", 4),
+        ("0: M[0] == 65536", 4),
+        ("0: M[01] := 1", 3),
+        ("0: M[0] := 0", 6),
+        ("0: M[0] == 0", 0),
+        ("0: { M[0] == 1; M[1] := 0 }", 5),
+        ("0: { M[0] == 1; M[16] := 0 }", 4),
+        ("0: { M[0] == 1; M[0] := 0 }", 6),
+        ("0: { M[0] == 0; M[0] := 1 }", 0),
+        ("", 3),
+        ("0: M[0] := 184467440737095516150", 4),
+        ("0: M[0] = 1", 3),
+        ("0: M[0] := 1\r", 3),
+    ] {
+        assert_eq!(number(line), wanted, "{line}");
+    }
+}
+
+#[test]
+fn a_value_written_twice_at_one_address() {
+    assert_eq!(refused(b"0: M[0] := 1\n1: { M[0] == 2; M[0] := 1 }\n").map(|r| (r.0, r.1)), Some((8, 2)));
+    assert_eq!(refused(b"0: M[0] := 1\n1: M[1] := 1\n"), None, "at two addresses");
+    assert_eq!(refused(b"0: M[0] == 1\n1: M[0] := 1\n"), None, "read before is not written before");
+}
+
+#[test]
+fn models_and_traces_handed_in() {
+    let good = trace("0: M[0] := 1\n");
+    let mut bad = good.clone();
+    bad.places[63] = Record::Fence { thread: 1 };
+    assert_eq!(verdict(&good, 0, 1), Err(9));
+    assert_eq!(verdict(&good, 3, 1), Err(9));
+    assert_eq!(verdict(&bad, 3, 1), Err(9));
+    assert_eq!(verdict(&bad, 1, 1), Err(10));
+    assert_eq!(judge(&bad, 2, &[]), Err(10));
+    assert!(verdict(&good, 2, 1).is_ok());
+}
+
+#[test]
+fn what_spoils_the_form() {
+    let store = |address, written| Record::Store { thread: 0, address, written };
+    let well = |records: &[Record]| Trace::of(records).well_formed();
+    assert!(well(&[store(15, 65_535), Record::Load { thread: 7, address: 0, read: 9 }]), "a value nobody wrote may be read");
+    assert!(!well(&[store(16, 1)]));
+    assert!(!well(&[store(0, 65_536)]));
+    assert!(!well(&[store(0, 0)]));
+    assert!(!well(&[store(0, 1), Record::Swap { thread: 1, address: 0, read: 0, written: 1 }]));
+    assert!(!well(&[Record::Fence { thread: 8 }]));
+    assert!(!Trace { count: 65, places: [UNUSED; 64] }.well_formed());
+    assert!(Trace { count: 64, places: [UNUSED; 64] }.well_formed());
+}
+
+#[test]
+fn lists_judged() {
+    let trace = trace("0: M[0] := 1\n0: sync\n1: M[0] == 1\n");
+    for (list, yes) in [
+        (&[0, 2][..], true),
+        (&[2, 0], false),
+        (&[0], false),
+        (&[0, 2, 2], false),
+        (&[0, 1, 2], false),
+        (&[0, 3], false),
+        (&[0, 2, usize::MAX], false),
+        (&[], false),
+    ] {
+        assert_eq!(judge(&trace, 1, list), Ok(yes), "{list:?}");
+    }
+}
+
+#[test]
+fn a_session_on_knot() {
+    for model in [1, 2] {
+        let session = open(&trace(KNOT), model).expect("KNOT opens");
+        assert!(!session.contradicted);
+        for (x, y) in [(2, 8), (8, 2)] {
+            assert_eq!(ask(&session, x, y), Ok(Answer::NotHeld));
+            let supposed = suppose(&session, x, y).expect("good numbers");
+            assert!(supposed.contradicted && supposed.held.is_empty());
+            assert_eq!(ask(&supposed, 0, 3), Ok(Answer::Contradicted));
+            assert_eq!(suppose(&supposed, 0, 3).map(|more| more.pairs.len()), Ok(2), "pairs may still be supposed");
+            assert_eq!(take_back(&supposed).as_ref(), Ok(&session));
+        }
+    }
+}
+
+#[test]
+fn sixteen_and_seventeen_pairs() {
+    let mut session = open(&trace("0: M[0] := 1\n1: M[1] := 1\n1: sync\n"), 2).expect("opens");
+    for _ in 0..16 {
+        session = suppose(&session, 0, 1).expect("a pair already held is stacked");
+    }
+    assert_eq!(suppose(&session, 0, 1), Err((15, session.clone())));
+    assert_eq!(suppose(&session, 0, 2), Err((13, session.clone())));
+    assert_eq!(suppose(&session, 1, 1), Err((14, session.clone())));
+    assert_eq!(suppose(&session, 3, 3), Err((13, session.clone())));
+    for left in (0..16).rev() {
+        session = take_back(&session).expect("a pair stands");
+        assert_eq!(session.pairs.len(), left);
+        assert_eq!(ask(&session, 0, 1), Ok(if left > 0 { Answer::Held } else { Answer::NotHeld }));
+    }
+    assert_eq!(take_back(&session), Err((16, session.clone())));
+}
+
+#[test]
+fn openings_turned_back() {
+    let empty = open(&Trace::empty(), 1).expect("the empty trace opens");
+    let no_source = trace("0: M[0] := 1\n0: M[0] == 2\n");
+    let told = |trace: &Trace, model| open(trace, model).map_err(|refused| (refused.number, refused.record, refused.session));
+    assert_eq!(told(&no_source, 2), Err((11, Some(1), empty.clone())));
+    assert_eq!(told(&no_source, 5), Err((9, None, empty.clone())));
+    let mut spoilt = no_source;
+    spoilt.places[0] = Record::Fence { thread: 9 };
+    assert_eq!(told(&spoilt, 2), Err((10, None, empty)));
+    let circle = open(&trace("0: M[0] := 1\n0: M[0] == 0\n"), 1).expect("a circle does not refuse the opening");
+    assert!(circle.contradicted && circle.held.is_empty());
+}
+
+#[test]
+fn sessions_that_nobody_opened() {
+    let good = suppose(&open(&trace("0: M[0] := 1\n1: M[1] := 1\n"), 1).expect("opens"), 0, 1).expect("good");
+    let mut changed = vec![good.clone(); 8];
+    changed[0].held.clear();
+    changed[1].contradicted = true;
+    changed[2].model = 7;
+    changed[3].model = 0;
+    changed[4].pairs.push((0, 0));
+    changed[5].pairs = vec![(0, 1); 17];
+    changed[6].trace.count = 65;
+    changed[7].trace.places[1] = Record::Load { thread: 1, address: 1, read: 5 };
+    for session in changed {
+        assert_eq!(ask(&session, 9, 9), Err((12, session.clone())), "12 ranks before 13");
+        assert_eq!(suppose(&session, 0, 1), Err((12, session.clone())));
+        assert_eq!(take_back(&session), Err((12, session.clone())));
+    }
+    let mut other_model = good.clone();
+    other_model.model = 2;
+    assert_eq!(ask(&other_model, 0, 1), Ok(Answer::Held), "under TSO this session would be the same: it is sound");
+}
+
+#[test]
+fn a_session_in_words() {
+    let trace = trace("0: M[0] := 1\n0: M[1] == 0\n1: M[1] := 1\n1: M[0] == 0\n0: sync\n");
+    let words = ["ask", "1", "2", "suppose", "0", "1", "suppose", "2", "3", "ask", "0", "1", "back", "ask", "4", "4", "back", "back"];
+    let wanted = "open: held 1-2 3-0\nask 1 2: held\nsuppose 0 1: held 0-1 0-2 1-2 3-0 3-1 3-2\nsuppose 2 3: contradicted\n\
+                  ask 0 1: contradicted\nback: held 0-1 0-2 1-2 3-0 3-1 3-2\nask 4 4: refused 13\nback: held 1-2 3-0\nback: refused 16\n";
+    assert_eq!(second::script::answers(&trace, 2, &words).as_deref(), Some(wanted));
+    assert_eq!(second::script::answers(&trace, 2, &["ask", "1"]), None);
+}
