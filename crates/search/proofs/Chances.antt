@@ -74,10 +74,10 @@ module _ (f : Frame) (K : Table) (T : Tables) (laid : Laid f K T) (small : T .n 
       let e = laid .source L l in
       rw e (source-of-is f L (omega (arith, bit-bounds placed 0 (getD (T .sources) L 0) t .1, e)))
 
-  pub ready-iff : (c : ℕ) → Readied T placed c ↔ Ready f (Led (T .before)) p c
+  pub ready-iff : (c : ℕ) → Readied (T .n) (T .operations) (T .before) (T .writers) (T .sources) placed c ↔ Ready f (Led (T .before)) p c
   ready-iff c = (forth, back)
     where
-      forth : Readied T placed c → Ready f (Led (T .before)) p c
+      forth : Readied (T .n) (T .operations) (T .before) (T .writers) (T .sources) placed c → Ready f (Led (T .before)) p c
       forth r = record {
         operation = laid .operation c .0 (r .operation);
         unplaced = lacks placed p h c .0 (r .unplaced);
@@ -96,7 +96,7 @@ module _ (f : Frame) (K : Table) (T : Tables) (laid : Laid f K T) (small : T .n 
                 ∙ so-any (T .n) (waits (T .writers) (T .sources) placed c) .1 (L, l, waits-iff (T .writers) (T .sources) placed c L .1 (laid .writer c L l .1 w, (there, λ u. false≢true (sym t ∙ u))))))
           ]
 
-      back : Ready f (Led (T .before)) p c → Readied T placed c
+      back : Ready f (Led (T .before)) p c → Readied (T .n) (T .operations) (T .before) (T .writers) (T .sources) placed c
       back r = record {
         operation = laid .operation c .1 (r .operation);
         unplaced = lacks placed p h c .1 (r .unplaced);

@@ -90,7 +90,7 @@ module _ (T : Tables) (list : List ℕ) (k : ℕ) (placed dead : List ℕ) (room
   }
 
   module _ (y : ℕ) (failed list′ dead′ : List ℕ) (now : Trying T list k placed dead y failed list′ dead′) (more : y < T .n) where
-    pub trying-skip : (Readied T placed y → ⊥) → Trying T list k placed dead (y + 1) failed list′ dead′
+    pub trying-skip : (Readied (T .n) (T .operations) (T .before) (T .writers) (T .sources) placed y → ⊥) → Trying T list k placed dead (y + 1) failed list′ dead′
     trying-skip n = record {
       below = omega arith;
       listed = now .listed;
@@ -103,7 +103,7 @@ module _ (T : Tables) (list : List ℕ) (k : ℕ) (placed dead : List ℕ) (room
           (rw add-one (tried-next (Valid f K) p y t a), h, m);
     }
 
-    module _ (ready : Readied T placed y) (space : k < T .total) (next list″ dead″ : List ℕ) (grown : More placed y next) (r : Bool)
+    module _ (ready : Readied (T .n) (T .operations) (T .before) (T .writers) (T .sources) placed y) (space : k < T .total) (next list″ dead″ : List ℕ) (grown : More placed y next) (r : Bool)
         (below : Sought T (set list′ k y) (k + 1) next dead′ list″ dead″ r) (listed : length list″ ≡ length list′) (kept-long : length dead″ ≡ length dead′) where
       places : k < length list′
       places = omega (arith, now .listed, room .places)

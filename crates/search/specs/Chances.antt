@@ -3,7 +3,7 @@
 --   Holds set p     == the set has exactly the numbers of the list p
 --   More set y next == next has y and the numbers of the set
 --   waits .. c L    == L reads from an address that c writes, its source is placed, and it is not
---   Readied T set c == c is an operation outside the set, what must be before it is in it, and nobody waits at its address
+--   Readied .. c    == c is an unplaced operation, what must be before it is placed, and nobody waits at its address
 --   Unread .. y     == everybody who reads from y is placed
 --   still .. y z    == z is a writer of y's address, other than y, that is neither placed nor failed
 --   Covered .. y    == each such writer has one before it that is not placed
@@ -19,7 +19,6 @@ use Rattle.laws.specs.Tests.{any}
 use Rattle.rows.specs.Bounds.{WORDS}
 use Rattle.rows.specs.Rows.{bit}
 use Rattle.rows.specs.Within.{Within}
-use Rattle.search.specs.Laid.{Tables}
 
 abbrev pub Holds : List ℕ → List ℕ → Type 0
 Holds set p = (x : ℕ) → So (bit set 0 x) ↔ (0 < count x p)
@@ -31,11 +30,11 @@ pub record More (set : List ℕ) (y : ℕ) (next : List ℕ) : Type 0 where
 unfoldable pub waits : List ℕ → List ℕ → List ℕ → ℕ → ℕ → Bool
 waits writers sources placed c L = bit writers L c && (bit placed 0 (getD sources L 0) && not (bit placed 0 L))
 
-pub record Readied (T : Tables) (placed : List ℕ) (c : ℕ) : Type 0 where
-  pub operation : So (bit (T .operations) 0 c)
+pub record Readied (n : ℕ) (operations before writers sources placed : List ℕ) (c : ℕ) : Type 0 where
+  pub operation : So (bit operations 0 c)
   pub unplaced : bit placed 0 c ≡ false
-  pub after : Within (T .before) c placed 0
-  pub quiet : any (T .n) (waits (T .writers) (T .sources) placed c) ≡ false
+  pub after : Within before c placed 0
+  pub quiet : any n (waits writers sources placed c) ≡ false
 
 abbrev pub Unread : ℕ → List ℕ → List ℕ → ℕ → Type 0
 Unread n sources placed y = (L : ℕ) → L < n → getD sources L 0 ≡ y → So (bit placed 0 L)

@@ -42,17 +42,15 @@ fn quiet(n: usize, writers: &[u64], sources: &[usize], placed: &[u64], c: usize)
 // Whether c may be placed next.
 fn ready(
     n: usize,
-    total: usize,
     operations: &[u64],
     before: &[u64],
     writers: &[u64],
-    leaders: &[u64],
     sources: &[usize],
     placed: &[u64],
     c: usize,
 ) -> bool
     requires { ⌜ n ≤ length (now sources) ⌝ }
-    ensures { λ r. ⌜ So r ↔ Readied (tables n total (now (operations .entry)) (now (before .entry)) (now (writers .entry)) (now (leaders .entry)) (now (sources .entry))) (now (placed .entry)) c ⌝ }
+    ensures { λ r. ⌜ So r ↔ Readied n (now (operations .entry)) (now (before .entry)) (now (writers .entry)) (now (sources .entry)) (now (placed .entry)) c ⌝ }
 {
     if !rows::test(operations, 0, c) {
         return false;
@@ -187,25 +185,13 @@ pub(crate) fn find(
     if k == total {
         return true;
     }
-    if 0 < k {
-        if known(dead, placed) {
-            return false;
-        }
+    if (0 < k) & known(dead, placed) {
+        return false;
     }
     let mut failed = [0u64; rows::WORDS];
     let mut y: usize = 0;
     while y < n {
-        if ready(
-            n,
-            total,
-            operations,
-            before,
-            writers,
-            leaders,
-            sources,
-            placed,
-            y,
-        ) {
+        if ready(n, operations, before, writers, sources, placed, y) {
             list[k] = y as u8;
             let mut next = [0u64; rows::WORDS];
             join(placed, y, &mut next);
