@@ -3,3 +3,4 @@ pub mod Filling
 pub mod Forcing
 pub mod Openings
 pub mod Sessions
+pub mod Answering
