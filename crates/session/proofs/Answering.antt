@@ -6,10 +6,10 @@
 --   told-contradicted, told-bit                    == what its table says
 --   pair-allows, suppose-allows, back-allows       == what is so where nothing was turned back
 --   open-done, open-refused, suppose-taken, suppose-refused, back-taken, back-refused, ask-told, ask-refused == the calls as a whole
-use mathlib.Core.Path.{_≡_, refl, sym, ap, ap₂, _∙_}
-use mathlib.Core.Logic.{_≢_, inl, inr}
+use mathlib.Core.Path.{_≡_, refl, sym, ap, _∙_}
+use mathlib.Core.Logic.{_≢_}
 use mathlib.Core.Bool.{Bool, true, false, So, cond, _&&_, false≢true}
-use mathlib.Core.List.{List, [], _∷_, _++_}
+use mathlib.Core.List.{[], _∷_, _++_}
 use Prim.Native.Nat.{ℕ, _-_, _≤_, _<_}
 use lib.Dec.{eqb, leb}
 use lib.ListN.{length, take}

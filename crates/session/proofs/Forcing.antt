@@ -5,13 +5,14 @@
 --   among-pushed    == one pair more
 --   drawn-iff       == rows with the pairs of the list
 --   supposed-drawn  == lent as rows, they are the supposed pairs
+--   computed        == what the definition computes from them is the answer of the closing
 --   forced-afresh   == what is forced from them, as a session holds it
 --   afresh-closing  == the session's own table is the answer of the closing
-use mathlib.Core.Path.{_≡_, refl, sym, ap, ap₂, _∙_, subst, fun-ext}
+use mathlib.Core.Path.{_≡_, sym, _∙_, subst, fun-ext}
 use mathlib.Core.Logic.{_↔_, _⊎_, inl, inr}
-use mathlib.Core.Bool.{Bool, true, false, So, _||_, _&&_, false≢true}
+use mathlib.Core.Bool.{true, false, So, _&&_, false≢true}
 use mathlib.Core.List.{List, [], _∷_, _++_}
-use Prim.Native.Nat.{ℕ, zero, suc, _<_, _≤_}
+use Prim.Native.Nat.{ℕ, suc, _<_, _≤_}
 use native.Mathlib.Omega.{arith}
 use lib.Dec.{eqb}
 use lib.ListN.{length, getD}
@@ -19,7 +20,6 @@ use Rattle.laws.specs.Relation.{Table}
 use Rattle.laws.proofs.Tests.{and-iff, or-iff, same-iff, so-eq, test-one}
 use Rattle.trace.specs.Bounds.{RECORDS}
 use Rattle.trace.specs.WellFormed.{wellFormed}
-use Rattle.trace.specs.Frame.{Frame, Good}
 use Rattle.trace.specs.Meaning.{frameOf}
 use Rattle.trace.specs.declared.Trace.{Trace}
 use Rattle.trace.proofs.WellFormed.{form-iff}
@@ -31,7 +31,7 @@ use Rattle.rows.specs.Empty.{emptyOf}
 use Rattle.rows.specs.Put.{putOf}
 use Rattle.rows.proofs.Pair.{put-iff, put-long}
 use Rattle.rows.proofs.Whole.{empty-bit, empty-long}
-use Rattle.edges.specs.Rules.{Joins, Within, Held}
+use Rattle.edges.specs.Rules.{Joins, Within}
 use Rattle.edges.specs.Kept.{modelled, keptOf}
 use Rattle.edges.specs.Supposed.{supposedOf}
 use Rattle.edges.specs.Closing.{Closing, contradicted?, held?}
@@ -42,8 +42,7 @@ use Rattle.edges.proofs.Kept.{kept-joins}
 use Rattle.edges.proofs.Ends.{joins-within, held-joins}
 use Rattle.edges.proofs.Ended.{kept-within}
 use Rattle.edges.proofs.Closing.{closing-one, closing-computed}
-use Rattle.session.specs.Stack.{unused, supposable, Allowed, among, drawn}
-use Rattle.session.specs.Filled.{filled}
+use Rattle.session.specs.Stack.{unused, Allowed, among, drawn}
 use Rattle.session.specs.Session.{afresh}
 use Rattle.session.specs.declared.Pair.{Pair}
 use Rattle.session.proofs.Pairs.{supposable-iff}
@@ -121,7 +120,7 @@ module _ (t : Trace) (wf : So (wellFormed t)) where
 
   module _ (m : ℕ) (ps : List Pair) (a : Allowed t ps) where
     -- the computed answer
-    computed : Closing (frameOf t) (keptOf m t) (among ps) (contradicted? (frameOf t) (keptOf m t) (among ps)) (held? (frameOf t) (keptOf m t) (among ps))
+    pub computed : Closing (frameOf t) (keptOf m t) (among ps) (contradicted? (frameOf t) (keptOf m t) (among ps)) (held? (frameOf t) (keptOf m t) (among ps))
     computed = closing-computed (frameOf t) (keptOf m t) (among ps) (good t wf) (kept-within m t wf) (among-within ps a)
 
     pub forced-afresh : So (modelled m) → (r : Forced) → Forces t m (drawn ps (emptyOf CELLS)) r → (r .contradicted ≡ afresh t m ps .contradicted) × (r .held ≡ afresh t m ps .held)

@@ -5,7 +5,7 @@
 --   empty-opens  == the empty trace opens under model 1
 use mathlib.Core.Path.{_≡_, refl, sym, ap, _∙_}
 use mathlib.Core.Logic.{_↔_, inl, inr}
-use mathlib.Core.Bool.{Bool, true, false, So, false≢true}
+use mathlib.Core.Bool.{true, false, So, false≢true}
 use Prim.Native.Nat.{ℕ, _<_}
 use native.Mathlib.Omega.{arith}
 use Rattle.laws.specs.Lowest.{Lowest}
@@ -25,7 +25,7 @@ use Rattle.orders.proofs.MissingOf.{missing-lowest}
 use Rattle.session.specs.Opening.{sourcedOf, openingOf, isDone, openable}
 use Rattle.session.specs.declared.Reason.the-variants.{NoModel, NotWellFormed}
 use Rattle.session.specs.declared.Answer.{Answer}
-use Rattle.session.specs.declared.Answer.the-variants.{Done, Held, NotHeld, Contradicted, NoSource, Refused}
+use Rattle.session.specs.declared.Answer.the-variants.{Refused}
 
 module _ (t : Trace) (m : ℕ) where
   pub opening-nine : modelled m ≡ false → openingOf t m ≡ Refused NoModel

@@ -11,15 +11,14 @@
 --   drawn-more, drawn-all                  == what a loop that draws the pairs comes to
 use mathlib.Core.Path.{_≡_, refl, sym, ap, ap₂, _∙_}
 use mathlib.Core.Logic.{_≢_, _↔_, inl, inr}
-use mathlib.Core.Bool.{Bool, true, false, So, cond, false≢true}
+use mathlib.Core.Bool.{false, So}
 use mathlib.Core.List.{List, [], _∷_, _++_}
-use Prim.Native.Nat.{ℕ, suc, _+_, _-_, _<_, _≤_}
+use Prim.Native.Nat.{ℕ, _+_, _-_, _<_, _≤_}
 use native.Mathlib.Nat.{not-suc-le-zero}
 use native.Mathlib.Numerals.{add-one}
 use native.Mathlib.Decide.{decLt}
 use native.Mathlib.Omega.{arith}
-use lib.Dec.{ltb}
-use lib.ListN.{length, getD, set, take, drop, replicate, drop-of-length-le, length-append, length-set, length-replicate, getD-replicate, List·getD-append}
+use lib.ListN.{length, getD, take, drop, replicate, drop-of-length-le, length-append, length-set, length-replicate, getD-replicate, List·getD-append}
 use lib.Seq.{drop-cons, length-take-le, take-append-seam, take-set-le, take-suc-set, take-take, getD-take, getD-append-add, getD-set-same, getD-set-other, ext-getD}
 use borrow.Author.Tests.{lt-ltb, le-ltb, eq-eqb, le-leb, lt-leb}
 use Rattle.laws.proofs.Tests.{and-iff, not-iff, same-iff, so-eq, so-le, all-iff, eq?}
