@@ -2,7 +2,6 @@
 --
 --   among-in        == a pair of the table is one of the list
 --   among-joins     == the pairs of an allowed list join operations
---   among-pushed    == one pair more
 --   drawn-iff       == rows with the pairs of the list
 --   supposed-drawn  == lent as rows, they are the supposed pairs
 --   computed        == what the definition computes from them is the answer of the closing
@@ -11,7 +10,7 @@
 use mathlib.Core.Path.{_≡_, sym, _∙_, subst, fun-ext}
 use mathlib.Core.Logic.{_↔_, _⊎_, inl, inr}
 use mathlib.Core.Bool.{true, false, So, _&&_, false≢true}
-use mathlib.Core.List.{List, [], _∷_, _++_}
+use mathlib.Core.List.{List, [], _∷_}
 use Prim.Native.Nat.{ℕ, suc, _<_, _≤_}
 use native.Mathlib.Omega.{arith}
 use lib.Dec.{eqb}
@@ -67,18 +66,6 @@ among-joins t ps a x y s =
     let i = among-in ps x y s in
     let g = supposable-iff t (getD ps (i .0) unused) .0 (a .good (i .0) (i .1)) in
     (rw (i .2 .0) (g .0 .0), rw (i .2 .1) (g .0 .1))
-
-pub among-pushed : (ps : List Pair) (p : Pair) (x y : ℕ) → So (among (ps ++ p ∷ []) x y) ↔ (So (among ps x y) ⊎ ((x ≡ p .first) × (y ≡ p .second)))
-unfolding among
-among-pushed [] p x y =
-    let e = or-iff (is-pair p x y) (same-iff {a = false}) in
-    (λ s. elim (e .0 s) [ inl h ↦ inr h | inr h ↦ inl h ], λ q. elim q [ inl h ↦ e .1 (inr h) | inr h ↦ e .1 (inl h) ])
-among-pushed (a ∷ ps) p x y =
-    let later = or-iff (is-pair a x y) (among-pushed ps p x y) in
-    let now = or-iff (is-pair a x y) (same-iff {a = among ps x y}) in (
-      λ s. elim (later .0 s) [ inl h ↦ inl (now .1 (inl h)) | inr h ↦ elim h [ inl u ↦ inl (now .1 (inr u)) | inr u ↦ inr u ] ],
-      λ q. elim q [ inl h ↦ elim (now .0 h) [ inl u ↦ later .1 (inl u) | inr u ↦ later .1 (inr (inl u)) ] | inr h ↦ later .1 (inr (inr h)) ],
-    )
 
 -- the numbers of the pairs have places in the rows
 abbrev pub Placed : List Pair → Type 0

@@ -79,7 +79,7 @@ fn draw(k: Stack, rows: &mut [u64])
     ensures { λ r. ⌜ now (rows .exit) ≡ drawn (standing k) (now (rows .entry)) ⌝ }
 {
     let n = k.count;
-    let mut i = 0;
+    let mut i: usize = 0;
     while i < n {
         let p = k.pairs[i];
         rows::put(rows, p.first, p.second);
@@ -251,9 +251,9 @@ pub fn suppose(s: Session, x: usize, y: usize) -> Reply
         return Reply { answer, session: s };
     }
     let mut k = s.stack;
-    let n = k.count;
-    let next = n + 1;
-    k.pairs[n] = Pair {
+    let at = k.count;
+    let next = at + 1;
+    k.pairs[at] = Pair {
         first: x,
         second: y,
     };
@@ -270,14 +270,14 @@ pub fn take_back(s: Session) -> Reply
     if !done(answer) {
         return Reply { answer, session: s };
     }
-    let mut k = s.stack;
-    let last = k.count - 1;
-    k.pairs[last] = Pair {
+    let mut rest = s.stack;
+    let last = rest.count - 1;
+    rest.pairs[last] = Pair {
         first: 0,
         second: 0,
     };
-    k.count = last;
-    let session = made(s.trace, s.model, k);
+    rest.count = last;
+    let session = made(s.trace, s.model, rest);
     Reply { answer, session }
 }
 
