@@ -1,5 +1,11 @@
+-- Laws of sessions, for the proofs of functions here and above.
 pub mod Pairs
 pub mod Filling
 pub mod Forcing
 pub mod Openings
 pub mod Sessions
+pub mod Answering
+pub mod Standing
+pub mod Promises
+pub mod Numbering
+pub mod One

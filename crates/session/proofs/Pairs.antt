@@ -4,25 +4,30 @@
 --   standing-long, standing-at             == the list that a session keeps, by its places
 --   stands-allowed, stands-same            == what stands is an allowed list, and nothing else
 --   allowed-stands, standing-stacked       == an allowed list, as a session keeps it, stands, and is found again
+--   none-allowed                           == the empty list is allowed
 --   pushed-stands, standing-pushed         == one pair more
 --   popped-stands, standing-popped         == without the latest pair
+--   stands-over, stands-all                == what a loop over the places learns
+--   drawn-more, drawn-all                  == what a loop that draws the pairs comes to
 use mathlib.Core.Path.{_≡_, refl, sym, ap, ap₂, _∙_}
 use mathlib.Core.Logic.{_≢_, _↔_, inl, inr}
-use mathlib.Core.Bool.{Bool, true, false, So, cond, false≢true}
+use mathlib.Core.Bool.{false, So}
 use mathlib.Core.List.{List, [], _∷_, _++_}
-use Prim.Native.Nat.{ℕ, suc, _+_, _-_, _<_, _≤_}
+use Prim.Native.Nat.{ℕ, _+_, _-_, _<_, _≤_}
+use native.Mathlib.Nat.{not-suc-le-zero}
 use native.Mathlib.Numerals.{add-one}
 use native.Mathlib.Decide.{decLt}
 use native.Mathlib.Omega.{arith}
-use lib.Dec.{ltb}
-use lib.ListN.{length, getD, set, take, replicate, length-append, length-set, length-replicate, getD-replicate, List·getD-append}
-use lib.Seq.{length-take-le, take-append-seam, take-set-le, take-suc-set, take-take, getD-take, getD-append-add, getD-set-same, getD-set-other, ext-getD}
-use borrow.Author.Tests.{lt-ltb, le-ltb}
+use lib.ListN.{length, getD, take, drop, replicate, drop-of-length-le, length-append, length-set, length-replicate, getD-replicate, List·getD-append}
+use lib.Seq.{drop-cons, length-take-le, take-append-seam, take-set-le, take-suc-set, take-take, getD-take, getD-append-add, getD-set-same, getD-set-other, ext-getD}
+use borrow.Author.Tests.{lt-ltb, le-ltb, eq-eqb, le-leb, lt-leb}
 use Rattle.laws.proofs.Tests.{and-iff, not-iff, same-iff, so-eq, so-le, all-iff, eq?}
+use Rattle.laws.specs.Tests.{all}
 use Rattle.trace.specs.Meaning.{frameOf}
 use Rattle.trace.specs.declared.Trace.{Trace}
+use Rattle.rows.specs.Put.{putOf}
 use Rattle.session.specs.Bounds.{PAIRS}
-use Rattle.session.specs.Stack.{unused, isUnused, supposable, Allowed, stacked, pairAt, standing, placed, stands, Stands, pushed, popped}
+use Rattle.session.specs.Stack.{unused, isUnused, supposable, Allowed, stacked, pairAt, standing, placed, stands, Stands, pushed, popped, drawn}
 use Rattle.session.specs.declared.Pair.{Pair}
 use Rattle.session.specs.declared.Stack.{Stack}
 
@@ -113,6 +118,10 @@ module _ (t : Trace) (ps : List Pair) where
         rw e (getD-append-add ps (replicate (PAIRS - length ps) unused) (i - length ps) unused ∙ getD-replicate (PAIRS - length ps) (i - length ps) unused unused (omega arith));
   }
 
+-- no pair stands anywhere
+pub none-allowed : (t : Trace) → Allowed t []
+none-allowed t = record { room = omega arith; good = λ i h. absurd (not-suc-le-zero h) }
+
 module _ (t : Trace) (k : Stack) (s : Stands t k) where
   pub pushed-stands : (p : Pair) → k .count < PAIRS → So (supposable t p) → Stands t (pushed k p)
   pushed-stands p h g = record {
@@ -146,3 +155,26 @@ module _ (t : Trace) (k : Stack) (s : Stands t k) where
       take-set-le (k .count - 1) (k .pairs) (k .count - 1) unused (omega arith)
       ∙ sym (take-take (k .count - 1) (k .count) (k .pairs) (omega arith))
       ∙ ap (λ n. take (n - 1) (take (k .count) (k .pairs))) (sym (standing-long t k s))
+
+module _ (t : Trace) (k : Stack) (l : length (k .pairs) ≡ PAIRS) where
+  pub stands-over : PAIRS < k .count → stands t k ≡ false
+  unfolding stands
+  stands-over h = rw (eq-eqb _ _ l, lt-leb (k .count) PAIRS h) refl
+
+  pub stands-all : k .count ≤ PAIRS → stands t k ≡ all PAIRS (placed t k)
+  unfolding stands
+  stands-all h = rw (eq-eqb _ _ l, le-leb (k .count) PAIRS h) refl
+
+module _ (k : Stack) (l : length (k .pairs) ≡ PAIRS) (room : k .count ≤ PAIRS) where
+  -- the pairs from place i on
+  pub drawn-more : (rows : List ℕ) (i : ℕ) → i < k .count
+      → drawn (drop (i + 1) (standing k)) (putOf rows (pairAt k i .first) (pairAt k i .second)) ≡ drawn (drop i (standing k)) rows
+  unfolding standing drawn
+  drawn-more rows i h =
+      let n : i < length (take (k .count) (k .pairs)) = omega (arith, length-take-le (k .count) (k .pairs) (omega arith)) in
+      sym (ap (λ ps. drawn ps rows) (drop-cons (take (k .count) (k .pairs)) i unused n)
+      ∙ rw (getD-take (k .count) (k .pairs) i unused h, add-one i) refl)
+
+  pub drawn-all : (rows : List ℕ) (i : ℕ) → k .count ≤ i → drawn (drop i (standing k)) rows ≡ rows
+  unfolding standing drawn
+  drawn-all rows i h = ap (λ ps. drawn ps rows) (drop-of-length-le (take (k .count) (k .pairs)) {i = i} (omega (arith, length-take-le (k .count) (k .pairs) (omega arith))))

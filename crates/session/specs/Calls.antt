@@ -6,7 +6,7 @@
 --   supposeAll ps        == the calls that suppose the pairs of a list in turn
 use mathlib.Core.Bool.{cond, _&&_}
 use mathlib.Core.List.{List, [], _∷_, _++_}
-use Prim.Native.Nat.{ℕ, _-_}
+use Prim.Native.Nat.{_-_}
 use lib.Dec.{ltb}
 use lib.ListN.{length, take}
 use Rattle.trace.specs.declared.Trace.{Trace}

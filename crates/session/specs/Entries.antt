@@ -7,7 +7,7 @@
 --   next a s′ s       == the session after a call: s′ where nothing was turned back, otherwise the session as given
 --   openOf, supposeOf, takeBackOf, askOf == the calls
 use mathlib.Core.Bool.{cond, _&&_}
-use mathlib.Core.List.{List, [], _∷_, _++_}
+use mathlib.Core.List.{[], _∷_, _++_}
 use Prim.Native.Nat.{ℕ, _-_}
 use lib.Dec.{eqb, leb}
 use lib.ListN.{length, take}

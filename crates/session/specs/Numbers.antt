@@ -4,7 +4,7 @@
 --   numberOf a   == the same with 0 for nothing
 --   Act          == a call on a session: suppose a pair, take the latest back, ask about a pair
 --   Call         == an opening, or an act on any session value whatever
---   Names a x    == the act speaks of record x
+--   Names a x y  == the act speaks of the pair x, y
 --   Applies c n  == number n applies to the call
 --   replyOf s a  == what an act on a session gets
 --   answerOf c   == what a call is answered

@@ -1,5 +1,7 @@
 // A session on a trace and a model: pairs are supposed and taken back, and the edges that the rules force from them are held.
 
+pub mod calls;
+
 use trace::Trace;
 
 // How many pairs stand at the most; specs/Bounds.antt has the same number.

@@ -1,0 +1,164 @@
+-- What the calls answer, case by case.
+--
+--   pair-unlike, pair-fence, pair-one, pair-done   == whether a session takes a pair to speak of
+--   suppose-pair, suppose-full, suppose-done       == whether it takes one more
+--   back-unlike, back-none, back-done              == whether it has one to take back
+--   told-contradicted, told-bit                    == what its table says
+--   pair-allows, suppose-allows, back-allows       == what is so where nothing was turned back
+--   open-done, open-refused, suppose-taken, suppose-refused, back-taken, back-refused, ask-told, ask-refused == the calls as a whole
+use mathlib.Core.Path.{_≡_, refl, sym, ap, _∙_}
+use mathlib.Core.Logic.{_≢_}
+use mathlib.Core.Bool.{Bool, true, false, So, cond, _&&_, false≢true}
+use mathlib.Core.List.{[], _∷_, _++_}
+use Prim.Native.Nat.{ℕ, _-_, _≤_, _<_}
+use lib.Dec.{eqb, leb}
+use lib.ListN.{length, take}
+use borrow.Author.Tests.{eq-eqb, ne-eqb, eqb-false, le-leb, lt-leb, leb-false}
+use Rattle.laws.proofs.Tests.{and-iff, same-iff}
+use Rattle.trace.specs.Meaning.{frameOf}
+use Rattle.trace.specs.declared.Trace.{Trace}
+use Rattle.rows.specs.Rows.{bit}
+use Rattle.session.specs.Bounds.{PAIRS}
+use Rattle.session.specs.Stack.{supposable, standing}
+use Rattle.session.specs.Opening.{openingOf, isDone}
+use Rattle.session.specs.Session.{afresh, intact, Intact, blank}
+use Rattle.session.specs.Entries.{pairTurn, supposeTurn, takeBackTurn, toldOf, openOf, supposeOf, takeBackOf, askOf}
+use Rattle.session.specs.declared.Reason.the-variants.{Unlike, NoOperation, OneRecord, TooManyPairs, NoPair}
+use Rattle.session.specs.declared.Answer.{Answer}
+use Rattle.session.specs.declared.Answer.the-variants.{Done, Held, NotHeld, Contradicted, Refused}
+use Rattle.session.specs.declared.Session.{Session}
+use Rattle.session.specs.declared.Reply.{Reply}
+use Rattle.session.proofs.Pairs.{supposable-iff}
+use Rattle.session.proofs.Sessions.{intact-iff}
+
+-- a choice between an answer and a refusal
+done-where : (b : Bool) (a r : Answer) → isDone r ≡ false → So (isDone (cond b a r)) → So b × So (isDone a)
+done-where true a r n s = (refl, s)
+done-where false a r n s = absurd (false≢true (sym n ∙ s))
+
+done-unless : (b : Bool) (a r : Answer) → isDone r ≡ false → So (isDone (cond b r a)) → (b ≡ false) × So (isDone a)
+done-unless true a r n s = absurd (false≢true (sym n ∙ s))
+done-unless false a r n s = (refl, s)
+
+done-after : (a r : Answer) → So (isDone (cond (isDone a) r a)) → So (isDone a) × So (isDone r)
+done-after a r = go (isDone a) refl
+  where
+    go : (b : Bool) → isDone a ≡ b → So (isDone (cond b r a)) → So (isDone a) × So (isDone r)
+    go true e s = (e, s)
+    go false e s = absurd (false≢true (sym e ∙ s))
+
+-- an answer and a session
+abbrev both : Answer → Session → Reply
+both a s = record { answer = a; session = s }
+
+module _ (s : Session) where
+  module _ (x y : ℕ) where
+    abbrev Operations : Bool
+    Operations = frameOf (s .trace) .operation x && frameOf (s .trace) .operation y
+
+    pub pair-unlike : intact s ≡ false → pairTurn s x y ≡ Refused Unlike
+    unfolding pairTurn
+    pair-unlike e = rw e refl
+
+    pub pair-fence : So (intact s) → Operations ≡ false → pairTurn s x y ≡ Refused NoOperation
+    unfolding pairTurn
+    pair-fence i e = rw (i, e) refl
+
+    pub pair-one : So (intact s) → So Operations → x ≡ y → pairTurn s x y ≡ Refused OneRecord
+    unfolding pairTurn
+    pair-one i o e = rw (i, o, eq-eqb x y e) refl
+
+    pub pair-done : So (intact s) → So Operations → x ≢ y → pairTurn s x y ≡ Done
+    unfolding pairTurn
+    pair-done i o d = rw (i, o, ne-eqb x y d) refl
+
+    pub pair-allows : So (isDone (pairTurn s x y)) → Intact s × So (supposable (s .trace) (record { first = x; second = y }))
+    unfolding pairTurn
+    pair-allows h =
+        let a = done-where (intact s) _ (Refused Unlike) refl h in
+        let b = done-where Operations _ (Refused NoOperation) refl (a .1) in
+        let c = done-unless (eqb x y) Done (Refused OneRecord) refl (b .1) in
+        (intact-iff s .0 (a .0), supposable-iff (s .trace) (record { first = x; second = y }) .1 (and-iff same-iff same-iff .0 (b .0), eqb-false x y (c .0)))
+
+    pub suppose-pair : isDone (pairTurn s x y) ≡ false → supposeTurn s x y ≡ pairTurn s x y
+    unfolding supposeTurn
+    suppose-pair e = rw e refl
+
+    pub suppose-full : So (isDone (pairTurn s x y)) → PAIRS ≤ s .stack .count → supposeTurn s x y ≡ Refused TooManyPairs
+    unfolding supposeTurn
+    suppose-full e h = rw (e, le-leb PAIRS (s .stack .count) h) refl
+
+    pub suppose-done : So (isDone (pairTurn s x y)) → s .stack .count < PAIRS → supposeTurn s x y ≡ Done
+    unfolding supposeTurn
+    suppose-done e h = rw (e, lt-leb PAIRS (s .stack .count) h) refl
+
+    pub suppose-allows : So (isDone (supposeTurn s x y)) → Intact s × So (supposable (s .trace) (record { first = x; second = y })) × (s .stack .count < PAIRS)
+    unfolding supposeTurn
+    suppose-allows h =
+        let a = done-after (pairTurn s x y) _ h in
+        let b = done-unless (leb PAIRS (s .stack .count)) Done (Refused TooManyPairs) refl (a .1) in
+        let c = pair-allows (a .0) in
+        (c .0, c .1, leb-false PAIRS (s .stack .count) (b .0))
+
+    pub told-contradicted : So (s .contradicted) → toldOf s x y ≡ Contradicted
+    unfolding toldOf
+    told-contradicted e = rw e refl
+
+    pub told-bit : s .contradicted ≡ false → toldOf s x y ≡ cond (bit (s .held) x y) Held NotHeld
+    unfolding toldOf
+    told-bit e = rw e refl
+
+    module _ (a : Answer) (e : a ≡ supposeTurn s x y) where
+      pub suppose-refused : isDone a ≡ false → both a s ≡ supposeOf s x y
+      unfolding supposeOf
+      suppose-refused n = rw (← e, n) refl
+
+      pub suppose-taken : So (isDone a) → (s′ : Session) → s′ ≡ afresh (s .trace) (s .model) (standing (s .stack) ++ record { first = x; second = y } ∷ []) → both a s′ ≡ supposeOf s x y
+      unfolding supposeOf
+      suppose-taken d s′ q = rw (← e, d) (ap (both a) q)
+
+    module _ (a : Answer) (e : a ≡ pairTurn s x y) where
+      pub ask-refused : isDone a ≡ false → both a s ≡ askOf s x y
+      unfolding askOf
+      ask-refused n = rw (← e, n) refl
+
+      pub ask-told : So (isDone a) → (b : Answer) → b ≡ toldOf s x y → both b s ≡ askOf s x y
+      unfolding askOf
+      ask-told d b q = rw (← e, d) (ap (λ c. both c s) q)
+
+  pub back-unlike : intact s ≡ false → takeBackTurn s ≡ Refused Unlike
+  unfolding takeBackTurn
+  back-unlike e = rw e refl
+
+  pub back-none : So (intact s) → s .stack .count ≡ 0 → takeBackTurn s ≡ Refused NoPair
+  unfolding takeBackTurn
+  back-none i e = rw (i, eq-eqb (s .stack .count) 0 e) refl
+
+  pub back-done : So (intact s) → s .stack .count ≢ 0 → takeBackTurn s ≡ Done
+  unfolding takeBackTurn
+  back-done i d = rw (i, ne-eqb (s .stack .count) 0 d) refl
+
+  pub back-allows : So (isDone (takeBackTurn s)) → Intact s × (s .stack .count ≢ 0)
+  unfolding takeBackTurn
+  back-allows h =
+      let a = done-where (intact s) _ (Refused Unlike) refl h in
+      let b = done-unless (eqb (s .stack .count) 0) Done (Refused NoPair) refl (a .1) in
+      (intact-iff s .0 (a .0), eqb-false (s .stack .count) 0 (b .0))
+
+  module _ (a : Answer) (e : a ≡ takeBackTurn s) where
+    pub back-refused : isDone a ≡ false → both a s ≡ takeBackOf s
+    unfolding takeBackOf
+    back-refused n = rw (← e, n) refl
+
+    pub back-taken : So (isDone a) → (s′ : Session) → s′ ≡ afresh (s .trace) (s .model) (take (length (standing (s .stack)) - 1) (standing (s .stack))) → both a s′ ≡ takeBackOf s
+    unfolding takeBackOf
+    back-taken d s′ q = rw (← e, d) (ap (both a) q)
+
+module _ (t : Trace) (m : ℕ) (a : Answer) (e : a ≡ openingOf t m) where
+  pub open-done : So (isDone a) → (s : Session) → s ≡ afresh t m [] → both a s ≡ openOf t m
+  unfolding openOf
+  open-done d s q = rw (← e, d) (ap (both a) q)
+
+  pub open-refused : isDone a ≡ false → (s : Session) → s ≡ blank → both a s ≡ openOf t m
+  unfolding openOf
+  open-refused n s q = rw (← e, n) (ap (both a) q)

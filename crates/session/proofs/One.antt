@@ -1,0 +1,25 @@
+-- No second answer meets the contract of a public function.
+--
+--   FUNCTION-settles == the contract settles what the function gives back
+use mathlib.Core.Path.{_∙_, sym}
+use Rattle.laws.specs.Settles.{Settles}
+use Rattle.session.proofs.calls.open.Reads as opens
+use Rattle.session.proofs.calls.open.Kinds as open-kinds
+use Rattle.session.proofs.calls.suppose.Reads as suppose
+use Rattle.session.proofs.calls.suppose.Kinds as suppose-kinds
+use Rattle.session.proofs.calls.take_back.Reads as take-back
+use Rattle.session.proofs.calls.take_back.Kinds as take-back-kinds
+use Rattle.session.proofs.calls.ask.Reads as ask
+use Rattle.session.proofs.calls.ask.Kinds as ask-kinds
+
+pub open-settles : Settles 0 open-kinds.ps open-kinds.r opens.Post
+open-settles κs a x y s t p q = p ∙ sym q
+
+pub suppose-settles : Settles 0 suppose-kinds.ps suppose-kinds.r suppose.Post
+suppose-settles κs a x y s t p q = p ∙ sym q
+
+pub take-back-settles : Settles 0 take-back-kinds.ps take-back-kinds.r take-back.Post
+take-back-settles κs a x y s t p q = p ∙ sym q
+
+pub ask-settles : Settles 0 ask-kinds.ps ask-kinds.r ask.Post
+ask-settles κs a x y s t p q = p ∙ sym q

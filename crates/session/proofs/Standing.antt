@@ -1,0 +1,172 @@
+-- What any list of calls comes to: the session made afresh with the pairs still standing.
+--
+--   kept-allowed  == the pairs that stand after a call are allowed again
+--   act-kept      == one call on a session made afresh
+--   act-unlike    == a call on a session that is not intact gives it back as it was
+--   after-afresh  == any list of calls, refused ones included
+--   after-opened, after-refused == so it goes after any opening, done or refused
+--   supposed-all  == supposing the pairs of an allowed list in turn leaves that list standing
+--   after-again   == hence after any calls the session equals the one opened afresh in which the pairs still standing are supposed in turn
+use mathlib.Core.Path.{_≡_, refl, sym, ap, _∙_, subst}
+use mathlib.Core.Logic.{inl, inr}
+use mathlib.Core.Bool.{Bool, true, false, So, cond, _&&_, false≢true}
+use mathlib.Core.List.{List, [], _∷_, _++_, append-assoc, append-nil}
+use Prim.Native.Nat.{ℕ, _+_, _-_, _<_}
+use native.Mathlib.Omega.{arith}
+use lib.Dec.{ltb}
+use lib.ListN.{length, getD, take, length-append}
+use lib.Seq.{take-all, getD-append-add}
+use Rattle.laws.proofs.Tests.{off, and-iff, same-iff, so-lt, eq?}
+use Rattle.trace.specs.Trace.{empty}
+use Rattle.trace.specs.declared.Trace.{Trace}
+use Rattle.pairs.specs.Kept.{SC}
+use Rattle.session.specs.Bounds.{PAIRS}
+use Rattle.session.specs.Stack.{unused, supposable, Allowed, stacked, standing, pushed, popped}
+use Rattle.session.specs.Opening.{openingOf, isDone, openable}
+use Rattle.session.specs.Session.{afresh, intact, blank}
+use Rattle.session.specs.Entries.{supposeTurn, takeBackTurn, openOf, supposeOf, takeBackOf, askOf}
+use Rattle.session.specs.Numbers.{Act, supposes, takesBack, asks, replyOf}
+use Rattle.session.specs.Calls.{after, kept, standingAfter, supposeAll}
+use Rattle.session.specs.declared.Pair.{Pair}
+use Rattle.session.specs.declared.Reply.{Reply}
+use Rattle.session.specs.declared.Session.{Session}
+use Rattle.session.proofs.Pairs.{supposable-iff, none-allowed, allowed-stands, stands-allowed, standing-stacked, pushed-stands, standing-pushed, popped-stands, standing-popped}
+use Rattle.session.proofs.Openings.{empty-opens}
+use Rattle.session.proofs.Sessions.{afresh-standing, afresh-count, afresh-intact}
+use Rattle.session.proofs.Answering.{pair-unlike, pair-done, suppose-pair, suppose-done, suppose-allows, back-unlike, back-none, back-done, suppose-taken, suppose-refused, back-taken, back-refused, open-done, open-refused}
+
+-- the session of a reply
+abbrev left : Reply → Session
+left r = r .session
+
+module _ (t : Trace) where
+  -- the test that one pair more is taken
+  abbrev takes : List Pair → Pair → Bool
+  takes ps p = supposable t p && ltb (length ps) PAIRS
+
+  taken : (ps : List Pair) (p : Pair) → So (takes ps p) → So (supposable t p) × (length ps < PAIRS)
+  taken ps p = and-iff same-iff so-lt .0
+
+  takes-by : (ps : List Pair) (p : Pair) → So (supposable t p) → length ps < PAIRS → So (takes ps p)
+  takes-by ps p g h = and-iff same-iff so-lt .1 (g, h)
+
+  more-allowed : (ps : List Pair) → Allowed t ps → (p : Pair) → So (supposable t p) → length ps < PAIRS → Allowed t (ps ++ p ∷ [])
+  unfolding stacked
+  more-allowed ps a p g h =
+      let k = allowed-stands t ps a in
+      subst (λ (qs : List Pair). Allowed t qs) (standing-pushed t (stacked ps) k p h ∙ ap (λ qs. qs ++ p ∷ []) (standing-stacked t ps))
+      (stands-allowed t (pushed (stacked ps) p) (pushed-stands t (stacked ps) k p h g))
+
+  fewer-allowed : (ps : List Pair) → Allowed t ps → Allowed t (take (length ps - 1) ps)
+  fewer-allowed ps a =
+      let k = allowed-stands t ps a in
+      subst (λ (qs : List Pair). Allowed t qs) (standing-popped t (stacked ps) k ∙ ap (λ qs. take (length qs - 1) qs) (standing-stacked t ps))
+      (stands-allowed t (popped (stacked ps)) (popped-stands t (stacked ps) k))
+
+  pub kept-allowed : (ps : List Pair) → Allowed t ps → (a : Act) → Allowed t (kept t ps a)
+  kept-allowed ps al (supposes x y) = go (takes ps p) refl
+    where
+      p : Pair
+      p = record { first = x; second = y }
+
+      go : (b : Bool) → takes ps p ≡ b → Allowed t (cond b (ps ++ p ∷ []) ps)
+      go true e = let g = taken ps p e in more-allowed ps al p (g .0) (g .1)
+      go false e = al
+  kept-allowed ps al takesBack = fewer-allowed ps al
+  kept-allowed ps al (asks x y) = al
+
+  module _ (m : ℕ) (o : So (openable t m)) where
+    module _ (ps : List Pair) (al : Allowed t ps) where
+      -- the session, and that it passes its test
+      abbrev here : Session
+      here = afresh t m ps
+
+      whole : So (intact here)
+      whole = afresh-intact t m ps o al
+
+      suppose-kept : (x y : ℕ) → left (supposeOf here x y) ≡ afresh t m (kept t ps (supposes x y))
+      unfolding afresh
+      suppose-kept x y = go (takes ps p) refl
+        where
+          p : Pair
+          p = record { first = x; second = y }
+
+          go : (b : Bool) → takes ps p ≡ b → left (supposeOf here x y) ≡ afresh t m (cond b (ps ++ p ∷ []) ps)
+          go true e =
+              let g = taken ps p e in
+              let i = supposable-iff t p .0 (g .0) in
+              let d = pair-done here x y whole (and-iff same-iff same-iff .1 (i .0)) (i .1) in
+              let q = suppose-done here x y (ap isDone d) (omega (arith, afresh-count t m ps, g .1)) in
+              sym (ap left (suppose-taken here x y (supposeTurn here x y) refl (ap isDone q) (afresh t m (standing (here .stack) ++ p ∷ [])) refl))
+              ∙ ap (λ qs. afresh t m (qs ++ p ∷ [])) (afresh-standing t m ps)
+          go false e =
+              let n = off (λ s. let r = suppose-allows here x y s in false≢true (sym e ∙ takes-by ps p (r .1) (omega (arith, afresh-count t m ps, r .2)))) in
+              sym (ap left (suppose-refused here x y (supposeTurn here x y) refl n))
+
+      back-kept : left (takeBackOf here) ≡ afresh t m (take (length ps - 1) ps)
+      unfolding afresh
+      back-kept = elim (eq? (here .stack .count) 0) [
+        | inl e ↦
+            sym (ap left (back-refused here (takeBackTurn here) refl (ap isDone (back-none here whole e))))
+            ∙ ap (afresh t m) (sym (take-all (length ps - 1) ps (omega (arith, afresh-count t m ps))))
+        | inr d ↦
+            sym (ap left (back-taken here (takeBackTurn here) refl (ap isDone (back-done here whole d)) _ refl))
+            ∙ ap (λ qs. afresh t m (take (length qs - 1) qs)) (afresh-standing t m ps)
+      ]
+
+      pub act-kept : (a : Act) → left (replyOf here a) ≡ afresh t m (kept t ps a)
+      unfolding askOf
+      act-kept (supposes x y) = suppose-kept x y
+      act-kept takesBack = back-kept
+      act-kept (asks x y) = refl
+
+    pub after-afresh : (cs : List Act) (ps : List Pair) → Allowed t ps → after (afresh t m ps) cs ≡ afresh t m (standingAfter t ps cs)
+    unfolding after standingAfter
+    after-afresh [] ps al = refl
+    after-afresh (a ∷ cs) ps al = ap (λ s. after s cs) (act-kept ps al a) ∙ after-afresh cs (kept t ps a) (kept-allowed ps al a)
+
+    opened : left (openOf t m) ≡ afresh t m []
+    unfolding openable
+    opened = sym (ap left (open-done t m (openingOf t m) refl o (afresh t m []) refl))
+
+    pub after-opened : (cs : List Act) → after (left (openOf t m)) cs ≡ afresh t m (standingAfter t [] cs)
+    after-opened cs = ap (λ s. after s cs) opened ∙ after-afresh cs [] (none-allowed t)
+
+  standing-allowed : (cs : List Act) (ps : List Pair) → Allowed t ps → Allowed t (standingAfter t ps cs)
+  unfolding standingAfter
+  standing-allowed [] ps al = al
+  standing-allowed (a ∷ cs) ps al = standing-allowed cs (kept t ps a) (kept-allowed ps al a)
+
+  -- a pair of an allowed list is taken
+  next-taken : (ps : List Pair) (q : Pair) (qs : List Pair) → Allowed t (ps ++ q ∷ qs) → So (takes ps q)
+  next-taken ps q qs al =
+      let n = length-append ps (q ∷ qs) in
+      let e : getD (ps ++ q ∷ qs) (length ps) unused ≡ q = ap (λ i. getD (ps ++ q ∷ qs) i unused) (omega arith) ∙ getD-append-add ps (q ∷ qs) 0 unused in
+      takes-by ps q (subst (λ (p : Pair). So (supposable t p)) e (al .good (length ps) (omega arith))) (omega (arith, al .room))
+
+  pub supposed-all : (qs ps : List Pair) → Allowed t (ps ++ qs) → standingAfter t ps (supposeAll qs) ≡ ps ++ qs
+  unfolding standingAfter supposeAll
+  supposed-all [] ps al = sym (append-nil ps)
+  supposed-all (q ∷ qs) ps al =
+      ap (λ b. standingAfter t (cond b (ps ++ q ∷ []) ps) (supposeAll qs)) (next-taken ps q qs al)
+      ∙ supposed-all qs (ps ++ q ∷ []) (subst (λ (l : List Pair). Allowed t l) (sym (append-assoc ps (q ∷ []) qs)) al)
+      ∙ append-assoc ps (q ∷ []) qs
+
+  pub after-again : (m : ℕ) → So (openable t m) → (cs : List Act) → after (left (openOf t m)) cs ≡ after (left (openOf t m)) (supposeAll (standingAfter t [] cs))
+  after-again m o cs =
+      after-opened m o cs
+      ∙ sym (after-opened m o (supposeAll (standingAfter t [] cs)) ∙ ap (afresh t m) (supposed-all (standingAfter t [] cs) [] (standing-allowed cs [] (none-allowed t))))
+
+pub after-refused : (t : Trace) (m : ℕ) → openable t m ≡ false → (cs : List Act) → after (left (openOf t m)) cs ≡ afresh empty SC (standingAfter empty [] cs)
+unfolding openable
+after-refused t m n cs =
+    ap (λ s. after s cs) (sym (ap left (open-refused t m (openingOf t m) refl n blank refl))) ∙ after-afresh empty SC empty-opens cs [] (none-allowed empty)
+
+pub act-unlike : (s : Session) → intact s ≡ false → (a : Act) → left (replyOf s a) ≡ s
+unfolding askOf
+act-unlike s n (supposes x y) =
+    let e = pair-unlike s x y n in
+    let u = suppose-pair s x y (ap isDone e) ∙ e in
+    sym (ap left (suppose-refused s x y (supposeTurn s x y) refl (ap isDone u)))
+act-unlike s n takesBack = sym (ap left (back-refused s (takeBackTurn s) refl (ap isDone (back-unlike s n))))
+act-unlike s n (asks x y) = refl
