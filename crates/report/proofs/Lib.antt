@@ -1,0 +1,3 @@
+-- Laws behind the text of an answer.
+pub mod Wrote
+pub mod Digits
