@@ -3,3 +3,4 @@ pub mod Pair
 pub mod Whole
 pub mod Closing
 pub mod One
+pub mod Against

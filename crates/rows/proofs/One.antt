@@ -20,6 +20,8 @@ use Rattle.rows.proofs.copy.Reads as copy
 use Rattle.rows.proofs.copy.Kinds as copy-kinds
 use Rattle.rows.proofs.equal.Reads as equal
 use Rattle.rows.proofs.equal.Kinds as equal-kinds
+use Rattle.rows.proofs.within.Reads as within
+use Rattle.rows.proofs.within.Kinds as within-kinds
 use Rattle.rows.proofs.reflexive.Reads as reflexive
 use Rattle.rows.proofs.reflexive.Kinds as reflexive-kinds
 use Rattle.rows.proofs.chains.Reads as chains
@@ -42,6 +44,9 @@ copy-leaves κs a x y s t p q = p ∙ sym q
 
 pub equal-settles : Settles 2 equal-kinds.ps equal-kinds.r equal.Post
 equal-settles κs a x y s t p q = test-one p q
+
+pub within-settles : Settles 2 within-kinds.ps within-kinds.r within.Post
+within-settles κs a x y s t p q = test-one p q
 
 pub reflexive-settles : Settles 1 reflexive-kinds.ps reflexive-kinds.r reflexive.Post
 reflexive-settles κs a x y s t p q = p ∙ sym q

@@ -6,3 +6,4 @@ pub mod Put
 pub mod Copy
 pub mod Added
 pub mod Chained
+pub mod Within

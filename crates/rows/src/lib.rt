@@ -7,8 +7,9 @@ ghost use Prim.Native.Nat.{_<_};
 ghost use lib.ListN.{length};
 ghost use Rattle.laws.specs.Tests.{any};
 ghost use Rattle.trace.specs.Bounds.{RECORDS};
-ghost use Rattle.rows.specs.Bounds.{CELLS};
+ghost use Rattle.rows.specs.Bounds.{CELLS, WORDS};
 ghost use Rattle.rows.specs.Rows.{bit, place};
+ghost use Rattle.rows.specs.Within.{wordOf, Within};
 ghost use Rattle.rows.specs.Empty.{emptyOf};
 ghost use Rattle.rows.specs.Put.{markOf, putOf};
 ghost use Rattle.rows.specs.Copy.{copyOf};
@@ -112,6 +113,35 @@ pub fn equal(a: &[u64], b: &[u64]) -> bool
     let mut i: usize = 0;
     while i < a.len() {
         if a[i] != b[i] {
+            return false;
+        }
+        i += 1;
+    }
+    true
+}
+
+// A word of row x; 0 where the rows have none.
+fn word(rows: &[u64], x: usize, i: usize) -> u64
+    requires { ⌜ i < WORDS ⌝ }
+    ensures { λ r. ⌜ r ≡ wordOf (now (rows .entry)) x i ⌝ }
+{
+    if x < trace::RECORDS {
+        if x * WORDS + i < rows.len() {
+            return rows[x * WORDS + i];
+        }
+    }
+    0
+}
+
+// Whether what is in a pair with x in one relation is in a pair with y in another, a word at a time.
+pub fn within(a: &[u64], x: usize, b: &[u64], y: usize) -> bool
+    ensures { λ r. ⌜ So r ↔ Within (now (a .entry)) x (now (b .entry)) y ⌝ }
+{
+    let mut i: usize = 0;
+    while i < WORDS {
+        let p = word(a, x, i);
+        let q = word(b, y, i);
+        if p | q != q {
             return false;
         }
         i += 1;

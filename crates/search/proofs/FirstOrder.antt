@@ -1,0 +1,146 @@
+-- From the search to the first valid order, and that no second answer fits.
+--
+--   counted-fits           == there are no more operations than records
+--   looked                 == the search from nothing placed, in the first places of a list
+--   first-none, first-some == the answer that there is none, and the answer that there is one
+--   first-one              == no second answer fits
+use mathlib.Core.Path.{_≡_, refl, sym, ap, ap₂, _∙_, subst}
+use mathlib.Core.Logic.{inl, inr}
+use mathlib.Core.Bool.{Bool, true, false, So, cond, false≢true}
+use mathlib.Core.List.{List, [], _++_}
+use mathlib.Core.Option.{Option, none, some, Option·some-injective}
+use Prim.Native.Nat.{ℕ, _+_, _-_, _*_, _<_, _≤_}
+use native.Mathlib.Decide.{decLt}
+use native.Mathlib.Omega.{arith}
+use lib.ListN.{length, getD, take, drop, length-append, length-drop, length-replicate, getD-replicate, List·getD-eq-default}
+use lib.Seq.{length-take-le, getD-take, getD-drop, getD-append-add, take-at, take-all, ext-getD}
+use Rattle.laws.specs.Relation.{Table}
+use Rattle.laws.specs.Dict.{Answer, Least}
+use Rattle.laws.proofs.Tests.{test}
+use Rattle.laws.proofs.Dict.{answer-one}
+use Rattle.trace.specs.Bounds.{RECORDS}
+use Rattle.trace.specs.Frame.{Frame}
+use Rattle.trace.specs.Meaning.{frameOf}
+use Rattle.trace.specs.Order.{Valid}
+use Rattle.trace.specs.declared.Trace.{Trace}
+use Rattle.rows.specs.Bounds.{WORDS}
+use Rattle.rows.specs.Empty.{emptyOf}
+use Rattle.rows.specs.Rows.{bit}
+use Rattle.trace.specs.WellFormed.{wellFormed}
+use Rattle.edges.specs.Tests.{writer?}
+use Rattle.edges.specs.Kept.{keptOf}
+use Rattle.edges.specs.Answers.{answered}
+use Rattle.search.specs.Bounds.{SLOTS}
+use Rattle.search.specs.Laid.{tables}
+use Rattle.search.specs.Laying.{Filled, leads, Counted, Sources, Guided}
+use Rattle.search.specs.Seeking.{follows, Sought}
+use Rattle.search.specs.Looked.{Looked}
+use Rattle.search.specs.FirstOrder.{found?, orderOf, FirstOrder}
+use Rattle.search.specs.declared.Order.{Order}
+use Rattle.laws.proofs.Sums.{sum-bound}
+use Rattle.orders.specs.Ready.{operations}
+use Rattle.orders.proofs.Accepted.{well-fits}
+use Rattle.search.proofs.Sets.{empty-holds}
+use Rattle.search.proofs.Memory.{dead-none}
+use Rattle.search.proofs.Guiding.{laid}
+
+-- every place of an empty list is 0
+pub empty-rest : (i : ℕ) → _≡_ {A = ℕ} (getD (emptyOf RECORDS) i 0) 0
+empty-rest i = elim (decLt i RECORDS) [ yes h ↦ getD-replicate RECORDS i 0 0 h | no h ↦ List·getD-eq-default (emptyOf RECORDS) 0 {n = i} (omega (arith, length-replicate {A = ℕ} RECORDS 0)) ]
+
+module _ (t : Trace) (m : ℕ) (r : Order) where
+  pub first-none : ((r .found ≡ false) × (r .len ≡ 0) × (r .operations ≡ emptyOf RECORDS)) → (So (answered m t) → (xs : List ℕ) → Valid (frameOf t) (keptOf m t) xs → ⊥) → FirstOrder t m r
+  first-none (e, l, o) n = record {
+    fits = omega arith;
+    long = rw o (length-replicate {A = ℕ} RECORDS 0);
+    rest = λ i _. rw o (empty-rest i);
+    first = λ s. rw e (n s);
+    unfound = λ _. l;
+    nothing = λ _. e;
+  }
+
+  pub first-some : So (answered m t) → So (r .found) → r .len ≤ RECORDS → length (r .operations) ≡ RECORDS → ((i : ℕ) → r .len ≤ i → getD (r .operations) i 0 ≡ 0)
+      → Least (Valid (frameOf t) (keptOf m t)) (some (take (r .len) (r .operations))) → FirstOrder t m r
+  first-some s e l long rest a = record {
+    fits = l;
+    long = long;
+    rest = rest;
+    first = λ _. rw e a;
+    unfound = λ n. absurd (false≢true (sym n ∙ e));
+    nothing = λ n. absurd (false≢true (sym n ∙ s));
+  }
+
+-- there are no more operations than records
+pub counted-fits : (t : Trace) → So (wellFormed t) → (ops : List ℕ) (m : ℕ) → Counted (frameOf t) ops m → m ≤ RECORDS
+unfolding operations frameOf
+counted-fits t w ops m c = omega (arith, c .total, sum-bound (t .len) 1 (λ x. cond (frameOf t .operation x) 1 0) (λ i _. few (frameOf t .operation i)), well-fits t w)
+  where
+    few : (b : Bool) → cond b 1 0 ≤ 1
+    few true = omega arith
+    few false = omega arith
+
+-- the search in the first m places of a list: they are lent, and the others stand
+module _ (t : Trace) (w : So (wellFormed t)) (held ops list : List ℕ) (m : ℕ) (before writers leaders sources part dead : List ℕ) (r : Bool)
+    (fits : m ≤ length list) (c : Counted (frameOf t) ops m) (b : Filled (t .len) (bit held) before) (ws : Filled (t .len) (writer? (frameOf t)) writers)
+    (ls : Filled (t .len) (leads (frameOf t) held) leaders) (ss : Sources (frameOf t) (t .len) sources)
+    (k : ℕ) (e : k ≡ m) (s : Sought (tables (t .len) m ops before writers leaders sources) (take k list) 0 (emptyOf WORDS) (emptyOf (SLOTS * WORDS)) part dead r)
+    (long : length part ≡ length (take k list)) where
+  part-long : length part ≡ m
+  part-long = long ∙ length-take-le k list (omega arith) ∙ e
+
+  first-places : take m (part ++ drop m list) ≡ take m part
+  first-places = take-at part (drop m list) m part-long ∙ sym (take-all m part (omega (arith, part-long)))
+
+  looked-all : Looked (frameOf t) held m list (part ++ drop m list) r
+  looked-all = record {
+    rest = λ i h.
+        let p : i ≡ length part + (i - m) = omega (arith, part-long) in
+        let q : m + (i - m) ≡ i = omega arith in
+        ap (λ j. getD (part ++ drop m list) j 0) p ∙ getD-append-add part (drop m list) (i - m) 0 ∙ getD-drop m list (i - m) 0 ∙ ap (λ j. getD list j 0) q;
+    right = λ K g o.
+        let a = s .right (frameOf t) K (laid t w K held g o m ops before writers leaders sources c b ws ls ss) (record { built = tt; holds = empty-holds WORDS }) (dead-none (frameOf t) K before) .0 in
+        subst (Answer (Valid (frameOf t) K) []) (sym (same r)) a;
+  }
+    where
+      same : (r : Bool) → follows r 0 m (part ++ drop m list) ≡ follows r 0 m part
+      same true = ap (λ (l : List ℕ). some (drop 0 l)) first-places
+      same false = refl
+
+  pub looked : Looked (frameOf t) held m list (part ++ drop k list) r
+  looked = rw e looked-all
+
+-- No second answer ---------------------------------------------------------------------------------------------------------------------------
+
+-- an answer by its parts
+abbrev order : Bool → ℕ → List ℕ → Order
+order a b c = record { found = a; len = b; operations = c }
+
+module _ (t : Trace) (m : ℕ) (r s : Order) (p : FirstOrder t m r) (q : FirstOrder t m s) where
+  whole : r .found ≡ s .found → r .len ≡ s .len → ((i : ℕ) → i < r .len → getD (r .operations) i 0 ≡ getD (s .operations) i 0) → r ≡ s
+  whole e l h =
+      let o : r .operations ≡ s .operations =
+      ext-getD 0 (r .operations) (s .operations) (p .long ∙ sym (q .long))
+      (λ i _. elim (decLt i (r .len)) [ yes b ↦ h i b | no b ↦ p .rest i (omega arith) ∙ sym (q .rest i (omega arith)) ]) in
+      ap (λ a. order a (r .len) (r .operations)) e ∙ ap₂ (order (s .found)) l o
+
+  none-both : r .found ≡ false → s .found ≡ false → r ≡ s
+  none-both e d = whole (e ∙ sym d) (p .unfound e ∙ sym (q .unfound d)) (λ i b. absurd (omega (arith, p .unfound e)))
+
+  some-both : r .found ≡ true → s .found ≡ true → take (r .len) (r .operations) ≡ take (s .len) (s .operations) → r ≡ s
+  some-both e d k =
+      let l₁ = length-take-le (r .len) (r .operations) (omega (arith, p .fits, p .long)) in
+      let l₂ = length-take-le (s .len) (s .operations) (omega (arith, q .fits, q .long)) in
+      let l : r .len ≡ s .len = sym l₁ ∙ ap length k ∙ l₂ in
+      whole (e ∙ sym d) l (λ i b. sym (getD-take (r .len) (r .operations) i 0 b) ∙ ap (λ (xs : List ℕ). getD xs i 0) k ∙ getD-take (s .len) (s .operations) i 0 (omega arith))
+
+  pub first-one : r ≡ s
+  first-one = elim (test (answered m t)) [
+    | inr n ↦ none-both (p .nothing n) (q .nothing n)
+    | inl a ↦ go (r .found) (s .found) refl refl (answer-one (Valid (frameOf t) (keptOf m t)) [] (orderOf r) (orderOf s) (p .first a) (q .first a))
+  ]
+    where
+      go : (a b : Bool) → r .found ≡ a → s .found ≡ b → found? a (take (r .len) (r .operations)) ≡ found? b (take (s .len) (s .operations)) → r ≡ s
+      go true true e d k = some-both e d (Option·some-injective _ _ k)
+      go true false e d k = absurd (let z : _≡_ {A = ℕ} 0 1 = cc in omega arith)
+      go false true e d k = absurd (let z : _≡_ {A = ℕ} 0 1 = cc in omega arith)
+      go false false e d k = none-both e d

@@ -1,0 +1,9 @@
+-- Laws of the search, for the proofs of its functions.
+pub mod Sets
+pub mod Chances
+pub mod Memory
+pub mod Seeking
+pub mod Laying
+pub mod Guiding
+pub mod FirstOrder
+pub mod One

@@ -1,0 +1,104 @@
+-- `search::first::look`: the tables are laid, and the search begins with nothing placed.
+use mathlib.Core.Path.{_≡_, refl, sym, _∙_}
+use Prim.Native.Nat.{ℕ, _-_, _*_}
+use native.Mathlib.Omega.{arith}
+use borrow.Author.Needs.{needs}
+use lib.ListN.{length-replicate}
+use lib.Seq.{length-take-le}
+use Rattle.rows.specs.Bounds.{WORDS}
+use Rattle.orders.proofs.Accepted.{well-fits}
+use Rattle.search.specs.Bounds.{SLOTS}
+use Rattle.search.proofs.FirstOrder.{looked}
+use Rattle.search.proofs.first.look.Statement.{statement}
+use Rattle.search.proofs.first.look.Tie as tie
+
+slice-aggregate-lay : tie.Need-slice-aggregate-lay
+slice-aggregate-lay c = search needs
+
+slice-aggregate-lay-2 : tie.Need-slice-aggregate-lay-2
+slice-aggregate-lay-2 c = search needs
+
+slice-aggregate-lay-3 : tie.Need-slice-aggregate-lay-3
+slice-aggregate-lay-3 c = search needs
+
+lay-requires : tie.Need-lay-requires
+lay-requires c κs = (well-fits (c .before .before .before .before .before .before .args .t) (c .before .before .before .before .before .before .pre .0), refl, refl, refl)
+
+slice-aggregate-lay-sources : tie.Need-slice-aggregate-lay-sources
+slice-aggregate-lay-sources c = search needs
+
+lay-sources-requires : tie.Need-lay-sources-requires
+lay-sources-requires c κs = (well-fits (c .before .before .before .before .before .before .before .before .before .before .before .args .t) (c .before .before .before .before .before .before .before .before .before .before .before .pre .0), refl)
+
+sub-places : tie.Need-sub-places
+sub-places c = search needs
+
+part-places-start : tie.Need-part-places-start
+part-places-start c = search needs
+
+part-places-end : tie.Need-part-places-end
+part-places-end c = search needs
+
+slice-aggregate-find : tie.Need-slice-aggregate-find
+slice-aggregate-find c = search needs
+
+slice-aggregate-find-2 : tie.Need-slice-aggregate-find-2
+slice-aggregate-find-2 c = search needs
+
+slice-aggregate-find-3 : tie.Need-slice-aggregate-find-3
+slice-aggregate-find-3 c = search needs
+
+slice-aggregate-find-4 : tie.Need-slice-aggregate-find-4
+slice-aggregate-find-4 c = search needs
+
+slice-aggregate-find-5 : tie.Need-slice-aggregate-find-5
+slice-aggregate-find-5 c = search needs
+
+slice-aggregate-find-6 : tie.Need-slice-aggregate-find-6
+slice-aggregate-find-6 c = search needs
+
+find-requires : tie.Need-find-requires
+find-requires c κs = let s = c .before .before .before .before .before .before .before .before .before .before .before .before .before .before .before .before .before .before .before .before in
+    let a = s .args in
+    let fits = well-fits (a .t) (s .pre .0) in
+    record {
+      records = fits;
+      sources = omega (arith, fits, c .before .before .before .before .before .before .before .before .lay-sources .ensures .long);
+      places = omega (arith, length-take-le (a .total - 0) (a .list .now) (omega (arith, s .pre .2)));
+      left = omega arith;
+      set = refl;
+      memory = length-replicate {A = ℕ} (SLOTS * WORDS) 0;
+    }
+
+same-length : tie.Need-same-length
+same-length c = search needs
+
+returns : tie.Need-returns
+returns c = let s = c .before .before .before .before .before .before .before .before .before .before .before .before .before .before .before .before .before .before .before .before .before .before .before .before in
+    let a = s .args in
+    let l = c .before .before .before .before .before .before .before .before .before .before .before .before .before .before .before .before .before .lay .ensures in
+    looked (a .t) (s .pre .0) (a .held .now) (a .operations .now) (a .list .now) (a .total) _ _ _ _ _ _ _ (s .pre .2) (s .pre .1) (l .0) (l .1 .0) (l .1 .1)
+    (c .before .before .before .before .before .before .before .before .before .before .before .before .lay-sources .ensures) (a .total - 0) (omega arith) (c .before .before .before .find .ensures) (c .before .before .before .find .kept .1 .1 .1 .1 .1 .1 .1 .0)
+
+pub look-spec : {M : Type 1} → statement M
+look-spec =
+    tie.close
+    (tie.spec
+    slice-aggregate-lay
+    slice-aggregate-lay-2
+    slice-aggregate-lay-3
+    lay-requires
+    slice-aggregate-lay-sources
+    lay-sources-requires
+    sub-places
+    part-places-start
+    part-places-end
+    slice-aggregate-find
+    slice-aggregate-find-2
+    slice-aggregate-find-3
+    slice-aggregate-find-4
+    slice-aggregate-find-5
+    slice-aggregate-find-6
+    find-requires
+    same-length
+    returns)

@@ -1,0 +1,50 @@
+-- Which operation may come next, and when the loop may stop, as the functions see it: by sets and rows.
+--
+--   Holds set p     == the set has exactly the numbers of the list p
+--   More set y next == next has y and the numbers of the set
+--   waits .. c L    == L reads from an address that c writes, its source is placed, and it is not
+--   Readied T set c == c is an operation outside the set, what must be before it is in it, and nobody waits at its address
+--   Unread .. y     == everybody who reads from y is placed
+--   still .. y z    == z is a writer of y's address, other than y, that is neither placed nor failed
+--   Covered .. y    == each such writer has one before it that is not placed
+--   Stops .. y      == the loop may stop after y
+use mathlib.Core.Path.{_≡_}
+use mathlib.Core.Logic.{_⊎_, _↔_}
+use mathlib.Core.Bool.{Bool, false, So, not, _&&_}
+use mathlib.Core.List.{List}
+use Prim.Native.Nat.{ℕ, _<_}
+use lib.ListN.{length, getD}
+use Rattle.laws.specs.Places.{count}
+use Rattle.laws.specs.Tests.{any}
+use Rattle.rows.specs.Bounds.{WORDS}
+use Rattle.rows.specs.Rows.{bit}
+use Rattle.rows.specs.Within.{Within}
+use Rattle.search.specs.Laid.{Tables}
+
+abbrev pub Holds : List ℕ → List ℕ → Type 0
+Holds set p = (x : ℕ) → So (bit set 0 x) ↔ (0 < count x p)
+
+pub record More (set : List ℕ) (y : ℕ) (next : List ℕ) : Type 0 where
+  pub long : length next ≡ WORDS
+  pub has : (x : ℕ) → So (bit next 0 x) ↔ (So (bit set 0 x) ⊎ (x ≡ y))
+
+unfoldable pub waits : List ℕ → List ℕ → List ℕ → ℕ → ℕ → Bool
+waits writers sources placed c L = bit writers L c && (bit placed 0 (getD sources L 0) && not (bit placed 0 L))
+
+pub record Readied (T : Tables) (placed : List ℕ) (c : ℕ) : Type 0 where
+  pub operation : So (bit (T .operations) 0 c)
+  pub unplaced : bit placed 0 c ≡ false
+  pub after : Within (T .before) c placed 0
+  pub quiet : any (T .n) (waits (T .writers) (T .sources) placed c) ≡ false
+
+abbrev pub Unread : ℕ → List ℕ → List ℕ → ℕ → Type 0
+Unread n sources placed y = (L : ℕ) → L < n → getD sources L 0 ≡ y → So (bit placed 0 L)
+
+unfoldable pub still : List ℕ → List ℕ → List ℕ → ℕ → ℕ → Bool
+still writers placed failed y z = bit writers y z && not (bit placed 0 z) && not (bit failed 0 z)
+
+abbrev pub Covered : ℕ → List ℕ → List ℕ → List ℕ → List ℕ → ℕ → Type 0
+Covered n writers leaders placed failed y = (z : ℕ) → z < n → So (still writers placed failed y z) → Within leaders z placed 0 → ⊥
+
+abbrev pub Stops : ℕ → List ℕ → List ℕ → List ℕ → List ℕ → List ℕ → ℕ → Type 0
+Stops n writers leaders sources placed failed y = Unread n sources placed y ⊎ Covered n writers leaders placed failed y

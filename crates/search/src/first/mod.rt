@@ -1,0 +1,108 @@
+// The entry: the first valid order of a trace under a model.
+ghost use mathlib.Core.Path.{_≡_};
+ghost use mathlib.Core.Bool.{So, true, false};
+ghost use mathlib.Core.Logic.{_↔_};
+ghost use Prim.Native.Nat.{_≤_};
+ghost use lib.ListN.{length};
+ghost use Rattle.trace.specs.Bounds.{RECORDS};
+ghost use Rattle.trace.specs.WellFormed.{wellFormed};
+ghost use Rattle.trace.specs.Meaning.{frameOf};
+ghost use Rattle.rows.specs.Empty.{emptyOf};
+ghost use Rattle.edges.specs.Missing.{Sourced};
+ghost use Rattle.search.specs.Laying.{Counted};
+ghost use Rattle.search.specs.Looked.{Looked};
+ghost use Rattle.search.specs.FirstOrder.{FirstOrder};
+use crate::Order;
+use crate::seek::MEMORY;
+use crate::seek::find;
+use crate::tables::lay;
+use crate::tables::lay_operations;
+use crate::tables::lay_sources;
+use edges::force::forced;
+use edges::pairs::modelled;
+use orders::sources::Found;
+use orders::sources::missing;
+use trace::RECORDS;
+use trace::Trace;
+use trace::form::well_formed;
+
+// The answer that there is no order.
+fn nothing() -> Order
+    ensures { λ r. ⌜ (r .found ≡ false) × (r .len ≡ 0) × (r .operations ≡ emptyOf RECORDS) ⌝ }
+{
+    Order {
+        found: false,
+        len: 0,
+        operations: [0u8; RECORDS],
+    }
+}
+
+// Whether no record of a well formed trace lacks its source.
+fn sourced(t: Trace) -> bool
+    requires { ⌜ So (wellFormed t) ⌝ }
+    ensures { λ r. ⌜ So r ↔ Sourced (frameOf t) ⌝ }
+{
+    match missing(t) {
+        Found::At(_) => false,
+        Found::Nothing => true,
+    }
+}
+
+// Lays the tables and searches from nothing placed, guided by what is held; the first places of the list take the order.
+fn look(t: Trace, held: &[u64], operations: &[u64], total: usize, list: &mut [u8]) -> bool
+    requires { ⌜ So (wellFormed t) × Counted (frameOf t) (now operations) total × (total ≤ length (now list)) ⌝ }
+    ensures { λ r. ⌜ Looked (frameOf t) (now (held .entry)) total (now (list .entry)) (now (list .exit)) r ⌝ }
+{
+    let n = t.len;
+    let mut before = [0u64; rows::CELLS];
+    let mut writers = [0u64; rows::CELLS];
+    let mut leaders = [0u64; rows::CELLS];
+    let mut sources = [RECORDS; RECORDS];
+    let mut dead = [0u64; MEMORY];
+    let placed = [0u64; rows::WORDS];
+    lay(t, held, &mut before, &mut writers, &mut leaders);
+    lay_sources(t, &mut sources);
+    let places = &mut list[0..total];
+    find(
+        n,
+        total,
+        operations,
+        &before,
+        &writers,
+        &leaders,
+        &sources,
+        places,
+        0,
+        &placed,
+        &mut dead,
+    )
+}
+
+// The first valid order in dictionary order. For a trace that is not well formed, or a model that does not exist, none.
+pub fn first_order(t: Trace, model: u8) -> Order
+    ensures { λ r. ⌜ FirstOrder t model r ⌝ }
+{
+    if !(well_formed(t) & modelled(model)) {
+        return nothing();
+    }
+    if !sourced(t) {
+        return nothing();
+    }
+    let supposed = [0u64; rows::CELLS];
+    let forced = forced(t, model, &supposed);
+    if forced.contradicted {
+        return nothing();
+    }
+    let held = forced.held;
+    let mut operations = [0u64; rows::WORDS];
+    let total = lay_operations(t, &mut operations);
+    let mut list = [0u8; RECORDS];
+    if look(t, &held, &operations, total, &mut list) {
+        return Order {
+            found: true,
+            len: total,
+            operations: list,
+        };
+    }
+    nothing()
+}

@@ -1,0 +1,237 @@
+// The search below a list of placed operations: which may come next, when the loop may stop, and which sets are dead. Of what is placed only
+// the set is looked at.
+ghost use mathlib.Core.Path.{_≡_};
+ghost use mathlib.Core.Bool.{So, false};
+ghost use mathlib.Core.Logic.{_↔_};
+ghost use Prim.Native.Nat.{_*_, _<_, _≤_};
+ghost use lib.ListN.{length};
+ghost use Rattle.laws.specs.Tests.{any};
+ghost use Rattle.trace.specs.Bounds.{RECORDS};
+ghost use Rattle.rows.specs.Bounds.{WORDS};
+ghost use Rattle.search.specs.Bounds.{SLOTS};
+ghost use Rattle.search.specs.Laid.{tables};
+ghost use Rattle.search.specs.Chances.{More, waits, Readied, Unread, Covered, Stops};
+ghost use Rattle.search.specs.Memory.{Has, Noted};
+ghost use Rattle.search.specs.Seeking.{Room, Sought};
+use trace::RECORDS;
+
+// How many sets the memory has room for.
+const SLOTS: usize = 4093;
+
+// The words of the memory.
+pub(crate) const MEMORY: usize = SLOTS * rows::WORDS;
+
+// Whether nobody waits at the address of c: a reader of it, other than c, whose source is placed while it is not.
+fn quiet(n: usize, writers: &[u64], sources: &[usize], placed: &[u64], c: usize) -> bool
+    requires { ⌜ n ≤ length (now sources) ⌝ }
+    ensures { λ r. ⌜ So r ↔ (any n (waits (now (writers .entry)) (now (sources .entry)) (now (placed .entry)) c) ≡ false) ⌝ }
+{
+    let mut load: usize = 0;
+    while load < n {
+        if rows::test(writers, load, c) {
+            let source = sources[load];
+            if rows::test(placed, 0, source) & !rows::test(placed, 0, load) {
+                return false;
+            }
+        }
+        load += 1;
+    }
+    true
+}
+
+// Whether c may be placed next.
+fn ready(
+    n: usize,
+    total: usize,
+    operations: &[u64],
+    before: &[u64],
+    writers: &[u64],
+    leaders: &[u64],
+    sources: &[usize],
+    placed: &[u64],
+    c: usize,
+) -> bool
+    requires { ⌜ n ≤ length (now sources) ⌝ }
+    ensures { λ r. ⌜ So r ↔ Readied (tables n total (now (operations .entry)) (now (before .entry)) (now (writers .entry)) (now (leaders .entry)) (now (sources .entry))) (now (placed .entry)) c ⌝ }
+{
+    if !rows::test(operations, 0, c) {
+        return false;
+    }
+    if rows::test(placed, 0, c) {
+        return false;
+    }
+    if !rows::within(before, c, placed, 0) {
+        return false;
+    }
+    quiet(n, writers, sources, placed, c)
+}
+
+// Whether everybody who reads from y is placed.
+fn unread(n: usize, sources: &[usize], placed: &[u64], y: usize) -> bool
+    requires { ⌜ n ≤ length (now sources) ⌝ }
+    ensures { λ r. ⌜ (So r → Unread n (now (sources .entry)) (now (placed .entry)) y) ⌝ }
+{
+    let mut load: usize = 0;
+    while load < n {
+        if sources[load] == y {
+            if !rows::test(placed, 0, load) {
+                return false;
+            }
+        }
+        load += 1;
+    }
+    true
+}
+
+// Whether each other writer of y's address that is neither placed nor failed has an unplaced one before it.
+fn covered(
+    n: usize,
+    writers: &[u64],
+    leaders: &[u64],
+    placed: &[u64],
+    failed: &[u64],
+    y: usize,
+) -> bool
+    ensures { λ r. ⌜ (So r → Covered n (now (writers .entry)) (now (leaders .entry)) (now (placed .entry)) (now (failed .entry)) y) ⌝ }
+{
+    let mut z: usize = 0;
+    while z < n {
+        if rows::test(writers, y, z) & !rows::test(placed, 0, z) & !rows::test(failed, 0, z) {
+            if rows::within(leaders, z, placed, 0) {
+                return false;
+            }
+        }
+        z += 1;
+    }
+    true
+}
+
+// Whether the loop may stop after y, which was ready and failed.
+fn stops(
+    n: usize,
+    writers: &[u64],
+    leaders: &[u64],
+    sources: &[usize],
+    placed: &[u64],
+    failed: &[u64],
+    y: usize,
+) -> bool
+    requires { ⌜ n ≤ length (now sources) ⌝ }
+    ensures { λ r. ⌜ (So r → Stops n (now (writers .entry)) (now (leaders .entry)) (now (sources .entry)) (now (placed .entry)) (now (failed .entry)) y) ⌝ }
+{
+    if unread(n, sources, placed, y) {
+        return true;
+    }
+    covered(n, writers, leaders, placed, failed, y)
+}
+
+// Makes `next` the set with y in it.
+fn join(set: &[u64], y: usize, next: &mut [u64])
+    requires { ⌜ (y < RECORDS) × (length (now set) ≡ WORDS) × (length (now next) ≡ WORDS) ⌝ }
+    ensures { λ r. ⌜ More (now (set .entry)) y (now (next .exit)) ⌝ }
+{
+    rows::copy(set, next);
+    rows::put(next, 0, y);
+}
+
+// Which slot of the memory a set has. Any would do: what it holds counts.
+fn slot(set: &[u64]) -> usize
+    ensures { λ r. ⌜ r < SLOTS ⌝ }
+{
+    let mut fold: u64 = 0;
+    let mut i: usize = 0;
+    while i < set.len() {
+        fold = (fold % (SLOTS as u64)) * 31 + set[i] % (SLOTS as u64);
+        i += 1;
+    }
+    (fold % (SLOTS as u64)) as usize
+}
+
+// Whether the memory has a set.
+fn known(dead: &[u64], set: &[u64]) -> bool
+    requires { ⌜ length (now dead) ≡ SLOTS * WORDS ⌝ }
+    ensures { λ r. ⌜ (So r → Has (now (dead .entry)) (now (set .entry))) ⌝ }
+{
+    let from = slot(set) * rows::WORDS;
+    let to = from + rows::WORDS;
+    rows::equal(&dead[from..to], set)
+}
+
+// Puts a set into the memory, in the place of what its slot had.
+fn note(dead: &mut [u64], set: &[u64])
+    requires { ⌜ (length (now dead) ≡ SLOTS * WORDS) × (length (now set) ≡ WORDS) ⌝ }
+    ensures { λ r. ⌜ Noted (now (dead .entry)) (now (set .entry)) (now (dead .exit)) ⌝ }
+{
+    let from = slot(set) * rows::WORDS;
+    let to = from + rows::WORDS;
+    rows::copy(set, &mut dead[from..to]);
+}
+
+// Looks for the first valid order that begins with the first k places of the list, whose set is `placed`. Below a dead set there is none.
+pub(crate) fn find(
+    n: usize,
+    total: usize,
+    operations: &[u64],
+    before: &[u64],
+    writers: &[u64],
+    leaders: &[u64],
+    sources: &[usize],
+    list: &mut [u8],
+    k: usize,
+    placed: &[u64],
+    dead: &mut [u64],
+) -> bool
+    requires { ⌜ Room (tables n total (now operations) (now before) (now writers) (now leaders) (now sources)) k (now list) (now placed) (now dead) ⌝ }
+    ensures { λ r. ⌜ Sought (tables n total (now (operations .entry)) (now (before .entry)) (now (writers .entry)) (now (leaders .entry)) (now (sources .entry))) (now (list .entry)) k (now (placed .entry)) (now (dead .entry)) (now (list .exit)) (now (dead .exit)) r ⌝ }
+{
+    if k == total {
+        return true;
+    }
+    if 0 < k {
+        if known(dead, placed) {
+            return false;
+        }
+    }
+    let mut failed = [0u64; rows::WORDS];
+    let mut y: usize = 0;
+    while y < n {
+        if ready(
+            n,
+            total,
+            operations,
+            before,
+            writers,
+            leaders,
+            sources,
+            placed,
+            y,
+        ) {
+            list[k] = y as u8;
+            let mut next = [0u64; rows::WORDS];
+            join(placed, y, &mut next);
+            if find(
+                n,
+                total,
+                operations,
+                before,
+                writers,
+                leaders,
+                sources,
+                list,
+                k + 1,
+                &next,
+                dead,
+            ) {
+                return true;
+            }
+            rows::put(&mut failed, 0, y);
+            if stops(n, writers, leaders, sources, placed, &failed, y) {
+                note(dead, placed);
+                return false;
+            }
+        }
+        y += 1;
+    }
+    note(dead, placed);
+    false
+}
