@@ -6,9 +6,10 @@
 --   laid v        == a verdict as the code holds it
 --   verdictOf m t == the verdict on any trace under any model: 9 before 10, then what `verdict?` says
 --   ordered r     == the order that a verdict hands back, if it does
+--   Reaches t m   == a question that is answered, of a trace that lacks no source
 --   Told t m r    == what `verdict_of` promises: this verdict, and its operations have places
 use mathlib.Core.Path.{_≡_}
-use mathlib.Core.Bool.{cond}
+use mathlib.Core.Bool.{cond, So}
 use mathlib.Core.List.{List, [], _++_}
 use mathlib.Core.Option.{Option, none, some}
 use Prim.Native.Nat.{ℕ, _-_, _≤_}
@@ -18,6 +19,8 @@ use Rattle.trace.specs.Meaning.{frameOf}
 use Rattle.trace.specs.WellFormed.{wellFormed}
 use Rattle.trace.specs.declared.Trace.{Trace}
 use Rattle.edges.specs.Kept.{modelled, keptOf}
+use Rattle.orders.specs.MissingOf.{missingOf}
+use Rattle.orders.specs.declared.sources.Found.the-variants.{Nothing}
 use Rattle.orders.specs.Verdict as said
 use Rattle.orders.specs.Sought.{verdict?}
 use Rattle.verdict.specs.declared.Outcome.{Outcome}
@@ -57,6 +60,11 @@ orderedAs NotWellFormed xs = none
 
 abbrev pub ordered : Verdict → Option (List ℕ)
 ordered r = orderedAs (r .outcome) (take (r .len) (r .operations))
+
+pub record Reaches (t : Trace) (m : ℕ) : Type 0 where
+  pub model : So (modelled m)
+  pub well : So (wellFormed t)
+  pub sourced : missingOf t ≡ Nothing
 
 pub record Told (t : Trace) (m : ℕ) (r : Verdict) : Type 0 where
   pub is : r ≡ verdictOf m t

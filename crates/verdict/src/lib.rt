@@ -1,4 +1,6 @@
 // The verdict on a trace under a model: what a stranger asks for in one call.
+pub mod tell;
+
 use trace::RECORDS;
 
 // What a verdict comes to. The last two turn the question back: a model that does not exist, a trace that is not well formed.

@@ -79,8 +79,8 @@ pub(crate) fn put_line(name: &[u8], v: Verdict, out: &mut [u8], at: usize) -> us
 {
     let named = put_word(name, out, at);
     let begun = put_word(b": ", out, named);
-    let end = put_said(v, out, begun);
-    put_word(b"\n", out, end)
+    let said = put_said(v, out, begun);
+    put_word(b"\n", out, said)
 }
 
 // The line of a text that is turned back.

@@ -10,7 +10,7 @@ ghost use Rattle.report.specs.Words.{SPACE};
 ghost use Rattle.report.specs.Report.{spaced};
 ghost use Rattle.report.specs.Wrote.{Wrote};
 
-fn wide(x: u8) -> usize
+pub(crate) fn wide(x: u8) -> usize
     ensures { λ r. ⌜ r ≡ x ⌝ }
 {
     x as usize
