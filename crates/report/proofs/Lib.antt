@@ -1,0 +1,5 @@
+-- Laws behind the text of an answer.
+pub mod Wrote
+pub mod Digits
+pub mod Answered
+pub mod One

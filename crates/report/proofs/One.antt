@@ -1,0 +1,28 @@
+-- No second answer meets the contract of the report: neither another number of bytes, nor other bytes in the lent buffer.
+--
+--   report-settles == the contract settles what comes back
+--   report-leaves  == and what the lent buffer holds
+use mathlib.Core.Path.{_≡_, sym, _∙_}
+use mathlib.Core.List.{List}
+use Prim.Native.Nat.{ℕ}
+use native.Mathlib.Decide.{decLt}
+use native.Mathlib.Omega.{arith}
+use lib.ListN.{length}
+use denote.Ref.{now}
+use Rattle.laws.specs.Settles.{Settles, Leaves}
+use Rattle.report.specs.Report.{reportOf}
+use Rattle.report.specs.Wrote.{Reported}
+use Rattle.report.proofs.report.Reads as report
+use Rattle.report.proofs.report.Kinds as report-kinds
+
+reported-one : (text before a b : List ℕ) (r s : ℕ) → Reported text before a r → Reported text before b s → (r ≡ s) × (a ≡ b)
+reported-one text before a b r s p q = elim (decLt (length before) (length (reportOf text))) [
+  | yes h ↦ let (x, y) = p .short h in let (z, w) = q .short h in (x ∙ sym z, y ∙ sym w)
+  | no h ↦ let g = p .fits (omega arith) in let k = q .fits (omega arith) in (g .0 ∙ sym (k .0), g .1 ∙ sym (k .1))
+]
+
+pub report-settles : Settles 2 report-kinds.ps report-kinds.r report.Post
+report-settles κs a x y s t p q = reported-one (now (a .0)) (now (a .1 .0)) (now (s .1 .0)) (now (t .1 .0)) x y p q .0
+
+pub report-leaves : Leaves 2 report-kinds.ps report-kinds.r (λ κs s. now (s .1 .0)) report.Post
+report-leaves κs a x y s t p q = reported-one (now (a .0)) (now (a .1 .0)) (now (s .1 .0)) (now (t .1 .0)) x y p q .1

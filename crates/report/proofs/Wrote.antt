@@ -1,0 +1,47 @@
+-- Bytes written one after another.
+--
+--   wrote-then  == what is written behind what was written
+--   wrote-byte  == one byte
+--   wrote-paste == a string of bytes
+--   wrote-none  == nothing
+--   wrote-as    == the same bytes in other words
+--   wrote-front == from the front of a buffer on, it begins with what was written
+use mathlib.Core.Path.{_≡_, refl, sym, ap, _∙_, subst}
+use mathlib.Core.List.{List, [], _∷_, _++_, append-assoc, append-nil}
+use Prim.Native.Nat.{ℕ, _+_, _≤_, _<_}
+use native.Mathlib.Numerals.{add-one}
+use native.Mathlib.Omega.{arith}
+use lib.ListN.{length, take, set, length-append, length-set}
+use lib.Seq.{paste, length-paste, take-paste, take-suc-set, take-length}
+use Rattle.report.specs.Wrote.{Wrote}
+
+module _ (before : List ℕ) (at : ℕ) where
+  pub wrote-then : (x y m after : List ℕ) (r s : ℕ) → Wrote before at x m r → Wrote m r y after s → Wrote before at (x ++ y) after s
+  wrote-then x y m after r s p q = record {
+    long = q .long ∙ p .long;
+    ends = omega (arith, q .ends, p .ends, length-append x y);
+    said = q .said ∙ ap (λ (l : List ℕ). l ++ y) (p .said) ∙ append-assoc (take at before) x y;
+  }
+
+  pub wrote-byte : (v : ℕ) → at < length before → Wrote before at (v ∷ []) (set before at v) (at + 1)
+  wrote-byte v h = record {
+    long = length-set before at v;
+    ends = refl;
+    said = rw add-one (take-suc-set before at v h);
+  }
+
+  pub wrote-paste : (word after : List ℕ) (r : ℕ) → at + length word ≤ length before → r ≡ at + length word → after ≡ paste before at word (length word) → Wrote before at word after r
+  wrote-paste word after r h e p = record {
+    long = ap length p ∙ length-paste before at word (length word) h (omega arith);
+    ends = e;
+    said = rw (e, p) (take-paste before at word (length word) (omega arith) (omega arith) ∙ ap (λ (w : List ℕ). take at before ++ w) (take-length word));
+  }
+
+  pub wrote-none : Wrote before at [] before at
+  wrote-none = record { long = refl; ends = omega arith; said = sym (append-nil (take at before)) }
+
+pub wrote-as : {before bytes same after : List ℕ} {at r : ℕ} → bytes ≡ same → Wrote before at bytes after r → Wrote before at same after r
+wrote-as {before} {bytes} {same} {after} {at} {r} e w = subst (λ (b : List ℕ). Wrote before at b after r) e w
+
+pub wrote-front : (before bytes after : List ℕ) (r : ℕ) → Wrote before 0 bytes after r → (r ≡ length bytes) × (take r after ≡ bytes)
+wrote-front before bytes after r w = (omega (arith, w .ends), w .said)

@@ -1,0 +1,34 @@
+-- `report::lines::put_source`: the word, and the record behind it.
+use native.Mathlib.Omega.{arith}
+use Rattle.report.proofs.Wrote.{wrote-then}
+use Rattle.report.proofs.Digits.{decimal-usize}
+use borrow.Author.Needs.{needs}
+use Rattle.report.proofs.lines.put_source.Statement.{statement}
+use Rattle.report.proofs.lines.put_source.Tie as tie
+
+slice-aggregate-put-word : tie.Need-slice-aggregate-put-word
+slice-aggregate-put-word c = search needs
+
+put-word-requires : tie.Need-put-word-requires
+put-word-requires c κs = search needs
+
+put-decimal-requires : tie.Need-put-decimal-requires
+put-decimal-requires c κs = let w = c .before .before .before in
+    let s = w .before .before .before .before in
+    omega (arith, decimal-usize (s .args .x) (omega arith), w .put-word .ensures .ends, w .put-word .ensures .long)
+
+same-length : tie.Need-same-length
+same-length c = search needs
+
+returns : tie.Need-returns
+returns c = let d = c .before .before in
+    let w = d .before .before .before .before in
+    let s = w .before .before .before .before in (
+      wrote-then (s .args .out .now) (s .args .at) _ _ _ _ _ _ (w .put-word .ensures) (d .put-decimal .ensures),
+      omega (arith, decimal-usize (s .args .x) (omega arith), w .put-word .ensures .ends, d .put-decimal .ensures .ends),
+    )
+
+pub put-source-spec : {M : Type 1} → statement M
+put-source-spec =
+    tie.close
+    (tie.spec slice-aggregate-put-word put-word-requires put-decimal-requires same-length returns)

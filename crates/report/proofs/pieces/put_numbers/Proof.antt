@@ -1,0 +1,73 @@
+-- `report::pieces::put_numbers`: the first i numbers are written.
+use borrow.Author.Needs.{needs}
+use mathlib.Core.Path.{_≡_, refl, sym, ap, _∙_}
+use mathlib.Core.List.{List}
+use Prim.Native.Nat.{ℕ, _+_, _*_, _≤_, _-_}
+use native.Mathlib.Omega.{arith}
+use lib.ListN.{length, take}
+use lib.Seq.{take-length}
+use Rattle.report.specs.Bounds.{NUMBER}
+use Rattle.report.specs.Report.{spaced}
+use Rattle.report.specs.Wrote.{Wrote}
+use Rattle.report.proofs.Wrote.{wrote-then, wrote-none}
+use Rattle.report.proofs.Digits.{spaced-more}
+use Rattle.report.proofs.pieces.put_numbers.Statement.{statement}
+use Rattle.report.proofs.pieces.put_numbers.Tie as tie
+
+abbrev Inv-loop : tie.InvT-loop
+Inv-loop list out₀ at end₀ i₀ out end i = (i ≤ length list) × (end ≤ at + NUMBER * i) × Wrote out₀ at (spaced (take i list)) out end
+
+abbrev μ-loop : tie.MeasureT-loop
+μ-loop list out₀ at end₀ i₀ out end i = length list - i
+
+loop-holds : tie.Need-loop-holds Inv-loop μ-loop
+unfolding spaced
+loop-holds c = (omega arith, omega arith, wrote-none _ _)
+
+shared-slice-read-n : tie.Need-shared-slice-read-n Inv-loop μ-loop
+shared-slice-read-n c = search needs
+
+put-one-requires : tie.Need-put-one-requires Inv-loop μ-loop
+put-one-requires c κs = let l = c .before .before .before .loop in
+    omega (arith, l .inv .2 .long)
+
+add-i : tie.Need-add-i Inv-loop μ-loop
+add-i c = search needs
+
+loop-less : tie.Need-loop-less Inv-loop μ-loop
+loop-less c = search needs
+
+loop-again : tie.Need-loop-again Inv-loop μ-loop
+loop-again c = let o = c .before .before .put-one in
+    let l = c .before .before .before .before .before .before .loop in
+    let a = c .before .before .before .before .before .before .before .before .before .args in
+    let more = spaced-more (a .list .now) (l .i) (omega arith) in (
+      omega arith,
+      omega (arith, o .ensures .1),
+      rw more (wrote-then (a .out .now) (a .at) _ _ _ _ _ _ (l .inv .2) (o .ensures .0)),
+    )
+
+same-length : tie.Need-same-length Inv-loop μ-loop
+same-length c = c .before .loop .inv .2 .long
+
+returns : tie.Need-returns Inv-loop μ-loop
+returns c = let l = c .before .loop in
+    let a = c .before .before .before .before .args in
+    let e : l .i ≡ length (a .list .now) = omega arith in
+    let whole : take (l .i) (a .list .now) ≡ a .list .now = rw e (take-length (a .list .now)) in
+    (rw whole at (l .inv .2), omega arith)
+
+pub put-numbers-spec : {M : Type 1} → statement M
+put-numbers-spec =
+    tie.close
+    (tie.spec
+    Inv-loop
+    μ-loop
+    loop-holds
+    shared-slice-read-n
+    put-one-requires
+    add-i
+    loop-less
+    loop-again
+    same-length
+    returns)

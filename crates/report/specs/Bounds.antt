@@ -1,0 +1,30 @@
+-- How many bytes the parts of an answer have at the most.
+--
+--   NUMBER == a record or a rule after a space
+--   LONG   == any number that the code holds
+--   SAID   == what is said of one model
+--   NAME   == the model's name
+--   LINE   == the line of one model
+--   REPORT == the whole answer
+use Prim.Native.Nat.{ℕ, _+_, _*_}
+use Rattle.trace.specs.Bounds.{RECORDS}
+
+abbrev pub NUMBER : ℕ
+NUMBER = 4
+
+abbrev pub LONG : ℕ
+LONG = 20
+
+abbrev pub NAME : ℕ
+NAME = 3
+
+-- the words, and two lists of numbers
+abbrev pub SAID : ℕ
+SAID = 40 + 2 * (NUMBER * RECORDS)
+
+-- with a colon, a space and the line feed
+abbrev pub LINE : ℕ
+LINE = NAME + 3 + SAID
+
+abbrev pub REPORT : ℕ
+REPORT = 2 * LINE

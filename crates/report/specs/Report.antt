@@ -1,0 +1,54 @@
+-- What the program prints for a text: one line for each model, or the one line of a refusal.
+--
+--   spaced ns        == the numbers, each after a space
+--   sayingAs o os rs == what is said of an outcome with the operations os and the rules rs
+--   saying v         == what is said of a verdict
+--   lineOf name v    == the line of a verdict under a model of this name
+--   refusalOf n line == the line of a refused text
+--   answerOf a t     == the whole output for what the reader answers, with the trace beside it
+--   reportOf text    == the whole output for a text
+use mathlib.Core.List.{List, [], _∷_, _++_}
+use Prim.Native.Nat.{ℕ}
+use lib.ListN.{take}
+use Rattle.trace.specs.declared.Trace.{Trace}
+use Rattle.text.specs.Bounds.{FEED}
+use Rattle.text.specs.Number.{decimal}
+use Rattle.reader.specs.Answer.{numberOf}
+use Rattle.reader.specs.Read.{readText}
+use Rattle.reader.specs.declared.Answer.{Answer}
+use Rattle.reader.specs.declared.Answer.the-variants.{Good, Refused}
+use Rattle.pairs.specs.Kept.{SC, TSO}
+use Rattle.verdict.specs.Told.{refusedBy, verdictOf}
+use Rattle.verdict.specs.declared.Outcome.{Outcome}
+use Rattle.verdict.specs.declared.Outcome.the-variants.{NoSource, Circle, Order, NoneLeft, NoModel, NotWellFormed}
+use Rattle.verdict.specs.declared.Verdict.{Verdict}
+use Rattle.report.specs.Words.{SPACE, sc, tso, colon, order, noOrder, noSource, circle, by, noneLeft, refused, onLine}
+
+unfoldable pub spaced : List ℕ → List ℕ
+spaced [] = []
+spaced (n ∷ ns) = (SPACE ∷ decimal n) ++ spaced ns
+
+-- a trace that was read never meets the last two
+unfoldable pub sayingAs : Outcome → List ℕ → List ℕ → List ℕ
+sayingAs (NoSource x) os rs = (noOrder ++ noSource) ++ decimal x
+sayingAs Circle os rs = (noOrder ++ circle) ++ spaced os ++ by ++ spaced rs
+sayingAs Order os rs = order ++ spaced os
+sayingAs NoneLeft os rs = noOrder ++ noneLeft
+sayingAs NoModel os rs = refused ++ decimal (refusedBy NoModel)
+sayingAs NotWellFormed os rs = refused ++ decimal (refusedBy NotWellFormed)
+
+abbrev pub saying : Verdict → List ℕ
+saying v = sayingAs (v .outcome) (take (v .len) (v .operations)) (take (v .len) (v .rules))
+
+abbrev pub lineOf : List ℕ → Verdict → List ℕ
+lineOf name v = name ++ colon ++ saying v ++ (FEED ∷ [])
+
+abbrev pub refusalOf : ℕ → ℕ → List ℕ
+refusalOf n line = refused ++ decimal n ++ onLine ++ decimal line ++ (FEED ∷ [])
+
+unfoldable pub answerOf : Answer → Trace → List ℕ
+answerOf Good t = lineOf sc (verdictOf SC t) ++ lineOf tso (verdictOf TSO t)
+answerOf (Refused reason line) t = refusalOf (numberOf reason) line
+
+unfoldable pub reportOf : List ℕ → List ℕ
+reportOf text = answerOf (readText text .answer) (readText text .trace)

@@ -1,0 +1,58 @@
+// The text of an answer: what the program prints, made byte by byte in a lent buffer.
+ghost use mathlib.Core.Path.{_≡_};
+ghost use Prim.Native.Nat.{_≤_};
+ghost use lib.ListN.{length};
+ghost use Rattle.report.specs.Bounds.{REPORT};
+ghost use Rattle.report.specs.Report.{reportOf};
+ghost use Rattle.report.specs.Wrote.{Wrote, Reported};
+
+mod lines;
+mod pieces;
+
+use lines::put_line;
+use lines::put_refusal;
+use pieces::put;
+use pieces::wide;
+use reader::Answer;
+use reader::read;
+use reader::turns::number;
+use trace::RECORDS;
+use verdict::tell::verdict_of;
+
+// The models, by document 01's numbers.
+const SC: u8 = 1;
+
+const TSO: u8 = 2;
+
+// How many bytes an answer has at the most: two lines, each with its words and two lists of numbers.
+pub const REPORT: usize = 2 * (46 + 8 * RECORDS);
+
+// The answer to a text, in a buffer that has room for any.
+fn written(text: &[u8], out: &mut [u8]) -> usize
+    requires { ⌜ length (now out) ≡ REPORT ⌝ }
+    ensures { λ r. ⌜ Wrote (now (out .entry)) 0 (reportOf (now (text .entry))) (now (out .exit)) r × (r ≤ REPORT) ⌝ }
+{
+    let reading = read(text);
+    let answer = reading.answer;
+    match answer {
+        Answer::Good => {
+            let trace = reading.trace;
+            let end = put_line(b"SC", verdict_of(trace, SC), out, 0);
+            put_line(b"TSO", verdict_of(trace, TSO), out, end)
+        }
+        Answer::Refused { reason, line } => put_refusal(wide(number(reason)), line, out, 0),
+    }
+}
+
+// The whole answer to a text, one line for each model or the line of a refusal, and how many bytes it has. A buffer that is too short stays as it
+// is, and 0 comes back; one of REPORT bytes is always long enough.
+pub fn report(text: &[u8], out: &mut [u8]) -> usize
+    ensures { λ r. ⌜ Reported (now (text .entry)) (now (out .entry)) (now (out .exit)) r ⌝ }
+{
+    let mut whole = [0u8; REPORT];
+    let n = written(text, &mut whole);
+    if out.len() < n {
+        return 0;
+    }
+    put(&whole[..n], out, 0)
+}

@@ -1,0 +1,95 @@
+// The lines of an answer.
+ghost use mathlib.Core.Path.{_≡_};
+ghost use mathlib.Core.List.{_++_};
+ghost use Prim.Native.Nat.{_+_, _≤_};
+ghost use lib.ListN.{length};
+ghost use Rattle.trace.specs.Bounds.{RECORDS};
+ghost use Rattle.text.specs.Number.{decimal};
+ghost use Rattle.report.specs.Bounds.{SAID, NAME, LINE};
+ghost use Rattle.report.specs.Words.{order, noOrder, noSource, circle, by, refused};
+ghost use Rattle.report.specs.Report.{spaced, saying, lineOf, refusalOf};
+ghost use Rattle.report.specs.Wrote.{Wrote};
+use crate::pieces::put_decimal;
+use crate::pieces::put_numbers;
+use crate::pieces::put_word;
+use verdict::Outcome;
+use verdict::Verdict;
+
+// That a record has no source.
+fn put_source(x: usize, out: &mut [u8], at: usize) -> usize
+    requires { ⌜ at + SAID ≤ length (now out) ⌝ }
+    ensures { λ r. ⌜ Wrote (now (out .entry)) at ((noOrder ++ noSource) ++ decimal x) (now (out .exit)) r × (r ≤ at + SAID) ⌝ }
+{
+    let end = put_word(b"no order, no source ", out, at);
+    put_decimal(x, out, end)
+}
+
+// A circle and its rules.
+fn put_circle(operations: &[u8], rules: &[u8], out: &mut [u8], at: usize) -> usize
+    requires { ⌜ (at + SAID ≤ length (now out)) × (length (now operations) ≤ RECORDS) × (length (now rules) ≤ RECORDS) ⌝ }
+    ensures { λ r. ⌜ Wrote (now (out .entry)) at ((noOrder ++ circle) ++ spaced (now (operations .entry)) ++ by ++ spaced (now (rules .entry))) (now (out .exit)) r × (r ≤ at + SAID) ⌝ }
+{
+    let named = put_word(b"no order, circle", out, at);
+    let listed = put_numbers(operations, out, named);
+    let end = put_word(b" by", out, listed);
+    put_numbers(rules, out, end)
+}
+
+// An order.
+fn put_order(operations: &[u8], out: &mut [u8], at: usize) -> usize
+    requires { ⌜ (at + SAID ≤ length (now out)) × (length (now operations) ≤ RECORDS) ⌝ }
+    ensures { λ r. ⌜ Wrote (now (out .entry)) at (order ++ spaced (now (operations .entry))) (now (out .exit)) r × (r ≤ at + SAID) ⌝ }
+{
+    let end = put_word(b"order", out, at);
+    put_numbers(operations, out, end)
+}
+
+// That a question is turned back, by its number.
+fn put_refused(n: usize, out: &mut [u8], at: usize) -> usize
+    requires { ⌜ at + SAID ≤ length (now out) ⌝ }
+    ensures { λ r. ⌜ Wrote (now (out .entry)) at (refused ++ decimal n) (now (out .exit)) r × (r ≤ at + 28) ⌝ }
+{
+    let end = put_word(b"refused ", out, at);
+    put_decimal(n, out, end)
+}
+
+// What is said of a verdict.
+fn put_said(v: Verdict, out: &mut [u8], at: usize) -> usize
+    requires { ⌜ (at + SAID ≤ length (now out)) × (v .len ≤ RECORDS) ⌝ }
+    ensures { λ r. ⌜ Wrote (now (out .entry)) at (saying v) (now (out .exit)) r × (r ≤ at + SAID) ⌝ }
+{
+    let len = v.len;
+    let operations = v.operations;
+    let rules = v.rules;
+    let outcome = v.outcome;
+    match outcome {
+        Outcome::NoSource(x) => put_source(x, out, at),
+        Outcome::Circle => put_circle(&operations[..len], &rules[..len], out, at),
+        Outcome::Order => put_order(&operations[..len], out, at),
+        Outcome::NoneLeft => put_word(b"no order, none left", out, at),
+        Outcome::NoModel => put_refused(9, out, at),
+        Outcome::NotWellFormed => put_refused(10, out, at),
+    }
+}
+
+// The line of a verdict, under the model's name.
+pub(crate) fn put_line(name: &[u8], v: Verdict, out: &mut [u8], at: usize) -> usize
+    requires { ⌜ (at + LINE ≤ length (now out)) × (length (now name) ≤ NAME) × (v .len ≤ RECORDS) ⌝ }
+    ensures { λ r. ⌜ Wrote (now (out .entry)) at (lineOf (now (name .entry)) v) (now (out .exit)) r × (r ≤ at + LINE) ⌝ }
+{
+    let named = put_word(name, out, at);
+    let begun = put_word(b": ", out, named);
+    let said = put_said(v, out, begun);
+    put_word(b"\n", out, said)
+}
+
+// The line of a text that is turned back.
+pub(crate) fn put_refusal(n: usize, line: usize, out: &mut [u8], at: usize) -> usize
+    requires { ⌜ at + LINE ≤ length (now out) ⌝ }
+    ensures { λ r. ⌜ Wrote (now (out .entry)) at (refusalOf n line) (now (out .exit)) r × (r ≤ at + LINE) ⌝ }
+{
+    let named = put_refused(n, out, at);
+    let begun = put_word(b" line ", out, named);
+    let end = put_decimal(line, out, begun);
+    put_word(b"\n", out, end)
+}

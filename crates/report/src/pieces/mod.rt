@@ -1,0 +1,83 @@
+// Bytes put into a lent buffer from a place on. Each function gives back the place behind what it wrote.
+ghost use mathlib.Core.Path.{_≡_};
+ghost use mathlib.Core.List.{[], _∷_};
+ghost use Prim.Native.Nat.{_+_, _*_, _≤_, _<_};
+ghost use lib.ListN.{length};
+ghost use lib.Seq.{paste};
+ghost use Rattle.text.specs.Number.{decimal};
+ghost use Rattle.report.specs.Bounds.{NUMBER};
+ghost use Rattle.report.specs.Words.{SPACE};
+ghost use Rattle.report.specs.Report.{spaced};
+ghost use Rattle.report.specs.Wrote.{Wrote};
+
+pub(crate) fn wide(x: u8) -> usize
+    ensures { λ r. ⌜ r ≡ x ⌝ }
+{
+    x as usize
+}
+
+// A string of bytes; all others stay.
+pub(crate) fn put(word: &[u8], out: &mut [u8], at: usize) -> usize
+    requires { ⌜ at + length (now word) ≤ length (now out) ⌝ }
+    ensures { λ r. ⌜ (r ≡ at + length (now (word .entry))) × (now (out .exit) ≡ paste (now (out .entry)) at (now (word .entry)) (length (now (word .entry)))) ⌝ }
+{
+    let mut i: usize = 0;
+    while i < word.len() {
+        out[at + i] = word[i];
+        i += 1;
+    }
+    at + i
+}
+
+// A word, behind what was written before.
+pub(crate) fn put_word(word: &[u8], out: &mut [u8], at: usize) -> usize
+    requires { ⌜ at + length (now word) ≤ length (now out) ⌝ }
+    ensures { λ r. ⌜ Wrote (now (out .entry)) at (now (word .entry)) (now (out .exit)) r ⌝ }
+{
+    put(word, out, at)
+}
+
+// One digit.
+fn put_digit(d: usize, out: &mut [u8], at: usize) -> usize
+    requires { ⌜ (d < 10) × (at < length (now out)) ⌝ }
+    ensures { λ r. ⌜ Wrote (now (out .entry)) at ((48 + d) ∷ []) (now (out .exit)) r ⌝ }
+{
+    out[at] = b'0' + d as u8;
+    at + 1
+}
+
+// A number, its highest digit first.
+pub(crate) fn put_decimal(n: usize, out: &mut [u8], at: usize) -> usize
+    requires { ⌜ at + length (decimal n) ≤ length (now out) ⌝ }
+    ensures { λ r. ⌜ Wrote (now (out .entry)) at (decimal n) (now (out .exit)) r ⌝ }
+{
+    if n < 10 {
+        return put_digit(n, out, at);
+    }
+    let end = put_decimal(n / 10, out, at);
+    put_digit(n % 10, out, end)
+}
+
+// A number of a record or a rule, after a space.
+fn put_one(n: u8, out: &mut [u8], at: usize) -> usize
+    requires { ⌜ at + NUMBER ≤ length (now out) ⌝ }
+    ensures { λ r. ⌜ Wrote (now (out .entry)) at (SPACE ∷ decimal n) (now (out .exit)) r × (r ≤ at + NUMBER) ⌝ }
+{
+    out[at] = b' ';
+    put_decimal(wide(n), out, at + 1)
+}
+
+// Numbers, each after a space.
+pub(crate) fn put_numbers(list: &[u8], out: &mut [u8], at: usize) -> usize
+    requires { ⌜ at + NUMBER * length (now list) ≤ length (now out) ⌝ }
+    ensures { λ r. ⌜ Wrote (now (out .entry)) at (spaced (now (list .entry))) (now (out .exit)) r × (r ≤ at + NUMBER * length (now (list .entry))) ⌝ }
+{
+    let mut end = at;
+    let mut i: usize = 0;
+    while i < list.len() {
+        let n = list[i];
+        end = put_one(n, out, end);
+        i += 1;
+    }
+    end
+}

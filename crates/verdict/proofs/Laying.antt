@@ -1,0 +1,147 @@
+-- How the code comes to its verdict.
+--
+--   padded-take             == an array that is 0 past its used places is made of these
+--   told-model, told-form   == a question that is turned back
+--   told-says               == what the definitions say of the trace, laid into the arrays
+--   told-source, told-circle, told-order, told-none == the four outcomes, each from what the parts promise
+use mathlib.Core.Path.{_≡_, refl, sym, ap, ap₂, _∙_, subst}
+use mathlib.Core.Bool.{Bool, true, false, cond, So}
+use mathlib.Core.List.{List, [], _++_}
+use mathlib.Core.Option.{Option, none, some}
+use Prim.Native.Nat.{ℕ, zero, suc, _+_, _-_, _≤_, _<_}
+use native.Mathlib.Omega.{arith}
+use lib.ListN.{length, getD, take, drop, replicate, length-replicate, length-drop, take-append-drop}
+use lib.Seq.{length-take-le, getD-drop, ext-getD}
+use Rattle.laws.specs.Lowest.{Lowest}
+use Rattle.laws.specs.Dict.{Least}
+use Rattle.laws.proofs.Tests.{and-iff, same-iff}
+use Rattle.trace.specs.Bounds.{RECORDS}
+use Rattle.trace.specs.Meaning.{frameOf}
+use Rattle.trace.specs.WellFormed.{wellFormed}
+use Rattle.trace.specs.Order.{Valid}
+use Rattle.trace.specs.declared.Trace.{Trace}
+use Rattle.trace.proofs.Good.{good}
+use Rattle.pairs.specs.Kept.{modelled, keptOf}
+use Rattle.edges.specs.Answers.{answered}
+use Rattle.rules.specs.Missing.{Missing, Sourced}
+use Rattle.rules.specs.ShownCircle.{Circled}
+use Rattle.pairs.proofs.KeptPairs.{kept-joins}
+use Rattle.circle.specs.CircleOf.{ruledOf, CircleOf}
+use Rattle.circle.specs.declared.show.Circle as ring
+use Rattle.circle.proofs.ShownIn.{zeros}
+use Rattle.orders.specs.Verdict as said
+use Rattle.orders.specs.Sought.{verdict?}
+use Rattle.orders.specs.MissingOf.{record?, missingOf}
+use Rattle.orders.specs.declared.sources.Found.{Found}
+use Rattle.orders.specs.declared.sources.Found.the-variants.{At, Nothing}
+use Rattle.orders.proofs.MissingOf.{missing-lowest}
+use Rattle.orders.proofs.Sought.{verdict-only}
+use Rattle.search.specs.FirstOrder.{found?, orderOf, FirstOrder}
+use Rattle.search.specs.declared.Order as first
+use Rattle.verdict.specs.Told.{padded, bare, laid, verdictOf, Reaches, Told}
+use Rattle.verdict.specs.declared.Outcome.the-variants.{NoSource, Circle, Order, NoneLeft, NoModel, NotWellFormed}
+use Rattle.verdict.specs.declared.Verdict.{Verdict}
+
+pub padded-take : (n : ℕ) (os : List ℕ) → n ≤ RECORDS → length os ≡ RECORDS → ((i : ℕ) → n ≤ i → getD os i 0 ≡ 0) → padded (take n os) ≡ os
+padded-take n os h l z = ap (λ (r : List ℕ). take n os ++ r) same ∙ take-append-drop n os
+  where
+    long : length (take n os) ≡ n
+    long = length-take-le n os (omega arith)
+
+    same : replicate (RECORDS - length (take n os)) 0 ≡ drop n os
+    same =
+        let k = RECORDS - length (take n os) in
+        let e = length-replicate {A = ℕ} k 0 in
+        ext-getD 0 (replicate k 0) (drop n os) (omega (arith, length-drop n os, long)) (λ i _. zeros k i ∙ sym (getD-drop n os i 0 ∙ z (n + i) (omega arith)))
+
+module _ (t : Trace) (m : ℕ) where
+  pub told-model : modelled m ≡ false → Told t m (bare NoModel)
+  unfolding verdictOf
+  told-model e = record {
+    is = sym (ap (λ (b : Bool). cond b (cond (wellFormed t) (laid (verdict? (frameOf t) (keptOf m t))) (bare NotWellFormed)) (bare NoModel)) e);
+    fits = omega arith;
+  }
+
+  module _ (k : So (modelled m)) where
+    modelled-of : cond (wellFormed t) (laid (verdict? (frameOf t) (keptOf m t))) (bare NotWellFormed) ≡ verdictOf m t
+    unfolding verdictOf
+    modelled-of = sym (ap (λ (b : Bool). cond b (cond (wellFormed t) (laid (verdict? (frameOf t) (keptOf m t))) (bare NotWellFormed)) (bare NoModel)) k)
+
+    pub told-form : wellFormed t ≡ false → Told t m (bare NotWellFormed)
+    told-form e = record {
+      is = sym (ap (λ (b : Bool). cond b (laid (verdict? (frameOf t) (keptOf m t))) (bare NotWellFormed)) e) ∙ modelled-of;
+      fits = omega arith;
+    }
+
+    module _ (w : So (wellFormed t)) where
+      pub told-says : (v : said.Verdict) → said.Says (frameOf t) (keptOf m t) v → laid v ≡ verdictOf m t
+      told-says v s =
+          ap laid (verdict-only (frameOf t) (good t w) (keptOf m t) (kept-joins m t) v .0 s)
+          ∙ sym (ap (λ (b : Bool). cond b (laid (verdict? (frameOf t) (keptOf m t))) (bare NotWellFormed)) w)
+          ∙ modelled-of
+
+      pub told-source : (x : ℕ) → At x ≡ missingOf t → Told t m (bare (NoSource x))
+      told-source x e = record {
+        is = told-says (said.noSource x) (subst (λ (a : Found). Lowest (Missing (frameOf t)) (record? a)) (sym e) (missing-lowest t w));
+        fits = omega arith;
+      }
+
+-- with a circle there is one to show
+ruled-some : (n : ℕ) (os rs : List ℕ) → 0 < n → ruledOf n os rs ≡ some (take n os, take n rs)
+unfolding ruledOf
+ruled-some zero os rs h = absurd (omega arith)
+ruled-some (suc n) os rs h = refl
+
+ruled-none : (n : ℕ) (os rs : List ℕ) → n ≡ 0 → ruledOf n os rs ≡ none
+unfolding ruledOf
+ruled-none n os rs e = ap (λ (k : ℕ). ruledOf k os rs) e
+
+-- a verdict is made of its fields
+made : {a b : ℕ} {os ps rs qs : List ℕ} → a ≡ b → os ≡ ps → rs ≡ qs
+    → _≡_ {A = Verdict} (record { outcome = Circle; len = a; operations = os; rules = rs }) (record { outcome = Circle; len = b; operations = ps; rules = qs })
+made p q r = λ i. record { outcome = Circle; len = p i; operations = q i; rules = r i }
+
+made-order : {a b : ℕ} {os ps : List ℕ} → a ≡ b → os ≡ ps
+    → _≡_ {A = Verdict} (record { outcome = Order; len = a; operations = os; rules = replicate RECORDS 0 }) (record { outcome = Order; len = b; operations = ps; rules = replicate RECORDS 0 })
+made-order p q = λ i. record { outcome = Order; len = p i; operations = q i; rules = replicate RECORDS 0 }
+
+module _ (t : Trace) (m : ℕ) (h : Reaches t m) (c : ring.Circle) (p : CircleOf t m c) where
+  -- there is something to answer, and no source is missing
+  asked : So (answered m t)
+  asked = and-iff (same-iff {a = wellFormed t}) (same-iff {a = modelled m}) .1 (h .well, h .model)
+
+  sourced : Sourced (frameOf t)
+  sourced = subst (λ (a : Found). Lowest (Missing (frameOf t)) (record? a)) (h .sourced) (missing-lowest t (h .well))
+
+  pub told-circle : 0 < c .len → Told t m (record { outcome = Circle; len = c .len; operations = c .operations; rules = c .rules })
+  told-circle l =
+      let n = c .len in
+      let full : n ≤ length (c .operations) = omega (arith, p .fits, p .long .0) in
+      let s = subst (Circled (frameOf t) (keptOf m t)) (ruled-some n (c .operations) (c .rules) l) (p .circle asked) in
+      record {
+        is =
+            sym (made (length-take-le n (c .operations) full)
+            (padded-take n (c .operations) (p .fits) (p .long .0) (λ i g. p .rest i g .0))
+            (padded-take n (c .rules) (p .fits) (p .long .1) (λ i g. p .rest i g .1)))
+            ∙ told-says t m (h .model) (h .well) (said.circle (take n (c .operations)) (take n (c .rules))) (sourced, s);
+        fits = p .fits;
+      }
+
+  module _ (z : c .len ≡ 0) (o : first.Order) (q : FirstOrder t m o) where
+    -- no circle
+    clear : Circled (frameOf t) (keptOf m t) none
+    clear = subst (Circled (frameOf t) (keptOf m t)) (ruled-none (c .len) (c .operations) (c .rules) z) (p .circle asked)
+
+    sought : (b : Bool) → o .found ≡ b → Least (Valid (frameOf t) (keptOf m t)) (found? b (take (o .len) (o .operations)))
+    sought b e = subst (λ (b : Bool). Least (Valid (frameOf t) (keptOf m t)) (found? b (take (o .len) (o .operations)))) e (q .first asked)
+
+    pub told-order : o .found ≡ true → Told t m (record { outcome = Order; len = o .len; operations = o .operations; rules = replicate RECORDS 0 })
+    told-order e = record {
+      is =
+          sym (made-order (length-take-le (o .len) (o .operations) (omega (arith, q .fits, q .long))) (padded-take (o .len) (o .operations) (q .fits) (q .long) (q .rest)))
+          ∙ told-says t m (h .model) (h .well) (said.order (take (o .len) (o .operations))) (sourced, clear, sought true e);
+      fits = q .fits;
+    }
+
+    pub told-none : o .found ≡ false → Told t m (bare NoneLeft)
+    told-none e = record { is = told-says t m (h .model) (h .well) said.noneLeft (sourced, clear, sought false e); fits = omega arith }
