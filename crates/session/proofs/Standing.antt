@@ -7,6 +7,7 @@
 --   open-blank    == beside a refused opening stands the session of the empty trace under model 1
 --   after-afresh  == any list of calls, refused ones included
 --   after-opened, after-refused == so it goes after any opening, done or refused
+--   after-intact  == so no later call on it is turned back as 12, and what Promises says of an intact session holds of it
 --   supposed-all  == supposing the pairs of an allowed list in turn leaves that list standing
 --   after-again   == hence after any calls the session equals the one opened afresh in which the pairs still standing are supposed in turn
 use mathlib.Core.Path.{_≡_, refl, sym, ap, _∙_, subst}
@@ -141,6 +142,10 @@ module _ (t : Trace) where
   unfolding standingAfter
   standing-allowed [] ps al = al
   standing-allowed (a ∷ cs) ps al = standing-allowed cs (kept t ps a) (kept-allowed ps al a)
+
+  pub after-intact : (m : ℕ) → So (openable t m) → (cs : List Act) → So (intact (after (left (openOf t m)) cs))
+  after-intact m o cs =
+      subst (λ (s : Session). So (intact s)) (sym (after-opened m o cs)) (afresh-intact t m (standingAfter t [] cs) o (standing-allowed cs [] (none-allowed t)))
 
   -- a pair of an allowed list is taken
   next-taken : (ps : List Pair) (q : Pair) (qs : List Pair) → Allowed t (ps ++ q ∷ qs) → So (takes ps q)
