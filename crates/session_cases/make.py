@@ -371,7 +371,7 @@ def ran(draw, size, threads, addresses):
 
 
 draw = random.Random(5)
-for size, calls in [(5, 300), (6, 300), (8, 300), (10, 200), (13, 200), (17, 200), (22, 150), (28, 150), (36, 100), (45, 60), (55, 40), (64, 30)]:
+for size, calls in [(5, 400), (6, 400), (8, 400), (10, 400), (13, 300), (17, 300), (22, 300), (28, 200), (36, 200), (45, 150), (55, 120), (64, 100)]:
     text = ran(draw, size, 2 + size // 12, 1 + size // 8)
     talk = []
     for model, seed in [(1, size), (2, size + 1000)]:

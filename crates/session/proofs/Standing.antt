@@ -2,15 +2,19 @@
 --
 --   kept-allowed  == the pairs that stand after a call are allowed again
 --   act-kept      == one call on a session made afresh
---   act-unlike    == a call on a session that is not intact gives it back as it was
+--   act-given     == a call that is turned back leaves the session as given
+--   act-unlike    == so does every call on a session that is not intact
+--   open-blank    == beside a refused opening stands the session of the empty trace under model 1
 --   after-afresh  == any list of calls, refused ones included
 --   after-opened, after-refused == so it goes after any opening, done or refused
+--   after-intact  == so no later call on it is turned back as 12, and what Promises says of an intact session holds of it
 --   supposed-all  == supposing the pairs of an allowed list in turn leaves that list standing
 --   after-again   == hence after any calls the session equals the one opened afresh in which the pairs still standing are supposed in turn
 use mathlib.Core.Path.{_≡_, refl, sym, ap, _∙_, subst}
 use mathlib.Core.Logic.{inl, inr}
 use mathlib.Core.Bool.{Bool, true, false, So, cond, _&&_, false≢true}
 use mathlib.Core.List.{List, [], _∷_, _++_, append-assoc, append-nil}
+use mathlib.Core.Option.{some}
 use Prim.Native.Nat.{ℕ, _+_, _-_, _<_}
 use native.Mathlib.Omega.{arith}
 use lib.Dec.{ltb}
@@ -25,9 +29,11 @@ use Rattle.session.specs.Stack.{unused, supposable, Allowed, stacked, st
 use Rattle.session.specs.Opening.{openingOf, isDone, openable}
 use Rattle.session.specs.Session.{afresh, intact, blank}
 use Rattle.session.specs.Entries.{supposeTurn, takeBackTurn, openOf, supposeOf, takeBackOf, askOf}
-use Rattle.session.specs.Numbers.{Act, supposes, takesBack, asks, replyOf}
+use Rattle.session.specs.Numbers.{refusal, Act, supposes, takesBack, asks, replyOf}
 use Rattle.session.specs.Calls.{after, kept, standingAfter, supposeAll}
 use Rattle.session.specs.declared.Pair.{Pair}
+use Rattle.session.specs.declared.Answer.{Answer}
+use Rattle.session.specs.declared.Answer.the-variants.{Done, Held, NotHeld, Contradicted, NoSource, Refused}
 use Rattle.session.specs.declared.Reply.{Reply}
 use Rattle.session.specs.declared.Session.{Session}
 use Rattle.session.proofs.Pairs.{supposable-iff, none-allowed, allowed-stands, stands-allowed, standing-stacked, pushed-stands, standing-pushed, popped-stands, standing-popped}
@@ -137,6 +143,10 @@ module _ (t : Trace) where
   standing-allowed [] ps al = al
   standing-allowed (a ∷ cs) ps al = standing-allowed cs (kept t ps a) (kept-allowed ps al a)
 
+  pub after-intact : (m : ℕ) → So (openable t m) → (cs : List Act) → So (intact (after (left (openOf t m)) cs))
+  after-intact m o cs =
+      subst (λ (s : Session). So (intact s)) (sym (after-opened m o cs)) (afresh-intact t m (standingAfter t [] cs) o (standing-allowed cs [] (none-allowed t)))
+
   -- a pair of an allowed list is taken
   next-taken : (ps : List Pair) (q : Pair) (qs : List Pair) → Allowed t (ps ++ q ∷ qs) → So (takes ps q)
   next-taken ps q qs al =
@@ -157,10 +167,27 @@ module _ (t : Trace) where
       after-opened m o cs
       ∙ sym (after-opened m o (supposeAll (standingAfter t [] cs)) ∙ ap (afresh t m) (supposed-all (standingAfter t [] cs) [] (standing-allowed cs [] (none-allowed t))))
 
-pub after-refused : (t : Trace) (m : ℕ) → openable t m ≡ false → (cs : List Act) → after (left (openOf t m)) cs ≡ afresh empty SC (standingAfter empty [] cs)
+pub open-blank : (t : Trace) (m : ℕ) → openable t m ≡ false → left (openOf t m) ≡ blank
 unfolding openable
-after-refused t m n cs =
-    ap (λ s. after s cs) (sym (ap left (open-refused t m (openingOf t m) refl n blank refl))) ∙ after-afresh empty SC empty-opens cs [] (none-allowed empty)
+open-blank t m n = sym (ap left (open-refused t m (openingOf t m) refl n blank refl))
+
+pub after-refused : (t : Trace) (m : ℕ) → openable t m ≡ false → (cs : List Act) → after (left (openOf t m)) cs ≡ afresh empty SC (standingAfter empty [] cs)
+after-refused t m n cs = ap (λ s. after s cs) (open-blank t m n) ∙ after-afresh empty SC empty-opens cs [] (none-allowed empty)
+
+-- an answer with a number is not done
+not-done : (a : Answer) (n : ℕ) → refusal a ≡ some n → isDone a ≡ false
+not-done Done n e = let z : _≡_ {A = ℕ} 0 1 = cc in absurd (omega arith)
+not-done Held n e = refl
+not-done NotHeld n e = refl
+not-done Contradicted n e = refl
+not-done (NoSource x) n e = refl
+not-done (Refused r) n e = refl
+
+pub act-given : (s : Session) (a : Act) (n : ℕ) → refusal (replyOf s a .answer) ≡ some n → left (replyOf s a) ≡ s
+unfolding supposeOf takeBackOf askOf
+act-given s (supposes x y) n e = sym (ap left (suppose-refused s x y (supposeTurn s x y) refl (not-done (supposeTurn s x y) n e)))
+act-given s takesBack n e = sym (ap left (back-refused s (takeBackTurn s) refl (not-done (takeBackTurn s) n e)))
+act-given s (asks x y) n e = refl
 
 pub act-unlike : (s : Session) → intact s ≡ false → (a : Act) → left (replyOf s a) ≡ s
 unfolding askOf

@@ -117,8 +117,8 @@ fn same_stack(a: Stack, b: Stack) -> bool {
 }
 
 fn same_op(a: Op, b: Op) -> bool {
-    let where_to = (kind(a) == kind(b)) & (a.thread() == b.thread()) & (a.address() == b.address());
-    where_to & (a.read() == b.read()) & (a.written() == b.written())
+    let place = (kind(a) == kind(b)) & (a.thread() == b.thread()) & (a.address() == b.address());
+    place & (a.read() == b.read()) & (a.written() == b.written())
 }
 
 fn same_trace(a: Trace, b: Trace) -> bool {
