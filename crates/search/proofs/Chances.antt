@@ -5,23 +5,22 @@
 --   lacks                            == what a set lacks stands nowhere in its list
 --   ready-iff                        == the test of the tables is readiness after any list with that set
 --   stop-of                          == so is the test for the stop
-use mathlib.Core.Path.{_≡_, refl, sym, ap, _∙_, subst}
-use mathlib.Core.Logic.{_⊎_, inl, inr, _↔_}
+use mathlib.Core.Path.{_≡_, refl, sym, _∙_}
+use mathlib.Core.Logic.{inl, inr, _↔_}
 use mathlib.Core.Bool.{Bool, true, false, So, not, _&&_, false≢true}
 use mathlib.Core.List.{List}
 use Prim.Native.Nat.{ℕ, _<_, _≤_}
 use native.Mathlib.Omega.{arith}
-use lib.ListN.{length, getD}
+use lib.ListN.{getD}
 use Rattle.laws.specs.Places.{count}
 use Rattle.laws.specs.Relation.{Table}
 use Rattle.laws.specs.Tests.{any}
-use Rattle.laws.proofs.Tests.{test, off, so-not, and-iff, not-iff, same-iff, any-iff, so-any, eq?}
+use Rattle.laws.proofs.Tests.{test, off, so-not, and-iff, same-iff, any-iff, so-any, eq?}
 use Rattle.trace.specs.Bounds.{RECORDS}
-use Rattle.trace.specs.Frame.{Frame, Good, Writer, Source}
+use Rattle.trace.specs.Frame.{Frame, Writer, Source}
 use Rattle.rows.specs.Rows.{bit}
 use Rattle.rows.specs.Within.{Within}
 use Rattle.rows.proofs.Rows.{bit-bounds}
-use Rattle.rules.specs.SourceOf.{sourceOf}
 use Rattle.rules.proofs.SourceOf.{source-of-is, source-of-has}
 use Rattle.orders.specs.Ready.{Ready}
 use Rattle.orders.specs.Stop.{Stop, unread, covered}

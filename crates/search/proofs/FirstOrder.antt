@@ -8,38 +8,36 @@ use mathlib.Core.Path.{_≡_, refl, sym, ap, ap₂, _∙_, subst}
 use mathlib.Core.Logic.{inl, inr}
 use mathlib.Core.Bool.{Bool, true, false, So, cond, false≢true}
 use mathlib.Core.List.{List, [], _++_}
-use mathlib.Core.Option.{Option, none, some, Option·some-injective}
+use mathlib.Core.Option.{Option, some, Option·some-injective}
 use Prim.Native.Nat.{ℕ, _+_, _-_, _*_, _<_, _≤_}
 use native.Mathlib.Decide.{decLt}
 use native.Mathlib.Omega.{arith}
-use lib.ListN.{length, getD, take, drop, length-append, length-drop, length-replicate, getD-replicate, List·getD-eq-default}
+use lib.ListN.{length, getD, take, drop, length-replicate, getD-replicate, List·getD-eq-default}
 use lib.Seq.{length-take-le, getD-take, getD-drop, getD-append-add, take-at, take-all, ext-getD}
-use Rattle.laws.specs.Relation.{Table}
 use Rattle.laws.specs.Dict.{Answer, Least}
 use Rattle.laws.proofs.Tests.{test}
 use Rattle.laws.proofs.Dict.{answer-one}
+use Rattle.laws.proofs.Sums.{sum-bound}
 use Rattle.trace.specs.Bounds.{RECORDS}
-use Rattle.trace.specs.Frame.{Frame}
 use Rattle.trace.specs.Meaning.{frameOf}
 use Rattle.trace.specs.Order.{Valid}
 use Rattle.trace.specs.declared.Trace.{Trace}
+use Rattle.trace.specs.WellFormed.{wellFormed}
 use Rattle.rows.specs.Bounds.{WORDS}
 use Rattle.rows.specs.Empty.{emptyOf}
 use Rattle.rows.specs.Rows.{bit}
-use Rattle.trace.specs.WellFormed.{wellFormed}
 use Rattle.rules.specs.Tests.{writer?}
 use Rattle.pairs.specs.Kept.{keptOf}
 use Rattle.edges.specs.Answers.{answered}
+use Rattle.orders.specs.Ready.{operations}
+use Rattle.orders.proofs.Accepted.{well-fits}
 use Rattle.search.specs.Bounds.{SLOTS}
 use Rattle.search.specs.Laid.{tables}
-use Rattle.search.specs.Laying.{Filled, leads, Counted, Sources, Guided}
+use Rattle.search.specs.Laying.{Filled, leads, Counted, Sources}
 use Rattle.search.specs.Seeking.{follows, Sought}
 use Rattle.search.specs.Looked.{Looked}
 use Rattle.search.specs.FirstOrder.{found?, orderOf, FirstOrder}
 use Rattle.search.specs.declared.Order.{Order}
-use Rattle.laws.proofs.Sums.{sum-bound}
-use Rattle.orders.specs.Ready.{operations}
-use Rattle.orders.proofs.Accepted.{well-fits}
 use Rattle.search.proofs.Sets.{empty-holds}
 use Rattle.search.proofs.Memory.{dead-none}
 use Rattle.search.proofs.Guiding.{laid}

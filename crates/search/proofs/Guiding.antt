@@ -3,16 +3,15 @@
 --   held-guided  == what is forced without supposed pairs, and not contradicted, is a guide
 --   refuted-none == contradicted, there is no valid order
 --   laid         == tables that were laid from a guide
-use mathlib.Core.Path.{_≡_, refl, sym, ap, _∙_, subst}
+use mathlib.Core.Path.{_≡_, refl, sym, _∙_}
 use mathlib.Core.Logic.{_↔_}
-use mathlib.Core.Bool.{false, So, _&&_, false≢true}
+use mathlib.Core.Bool.{false, So, false≢true}
 use mathlib.Core.List.{List}
-use Prim.Native.Nat.{ℕ, _<_, _≤_}
+use Prim.Native.Nat.{ℕ, _<_}
 use native.Mathlib.Omega.{arith}
-use Rattle.laws.specs.Relation.{Table, _⊆_}
-use Rattle.laws.specs.Sorted.{On}
+use Rattle.laws.specs.Relation.{Table}
 use Rattle.laws.proofs.Tests.{and-iff, same-iff}
-use Rattle.trace.specs.Frame.{Frame, Good, Writer}
+use Rattle.trace.specs.Frame.{Frame, Writer}
 use Rattle.trace.specs.Order.{Valid}
 use Rattle.trace.specs.Meaning.{frameOf}
 use Rattle.trace.specs.WellFormed.{wellFormed}
@@ -35,9 +34,8 @@ use Rattle.edges.proofs.Supposed.{supposed-iff}
 use Rattle.rules.proofs.Rounds.{more-pairs}
 use Rattle.rules.proofs.Ends.{held-joins}
 use Rattle.rules.proofs.Sound.{contradicted-none}
-use Rattle.orders.specs.Ready.{Guide}
 use Rattle.orders.proofs.Ready.{held-guide}
-use Rattle.search.specs.Laid.{Tables, tables, Led, Laid}
+use Rattle.search.specs.Laid.{tables, Led, Laid}
 use Rattle.search.specs.Laying.{Filled, leads, Counted, Sources, Guided}
 
 module _ (t : Trace) (m : ℕ) (s : So (answered m t)) (r : Forced) (forces : Forces t m (emptyOf CELLS) r) where

@@ -1,9 +1,11 @@
 -- The tables are laid.
 --
---   filled                                          == rows to which every pair that passes was added
---   counting-none, counting-more, counting-skip, counted == the set of the operations, and their number, record by record
---   sources-more                                    == one source more
-use mathlib.Core.Path.{_≡_, refl, sym, ap, _∙_, subst}
+--   filled       == rows to which every pair that passes was added
+--   upTo f k     == how many operations there are below k
+--   Counting f k ops m == ops is the set of the operations below k, and m their number
+--   counting-none, counting-more, counting-skip, counted == record by record, and past the last one
+--   sources-more == one source more
+use mathlib.Core.Path.{_≡_, refl, sym, ap, _∙_}
 use mathlib.Core.Logic.{_⊎_, inl, inr, _↔_}
 use mathlib.Core.Bool.{Bool, false, So, cond, false≢true}
 use mathlib.Core.List.{List}
@@ -11,13 +13,13 @@ use Prim.Native.Nat.{ℕ, _+_, _<_, _≤_}
 use native.Mathlib.Numerals.{add-one}
 use native.Mathlib.Omega.{arith}
 use borrow.Author.Count.{below-more}
-use lib.ListN.{length, getD, set, length-set}
+use lib.ListN.{length, getD, set}
 use lib.Seq.{getD-set-same, getD-set-other}
 use Rattle.laws.specs.Relation.{Table}
 use Rattle.laws.specs.Sums.{sum}
 use Rattle.laws.proofs.Tests.{eq?}
 use Rattle.trace.specs.Bounds.{RECORDS}
-use Rattle.trace.specs.Frame.{Frame, Good}
+use Rattle.trace.specs.Frame.{Frame}
 use Rattle.trace.specs.Meaning.{frameOf}
 use Rattle.trace.specs.declared.Trace.{Trace}
 use Rattle.trace.proofs.Meaning.{operation-iff}
@@ -29,7 +31,7 @@ use Rattle.rows.proofs.Whole.{empty-bit, empty-long}
 use Rattle.edges.specs.Adds.{Adds, Only, Union}
 use Rattle.rules.specs.SourceOf.{sourceOf}
 use Rattle.orders.specs.Ready.{operations}
-use Rattle.search.specs.Laying.{Filled, Counted, Sources}
+use Rattle.search.specs.Laying.{Filled, Counted}
 use Rattle.search.proofs.Sets.{put-more}
 
 pub filled : (n : ℕ) (R : Table) (m : ℕ) (rows : List ℕ) → Adds (emptyOf m) (Union n (λ y. Union n (λ x. Only (R x y) y x))) rows → Filled n R rows
@@ -43,7 +45,6 @@ filled n R m rows a = record { pairs = λ x y. (forth x y, λ h. a .pairs y x .1
         go (inl e) = absurd (false≢true (sym (empty-bit m y x) ∙ e))
         go (inr (v, h, (u, l, (r, e, d)))) = rw (e, d) (h, l, r)
 
--- how many operations there are below k
 abbrev pub upTo : Frame → ℕ → ℕ
 upTo f k = sum k (λ x. cond (f .operation x) 1 0)
 

@@ -6,21 +6,20 @@
 --   found-below  == the answer below one that was ready is the answer
 --   stopped, all-tried == where the loop stops, and at its end, there is none
 use mathlib.Core.Path.{_≡_, refl, sym, ap, ap₂, _∙_, subst}
-use mathlib.Core.Logic.{_⊎_, inl, inr, _↔_}
+use mathlib.Core.Logic.{inl, inr}
 use mathlib.Core.Bool.{Bool, true, false, So, false≢true}
 use mathlib.Core.List.{List, [], _∷_, _++_}
-use mathlib.Core.Option.{Option, none, some}
-use Prim.Native.Nat.{ℕ, suc, _+_, _*_, _<_, _≤_}
+use mathlib.Core.Option.{some}
+use Prim.Native.Nat.{ℕ, _+_, _<_, _≤_}
 use native.Mathlib.Numerals.{add-one}
 use native.Mathlib.Omega.{arith}
-use lib.ListN.{length, getD, set, take, drop, length-set}
+use lib.ListN.{length, getD, set, take, drop}
 use lib.Seq.{length-take-le, take-suc-set, take-take, take-at, drop-cons, getD-take, getD-at, drop-length}
 use Rattle.laws.specs.Relation.{Table}
 use Rattle.laws.specs.Dict.{Answer}
 use Rattle.laws.specs.Search.{Tried}
 use Rattle.laws.proofs.Search.{tried-none, tried-next, tried-some, tried-all, full-some}
 use Rattle.laws.proofs.Steps.{steps-join}
-use Rattle.trace.specs.Bounds.{RECORDS}
 use Rattle.trace.specs.Frame.{Frame}
 use Rattle.trace.specs.Order.{Valid}
 use Rattle.rows.specs.Bounds.{WORDS}
@@ -32,7 +31,7 @@ use Rattle.orders.specs.Stop.{Failed}
 use Rattle.orders.proofs.Ready.{valid-sized, unready-none, disciplined-full, full-valid}
 use Rattle.orders.proofs.Stop.{failed-none, failed-more, stop-none}
 use Rattle.search.specs.Laid.{Tables, Led, Laid}
-use Rattle.search.specs.Chances.{Holds, More, Readied, Stops}
+use Rattle.search.specs.Chances.{More, Readied, Stops}
 use Rattle.search.specs.Memory.{Has, Noted, Begun, Dead}
 use Rattle.search.specs.Seeking.{follows, Room, Sought, Trying}
 use Rattle.search.proofs.Sets.{more-holds}

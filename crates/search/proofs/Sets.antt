@@ -4,8 +4,8 @@
 --   more-holds  == the set of a list, and of the list with one number more
 --   empty-holds == the set of no number is that of the empty list, and of no other
 use mathlib.Core.Path.{_≡_, refl, sym, _∙_}
-use mathlib.Core.Logic.{_⊎_, inl, inr, _↔_}
-use mathlib.Core.Bool.{So, false≢true}
+use mathlib.Core.Logic.{inl, inr}
+use mathlib.Core.Bool.{false≢true}
 use mathlib.Core.List.{List, [], _∷_, _++_}
 use Prim.Native.Nat.{ℕ, _<_}
 use native.Mathlib.Nat.{not-suc-le-zero}
@@ -17,7 +17,6 @@ use Rattle.laws.proofs.Places.{count-here, count-later}
 use Rattle.laws.proofs.Counts.{count-append}
 use Rattle.trace.specs.Bounds.{RECORDS}
 use Rattle.rows.specs.Bounds.{WORDS}
-use Rattle.rows.specs.Rows.{bit}
 use Rattle.rows.specs.Empty.{emptyOf}
 use Rattle.rows.specs.Put.{putOf}
 use Rattle.rows.proofs.Rows.{row-full}

@@ -1,7 +1,8 @@
 -- The first valid order of a trace under a model, as the answer of a function.
 --
---   orderOf r          == the order that an answer hands back, if it has one
---   FirstOrder t m r   == r is the first valid order, or that there is none; its unused places are 0. With nothing to answer, it has none
+--   found? b xs      == xs, if it was found
+--   orderOf r        == the order that an answer hands back, if it has one
+--   FirstOrder t m r == r is the first valid order, or that there is none; its unused places are 0. With nothing to answer, it has none
 use mathlib.Core.Path.{_≡_}
 use mathlib.Core.Bool.{Bool, true, false, So}
 use mathlib.Core.List.{List}

@@ -1,9 +1,8 @@
 -- What the search looks at in place of the trace: relations as rows and sets as one row each, laid before it begins.
 --
---   Tables         == how many records there are, how many operations, and the rows
---   Led b x y      == by the rows b, x must be before y: row y of b has x
---   Cells R n rows == the rows have exactly the pairs of R below n
---   Laid f K T     == the tables T say what f says, and may guide the search for the valid orders under K
+--   Tables     == how many records there are, how many operations, and the rows; `tables` makes one
+--   Led b x y  == by the rows b, x must be before y: row y of b has x
+--   Laid f K T == the tables T say what f says, and may guide the search for the valid orders under K
 use mathlib.Core.Path.{_≡_}
 use mathlib.Core.Logic.{_↔_}
 use mathlib.Core.Bool.{So}

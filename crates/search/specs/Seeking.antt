@@ -1,15 +1,15 @@
 -- What the search below the first k places of a list does.
 --
---   follows r k m list   == what follows k places in the first m of the list, if the search found one
+--   follows r k m list        == what follows k places in the first m of the list, if the search found one
 --   Room T k list placed dead == everything has the size that the search needs
---   Sought T list k placed dead list′ dead′ r == below the first k places of list: r and list′ are the first valid order or that there is none,
---                           whatever f and K the tables were laid for; the places stand, and the memory stays right
---   Trying T list k placed dead y failed list′ dead′ == the loop at these places tried what is below y, and failed are those that were ready
+--   Sought T list k placed dead list′ dead′ r        == r and list′ are the first valid order that begins with the first k places of list, or that
+--                                                       there is none, whatever the tables were laid for; those places stand, and the memory stays right
+--   Trying T list k placed dead y failed list′ dead′ == the loop there has tried what is below y; failed are those that were ready
 use mathlib.Core.Path.{_≡_}
 use mathlib.Core.Bool.{Bool, true, false, So}
 use mathlib.Core.List.{List}
 use mathlib.Core.Option.{Option, none, some}
-use Prim.Native.Nat.{ℕ, _*_, _<_, _≤_}
+use Prim.Native.Nat.{ℕ, _*_, _≤_}
 use lib.ListN.{length, take, drop}
 use Rattle.laws.specs.Relation.{Table}
 use Rattle.laws.specs.Dict.{Answer}

@@ -1,8 +1,6 @@
 -- `search::first::first_order`: where nothing is to be answered, a source is missing or the edges contradict each other, there is no order.
-use mathlib.Core.Path.{_≡_, refl, sym, ap₂, _∙_, subst}
+use mathlib.Core.Path.{refl, sym, ap₂, _∙_, subst}
 use mathlib.Core.Bool.{Bool, So, _&&_, false≢true}
-use Prim.Native.Nat.{ℕ}
-use native.Mathlib.Omega.{arith}
 use borrow.Author.Needs.{needs}
 use borrow.Author.Tests.{not-true, not-false}
 use Rattle.laws.specs.Dict.{Least}

@@ -1,6 +1,6 @@
 -- `search::first::sourced`: no record is found that lacks its source.
 use mathlib.Core.Path.{sym, _∙_, subst}
-use mathlib.Core.Option.{none}
+use borrow.Author.Needs.{needs}
 use Rattle.laws.specs.Lowest.{Lowest}
 use Rattle.laws.proofs.Tests.{yes-iff, no-iff}
 use Rattle.trace.specs.Meaning.{frameOf}
@@ -8,7 +8,6 @@ use Rattle.rules.specs.Missing.{Missing}
 use Rattle.orders.specs.MissingOf.{record?}
 use Rattle.orders.specs.declared.sources.Found.{Found}
 use Rattle.orders.proofs.MissingOf.{missing-lowest}
-use borrow.Author.Needs.{needs}
 use Rattle.search.proofs.first.sourced.Statement.{statement}
 use Rattle.search.proofs.first.sourced.Tie as tie
 

@@ -5,19 +5,19 @@ use mathlib.Core.Bool.{false≢true}
 use Prim.Native.Nat.{ℕ, _<_, _-_}
 use native.Mathlib.Omega.{arith}
 use borrow.Author.Needs.{needs}
-use lib.ListN.{length, set, length-set}
-use Rattle.laws.proofs.Tests.{and-iff, same-iff, so-lt}
-use Rattle.search.specs.Laid.{tables}
-use Rattle.search.specs.Chances.{More}
-use Rattle.search.specs.Seeking.{Room, Sought, Trying}
-use Rattle.search.proofs.Sets.{put-more}
-use Rattle.search.proofs.Seeking.{sought-full, sought-dead, trying-none, trying-skip, trying-next, found-below, stopped, all-tried}
 use borrow.Fn.Kinds.{In}
 use borrow.Fn.PlainCycle.{Measures, is, falls, and}
+use lib.ListN.{set, length-set}
+use Rattle.laws.proofs.Tests.{and-iff, same-iff, so-lt}
+use Rattle.rows.proofs.put.Reads as put-reads
+use Rattle.search.specs.Laid.{tables}
+use Rattle.search.specs.Chances.{More}
+use Rattle.search.specs.Seeking.{Trying}
+use Rattle.search.proofs.Sets.{put-more}
+use Rattle.search.proofs.Seeking.{sought-full, sought-dead, trying-none, trying-skip, trying-next, found-below, stopped, all-tried}
 use Rattle.search.proofs.seek.find.Reads as find
 use Rattle.search.proofs.seek.find.Kinds as find-kinds
 use Rattle.search.proofs.seek.+find.Lts-find as find-lts
-use Rattle.rows.proofs.put.Reads as put-reads
 use Rattle.search.proofs.seek.join.Reads as join-reads
 use Rattle.search.proofs.seek.known.Reads as known-reads
 use Rattle.search.proofs.seek.note.Reads as note-reads

@@ -1,7 +1,7 @@
 -- `search::seek::covered`: each of the writers passed that is still to come has an unplaced one before it.
-use mathlib.Core.Path.{_≡_, sym, _∙_}
+use mathlib.Core.Path.{sym, _∙_}
 use mathlib.Core.Logic.{⊎-elim}
-use mathlib.Core.Bool.{So, false, not, _&&_, false≢true}
+use mathlib.Core.Bool.{So, false, false≢true}
 use Prim.Native.Nat.{ℕ, _<_, _≤_, _-_}
 use native.Mathlib.Omega.{arith}
 use borrow.Author.Count.{below-more}

@@ -1,8 +1,8 @@
 -- `search::seek::join`: the set is copied, and the number put.
 use mathlib.Core.Path.{sym, _∙_}
+use borrow.Author.Needs.{needs}
 use Rattle.rows.proofs.Whole.{copy-same}
 use Rattle.search.proofs.Sets.{put-more}
-use borrow.Author.Needs.{needs}
 use Rattle.search.proofs.seek.join.Statement.{statement}
 use Rattle.search.proofs.seek.join.Tie as tie
 

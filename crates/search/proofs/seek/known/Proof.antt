@@ -1,9 +1,9 @@
 -- `search::seek::known`: a part of the memory that is the set.
 use Prim.Native.Nat.{_+_, _-_, _*_}
 use native.Mathlib.Omega.{arith}
+use borrow.Author.Needs.{needs}
 use Rattle.rows.specs.Bounds.{WORDS}
 use Rattle.search.proofs.Memory.{has-part}
-use borrow.Author.Needs.{needs}
 use Rattle.search.proofs.seek.known.Statement.{statement}
 use Rattle.search.proofs.seek.known.Tie as tie
 

@@ -2,11 +2,11 @@
 use mathlib.Core.Path.{_≡_, sym, _∙_}
 use Prim.Native.Nat.{ℕ, _+_, _-_, _*_, _≤_}
 use native.Mathlib.Omega.{arith}
+use borrow.Author.Needs.{needs}
 use lib.ListN.{length}
 use Rattle.rows.specs.Bounds.{WORDS}
 use Rattle.rows.proofs.Whole.{copy-same}
 use Rattle.search.proofs.Memory.{noted-in, part-long}
-use borrow.Author.Needs.{needs}
 use Rattle.search.proofs.seek.note.Statement.{statement}
 use Rattle.search.proofs.seek.note.Tie as tie
 

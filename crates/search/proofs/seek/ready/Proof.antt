@@ -2,8 +2,8 @@
 use mathlib.Core.Path.{sym, _∙_}
 use mathlib.Core.Bool.{false≢true}
 use borrow.Author.Tests.{not-true, not-false}
-use Rattle.laws.proofs.Tests.{yes-iff, no-iff}
 use borrow.Author.Needs.{needs}
+use Rattle.laws.proofs.Tests.{no-iff}
 use Rattle.search.proofs.seek.ready.Statement.{statement}
 use Rattle.search.proofs.seek.ready.Tie as tie
 

@@ -1,8 +1,7 @@
 -- `search::seek::slot`: a remainder is below its divisor.
 use Prim.Native.Nat.{_≤_, _-_}
-use native.Mathlib.Omega.{arith}
-use lib.ListN.{length}
 use borrow.Author.Needs.{needs}
+use lib.ListN.{length}
 use Rattle.search.proofs.seek.slot.Statement.{statement}
 use Rattle.search.proofs.seek.slot.Tie as tie
 

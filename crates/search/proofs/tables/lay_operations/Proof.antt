@@ -1,12 +1,10 @@
 -- `search::tables::lay_operations`: the operations below x are in the set, and counted.
-use mathlib.Core.Path.{_≡_, refl, sym, ap, _∙_}
+use mathlib.Core.Path.{_≡_, sym, ap, _∙_}
 use mathlib.Core.Logic.{⊎-elim}
 use mathlib.Core.Bool.{not}
-use Prim.Native.Nat.{ℕ, _+_, _<_, _≤_, _-_}
+use Prim.Native.Nat.{_+_, _≤_, _-_}
 use native.Mathlib.Omega.{arith}
 use borrow.Author.Needs.{needs}
-use lib.ListN.{length}
-use Rattle.trace.specs.Bounds.{RECORDS}
 use Rattle.trace.specs.Meaning.{frameOf}
 use Rattle.rows.specs.Empty.{emptyOf}
 use Rattle.rows.specs.Put.{putOf}

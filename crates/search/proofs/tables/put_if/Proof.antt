@@ -1,6 +1,6 @@
 -- `search::tables::put_if`: the pair is put, or the rows are left.
-use Rattle.edges.proofs.Adds.{adds-put, adds-skip}
 use borrow.Author.Needs.{needs}
+use Rattle.edges.proofs.Adds.{adds-put, adds-skip}
 use Rattle.search.proofs.tables.put_if.Statement.{statement}
 use Rattle.search.proofs.tables.put_if.Tie as tie
 
