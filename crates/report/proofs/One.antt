@@ -1,5 +1,6 @@
 -- No second answer meets the contract of the report: neither another number of bytes, nor other bytes in the lent buffer.
 --
+--   reported-one   == two answers that are both as promised are one
 --   report-settles == the contract settles what comes back
 --   report-leaves  == and what the lent buffer holds
 use mathlib.Core.Path.{_≡_, sym, _∙_}
@@ -15,7 +16,7 @@ use Rattle.report.specs.Wrote.{Reported}
 use Rattle.report.proofs.report.Reads as report
 use Rattle.report.proofs.report.Kinds as report-kinds
 
-reported-one : (text before a b : List ℕ) (r s : ℕ) → Reported text before a r → Reported text before b s → (r ≡ s) × (a ≡ b)
+pub reported-one : (text before a b : List ℕ) (r s : ℕ) → Reported text before a r → Reported text before b s → (r ≡ s) × (a ≡ b)
 reported-one text before a b r s p q = elim (decLt (length before) (length (reportOf text))) [
   | yes h ↦ let (x, y) = p .short h in let (z, w) = q .short h in (x ∙ sym z, y ∙ sym w)
   | no h ↦ let g = p .fits (omega arith) in let k = q .fits (omega arith) in (g .0 ∙ sym (k .0), g .1 ∙ sym (k .1))
