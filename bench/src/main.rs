@@ -1,7 +1,10 @@
 //! How many placements the search needs on traces of 64 records, and how long the proved library takes for a whole answer.
 //!
 //!     bench count CASES [SEED]     placements, by the same search in Rust (search.rs)
-//!     bench time CASES [SEED]      milliseconds a text, reading and printing included (with the feature `linked`; see bench/run)
+//!     bench time CASES [SEED]      milliseconds a text, reading and printing included
+//!     bench compare CASES [SEED]   the proved library and the second program on the same texts, in one process
+//!
+//! The last two need the feature `linked`; bench/run builds with it.
 
 mod closing;
 mod search;
@@ -21,7 +24,8 @@ fn main() {
     match words.get(1).map(String::as_str) {
         Some("count") => count(cases, seed),
         Some("time") => timing::time(cases, seed),
-        _ => eprintln!("usage: bench count|time CASES [SEED]"),
+        Some("compare") => timing::compare(cases, seed),
+        _ => eprintln!("usage: bench count|time|compare CASES [SEED]"),
     }
 }
 

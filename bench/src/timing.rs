@@ -1,9 +1,11 @@
-//! The time of a whole answer by the proved library.
+//! Whole answers by the proved library: how long they take, and that the second program gives the same.
 
 #[cfg(feature = "linked")]
 mod linked {
     use crate::shapes::SHAPES;
+    use second::bench::{output, NOT_KNOWN};
     use second::chance::Chance;
+    use second::families::{text, FAMILIES};
     use std::time::Instant;
 
     extern "C" {
@@ -36,12 +38,44 @@ mod linked {
             println!("{:<12} mean {:.3} ms, most {most:.3} ms a text", shape.name, sum / cases as f64);
         }
     }
+
+    /// How many steps the second program may take before it says that it does not know.
+    const STEPS: u64 = 200_000;
+
+    /// So many texts of each family, answered by both in one process. What differs is printed; the last line counts.
+    pub fn compare(cases: u64, seed: u64) {
+        let mut out = [0u8; 4096];
+        let (mut passed, mut failed, mut skipped) = (0u64, 0u64, 0u64);
+        for case in 0..cases {
+            for family in &FAMILIES {
+                let text = text(family, seed, case);
+                let ours = output(&text, STEPS).into_bytes();
+                let n = report(&text, &mut out);
+                if ours == out[..n] {
+                    passed += 1;
+                } else if String::from_utf8_lossy(&ours).contains(NOT_KNOWN) {
+                    skipped += 1;
+                } else {
+                    failed += 1;
+                    println!("{} {case}:\n{}", family.name, String::from_utf8_lossy(&text));
+                    println!("proved: {}second: {}", String::from_utf8_lossy(&out[..n]), String::from_utf8_lossy(&ours));
+                }
+            }
+        }
+        println!("skipped {skipped}");
+        println!("{passed} passed, {failed} failed");
+    }
 }
 
 #[cfg(feature = "linked")]
-pub use linked::time;
+pub use linked::{compare, time};
 
 #[cfg(not(feature = "linked"))]
 pub fn time(_cases: u64, _seed: u64) {
     eprintln!("built without the proved library: see bench/run");
+}
+
+#[cfg(not(feature = "linked"))]
+pub fn compare(cases: u64, seed: u64) {
+    time(cases, seed);
 }
