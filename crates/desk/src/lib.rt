@@ -1,5 +1,4 @@
 // The entries for C and Rust, over numbers and byte slices. Each keeps the promise of the function behind it.
-ghost use mathlib.Core.Path.{_≡_};
 ghost use Rattle.report.specs.Wrote.{Reported};
 
 // The whole answer to a text, in a lent buffer, and how many bytes it has; 0, and the buffer as it was, where it is too short.

@@ -6,14 +6,17 @@
 --   wrote-none  == nothing
 --   wrote-as    == the same bytes in other words
 --   wrote-front == from the front of a buffer on, it begins with what was written
+--   reported-held == an answer is no longer than the buffer that holds it
 use mathlib.Core.Path.{_≡_, refl, sym, ap, _∙_, subst}
 use mathlib.Core.List.{List, [], _∷_, _++_, append-assoc, append-nil}
 use Prim.Native.Nat.{ℕ, _+_, _≤_, _<_}
 use native.Mathlib.Numerals.{add-one}
+use native.Mathlib.Decide.{decLt}
 use native.Mathlib.Omega.{arith}
-use lib.ListN.{length, take, set, length-append, length-set}
+use lib.ListN.{length, take, drop, set, length-append, length-set}
 use lib.Seq.{paste, length-paste, take-paste, take-suc-set, take-length}
-use Rattle.report.specs.Wrote.{Wrote}
+use Rattle.report.specs.Report.{reportOf}
+use Rattle.report.specs.Wrote.{Wrote, Reported}
 
 module _ (before : List ℕ) (at : ℕ) where
   pub wrote-then : (x y m after : List ℕ) (r s : ℕ) → Wrote before at x m r → Wrote m r y after s → Wrote before at (x ++ y) after s
@@ -45,3 +48,11 @@ wrote-as {before} {bytes} {same} {after} {at} {r} e w = subst (λ (b : List ℕ)
 
 pub wrote-front : (before bytes after : List ℕ) (r : ℕ) → Wrote before 0 bytes after r → (r ≡ length bytes) × (take r after ≡ bytes)
 wrote-front before bytes after r w = (omega (arith, w .ends), w .said)
+
+pub reported-held : (text before after : List ℕ) (r : ℕ) → Reported text before after r → r ≤ length after
+reported-held text before after r p = elim (decLt (length before) (length (reportOf text))) [
+  | yes h ↦ let e = p .short h .0 in omega arith
+  | no h ↦
+      let e = p .fits (omega arith) in
+      omega (arith, e .0, ap length (e .1) ∙ length-append (reportOf text) (drop (length (reportOf text)) before))
+]

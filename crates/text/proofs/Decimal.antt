@@ -1,6 +1,7 @@
 -- Decimal numbers: `decimal` writes each number in the one way that `digits` and `isNumber` take.
 --
 --   value-snoc              == one digit more behind
+--   decimal-few, decimal-many == a number of one digit, and of more: its last digit behind the others
 --   decimal-value           == what `decimal` writes has the value written
 --   digits-decimal          == what follows takes no digit away
 --   decimal-digits          == all of it are digits
@@ -47,6 +48,12 @@ fuel (suc k) (suc m) n p q = elim (decLt n 10) [
   | yes h ↦ few (suc k) n h ∙ sym (few (suc m) n h)
   | no h ↦ many k n (omega arith) ∙ ap (λ ds. ds ++ ((48 + n % 10) ∷ [])) (fuel k m (n / 10) (omega arith) (omega arith)) ∙ sym (many m n (omega arith))
 ]
+
+pub decimal-few : (n : ℕ) → n < 10 → decimal n ≡ (48 + n) ∷ []
+decimal-few n h = few n n h
+
+pub decimal-many : (n : ℕ) → 10 ≤ n → decimal n ≡ decimal (n / 10) ++ ((48 + n % 10) ∷ [])
+decimal-many n h = fuel n (suc n) n (omega arith) (omega arith) ∙ many n n h ∙ ap (λ ds. ds ++ ((48 + n % 10) ∷ [])) (fuel n (n / 10) (n / 10) (omega arith) (omega arith))
 
 by-value : (k n : ℕ) → n ≤ k → value 0 (decimalBy k n) ≡ n
 unfolding value

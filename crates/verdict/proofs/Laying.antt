@@ -4,10 +4,10 @@
 --   told-model, told-form   == a question that is turned back
 --   told-says               == what the definitions say of the trace, laid into the arrays
 --   told-source, told-circle, told-order, told-none == the four outcomes, each from what the parts promise
-use mathlib.Core.Path.{_≡_, refl, sym, ap, ap₂, _∙_, subst}
+use mathlib.Core.Path.{_≡_, refl, sym, ap, _∙_, subst}
 use mathlib.Core.Bool.{Bool, true, false, cond, So}
-use mathlib.Core.List.{List, [], _++_}
-use mathlib.Core.Option.{Option, none, some}
+use mathlib.Core.List.{List, _++_}
+use mathlib.Core.Option.{none, some}
 use Prim.Native.Nat.{ℕ, zero, suc, _+_, _-_, _≤_, _<_}
 use native.Mathlib.Omega.{arith}
 use lib.ListN.{length, getD, take, drop, replicate, length-replicate, length-drop, take-append-drop}
@@ -33,10 +33,10 @@ use Rattle.orders.specs.Verdict as said
 use Rattle.orders.specs.Sought.{verdict?}
 use Rattle.orders.specs.MissingOf.{record?, missingOf}
 use Rattle.orders.specs.declared.sources.Found.{Found}
-use Rattle.orders.specs.declared.sources.Found.the-variants.{At, Nothing}
+use Rattle.orders.specs.declared.sources.Found.the-variants.{At}
 use Rattle.orders.proofs.MissingOf.{missing-lowest}
 use Rattle.orders.proofs.Sought.{verdict-only}
-use Rattle.search.specs.FirstOrder.{found?, orderOf, FirstOrder}
+use Rattle.search.specs.FirstOrder.{found?, FirstOrder}
 use Rattle.search.specs.declared.Order as first
 use Rattle.verdict.specs.Told.{padded, bare, laid, verdictOf, Reaches, Told}
 use Rattle.verdict.specs.declared.Outcome.the-variants.{NoSource, Circle, Order, NoneLeft, NoModel, NotWellFormed}

@@ -8,9 +8,9 @@
 --   starred-told  == the verdicts on the starred traces and KNOT
 use mathlib.Core.Path.{_≡_, refl, sym, ap, _∙_, subst}
 use mathlib.Core.Logic.{_⊎_, inl, inr, _↔_}
-use mathlib.Core.Bool.{Bool, true, false, cond, So, false≢true}
-use mathlib.Core.List.{List, [], _∷_, _++_, List·Memᴰ}
-use mathlib.Core.Option.{Option, none, some}
+use mathlib.Core.Bool.{true, false, So, false≢true}
+use mathlib.Core.List.{List, List·Memᴰ}
+use mathlib.Core.Option.{some}
 use Prim.Native.Nat.{ℕ, _-_}
 use native.Mathlib.Omega.{arith}
 use lib.ListN.{length, take, replicate}
@@ -33,7 +33,7 @@ use Rattle.orders.specs.Starred.{traceOf, Case, cases}
 use Rattle.orders.proofs.Says as owing
 use Rattle.orders.proofs.Sought.{verdict-says}
 use Rattle.orders.proofs.Starred.{starred}
-use Rattle.verdict.specs.Told.{refusedBy, bare, laid, verdictOf, orderedAs, ordered}
+use Rattle.verdict.specs.Told.{refusedBy, laid, verdictOf, orderedAs, ordered}
 use Rattle.verdict.specs.declared.Outcome.{Outcome}
 use Rattle.verdict.specs.declared.Outcome.the-variants.{NoSource, Circle, Order, NoneLeft, NoModel, NotWellFormed}
 use Rattle.verdict.specs.declared.Verdict.{Verdict}

@@ -10,7 +10,7 @@
 --   Told t m r    == what `verdict_of` promises: this verdict, and its operations have places
 use mathlib.Core.Path.{_≡_}
 use mathlib.Core.Bool.{cond, So}
-use mathlib.Core.List.{List, [], _++_}
+use mathlib.Core.List.{List, _++_}
 use mathlib.Core.Option.{Option, none, some}
 use Prim.Native.Nat.{ℕ, _-_, _≤_}
 use lib.ListN.{length, take, replicate}

@@ -1,6 +1,5 @@
 -- `report::report`: the answer is written elsewhere first, and copied where it fits.
 use mathlib.Core.Path.{_≡_, sym}
-use Prim.Native.Nat.{ℕ, _≤_}
 use native.Mathlib.Omega.{arith}
 use lib.ListN.{length, take}
 use lib.Seq.{length-take-le}

@@ -1,5 +1,5 @@
 -- `report::written`: what the reader answers, in lines.
-use mathlib.Core.Path.{_≡_, sym, _∙_}
+use mathlib.Core.Path.{_∙_}
 use native.Mathlib.Omega.{arith}
 use Rattle.report.proofs.Wrote.{wrote-then, wrote-as}
 use Rattle.report.proofs.Answered.{answer-good, answer-refused}

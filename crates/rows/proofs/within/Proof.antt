@@ -1,12 +1,12 @@
 -- `rows::within`: the words of the two rows below i agree.
-use mathlib.Core.Path.{_≡_, sym, _∙_}
-use Prim.Native.Nat.{ℕ, _≤_, _<_, _-_, _^_}
+use mathlib.Core.Path.{_≡_}
+use Prim.Native.Nat.{ℕ, _≤_, _<_, _-_}
 use native.Mathlib.Omega.{arith}
 use borrow.Author.Count.{below-more}
 use borrow.Author.Needs.{needs}
 use lib.Bits.{bitOr}
 use Rattle.laws.proofs.Tests.{yes-iff, no-iff}
-use Rattle.rows.specs.Bounds.{WIDTH, WORDS}
+use Rattle.rows.specs.Bounds.{WORDS}
 use Rattle.rows.specs.Within.{wordOf}
 use Rattle.rows.proofs.Against.{within-yes, within-no}
 use Rattle.rows.proofs.within.Statement.{statement}

@@ -1,6 +1,5 @@
 // The tables of the search, laid once: relations on records as rows, the set of the operations, the sources.
 ghost use mathlib.Core.Path.{_≡_};
-ghost use mathlib.Core.Bool.{So, _&&_};
 ghost use Prim.Native.Nat.{_<_, _≤_};
 ghost use lib.ListN.{length};
 ghost use Rattle.trace.specs.Bounds.{RECORDS};

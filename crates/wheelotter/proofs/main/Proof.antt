@@ -1,28 +1,15 @@
 -- `wheelotter::main`: what the report hands back is a part of its buffer.
-use mathlib.Core.Path.{_≡_, sym, ap, _∙_}
-use mathlib.Core.List.{List}
-use Prim.Native.Nat.{ℕ, _≤_}
-use native.Mathlib.Decide.{decLt}
-use native.Mathlib.Omega.{arith}
-use lib.ListN.{length, take, drop, length-append, length-drop}
+use mathlib.Core.Path.{sym}
+use Prim.Native.Nat.{_≤_}
+use lib.ListN.{length}
 use lib.Seq.{length-take-le}
-use Rattle.report.specs.Report.{reportOf}
-use Rattle.report.specs.Wrote.{Reported}
+use Rattle.report.proofs.Wrote.{reported-held}
 use borrow.Author.Needs.{needs}
 use Rattle.wheelotter.proofs.main.Statement.{statement}
 use Rattle.wheelotter.proofs.main.Tie as tie
 
--- an answer is no longer than the buffer that holds it
-held : (text before after : List ℕ) (r : ℕ) → Reported text before after r → r ≤ length after
-held text before after r p = elim (decLt (length before) (length (reportOf text))) [
-  | yes h ↦ let e = p .short h .0 in omega arith
-  | no h ↦
-      let e = p .fits (omega arith) in
-      omega (arith, e .0, ap length (e .1) ∙ length-append (reportOf text) (drop (length (reportOf text)) before))
-]
-
 within : (c : tie.After-report) → c .report .result ≤ length (c .report .last .1 .0)
-within c = held _ _ _ _ (c .report .ensures)
+within c = reported-held _ _ _ _ (c .report .ensures)
 
 slice-aggregate-read-full : tie.Need-slice-aggregate-read-full
 slice-aggregate-read-full c = search needs

@@ -1,12 +1,12 @@
 -- `report::pieces::put_decimal`: the last digit behind the others. The number falls at each call.
 use mathlib.Core.Path.{_≡_, ap, _∙_}
-use mathlib.Core.List.{List, [], _∷_}
+use mathlib.Core.List.{[], _∷_}
 use Prim.Native.Nat.{ℕ, _+_, _/_, _%_, _<_, _≤_}
 use native.Mathlib.Omega.{arith}
 use lib.ListN.{length, length-append}
 use Rattle.text.specs.Number.{decimal}
 use Rattle.report.proofs.Wrote.{wrote-then}
-use Rattle.report.proofs.Digits.{decimal-few, decimal-many}
+use Rattle.text.proofs.Decimal.{decimal-few, decimal-many}
 use borrow.Fn.Kinds.{In}
 use borrow.Fn.PlainCycle.{Measures, is, falls, and}
 use Rattle.report.proofs.pieces.put_decimal.Reads as put-decimal

@@ -1,9 +1,9 @@
 -- `report::pieces::put_one`: a space, and the number behind it.
-use mathlib.Core.Path.{_≡_, ap, _∙_, subst}
-use mathlib.Core.List.{List, [], _∷_}
-use Prim.Native.Nat.{ℕ, _+_, _<_}
+use mathlib.Core.Path.{_∙_, subst}
+use mathlib.Core.List.{[], _∷_}
+use Prim.Native.Nat.{ℕ, _+_}
 use native.Mathlib.Omega.{arith}
-use lib.ListN.{length, set, length-set}
+use lib.ListN.{set, length-set}
 use Rattle.text.specs.Number.{decimal}
 use Rattle.report.specs.Words.{SPACE}
 use Rattle.report.specs.Wrote.{Wrote}

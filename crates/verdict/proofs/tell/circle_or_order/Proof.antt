@@ -1,5 +1,5 @@
 -- `verdict::tell::circle_or_order`: each answer by what the part beneath promises.
-use mathlib.Core.Path.{_≡_, sym, subst}
+use mathlib.Core.Path.{sym, subst}
 use native.Mathlib.Omega.{arith}
 use Rattle.verdict.specs.Told.{Told}
 use Rattle.verdict.specs.declared.Verdict.{Verdict}

@@ -1,7 +1,7 @@
 -- `verdict::tell::verdict_of`: 9 before 10, then a missing source, then the rest.
-use mathlib.Core.Path.{_≡_, sym, _∙_, subst}
+use mathlib.Core.Path.{sym, _∙_, subst}
 use borrow.Author.Tests.{not-true, not-false}
-use Rattle.verdict.specs.Told.{Reaches, Told}
+use Rattle.verdict.specs.Told.{Told}
 use Rattle.verdict.specs.declared.Verdict.{Verdict}
 use Rattle.verdict.proofs.Laying.{told-model, told-form, told-source}
 use borrow.Author.Needs.{needs}
