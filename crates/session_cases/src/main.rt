@@ -1,8 +1,8 @@
 // Talks with a session on a trace: each line of a script is a call, and its answer is printed behind it. After each call the session is
 // compared with one that the library opens afresh, with the pairs that should still stand supposed in turn; where it is another, that is
 // said. A script can also forge the session, and make calls at random.
-use pairs::kind;
 use libc::STDOUT_FILENO;
+use pairs::kind;
 use session::Answer;
 use session::PAIRS;
 use session::Pair;

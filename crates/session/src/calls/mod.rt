@@ -17,10 +17,10 @@ use crate::Reply;
 use crate::Session;
 use crate::Stack;
 use edges::force::forced;
-use pairs::modelled;
-use pairs::op_at;
 use orders::sources::Found;
 use orders::sources::missing;
+use pairs::modelled;
+use pairs::op_at;
 use trace::Trace;
 use trace::form::well_formed;
 
