@@ -1,15 +1,32 @@
 -- No second answer meets the contract of an entry.
 --
---   report-settles == the contract settles what comes back
---   report-leaves  == and what the lent buffer holds
+--   ENTRY-settles == the contract settles what comes back
+--   report-leaves == and what the lent buffer holds
+use mathlib.Core.Path.{sym, _∙_}
 use denote.Ref.{now}
 use Rattle.laws.specs.Settles.{Settles, Leaves}
+use Rattle.laws.proofs.Tests.{test-one}
 use Rattle.report.proofs.One.{reported-one}
 use Rattle.desk.proofs.wheelotter_report.Reads as report
 use Rattle.desk.proofs.wheelotter_report.Kinds as report-kinds
+use Rattle.desk.proofs.wheelotter_number.Reads as number
+use Rattle.desk.proofs.wheelotter_number.Kinds as number-kinds
+use Rattle.desk.proofs.wheelotter_line.Reads as line
+use Rattle.desk.proofs.wheelotter_line.Kinds as line-kinds
+use Rattle.desk.proofs.wheelotter_judge.Reads as judge
+use Rattle.desk.proofs.wheelotter_judge.Kinds as judge-kinds
 
 pub report-settles : Settles 2 report-kinds.ps report-kinds.r report.Post
 report-settles κs a x y s t p q = reported-one (now (a .0)) (now (a .1 .0)) (now (s .1 .0)) (now (t .1 .0)) x y p q .0
 
 pub report-leaves : Leaves 2 report-kinds.ps report-kinds.r (λ κs s. now (s .1 .0)) report.Post
 report-leaves κs a x y s t p q = reported-one (now (a .0)) (now (a .1 .0)) (now (s .1 .0)) (now (t .1 .0)) x y p q .1
+
+pub number-settles : Settles 1 number-kinds.ps number-kinds.r number.Post
+number-settles κs a x y s t p q = p ∙ sym q
+
+pub line-settles : Settles 1 line-kinds.ps line-kinds.r line.Post
+line-settles κs a x y s t p q = p ∙ sym q
+
+pub judge-settles : Settles 2 judge-kinds.ps judge-kinds.r judge.Post
+judge-settles κs a x y s t p q = test-one p q

@@ -1,0 +1,19 @@
+-- `desk::wheelotter_number`: the number in what the reader answers.
+use mathlib.Core.Path.{ap, _∙_}
+use Rattle.reader.specs.declared.Reading.{Reading}
+use Rattle.desk.specs.Text.{numberIn}
+use borrow.Author.Needs.{needs}
+use Rattle.desk.proofs.wheelotter_number.Statement.{statement}
+use Rattle.desk.proofs.wheelotter_number.Tie as tie
+
+read-requires : tie.Need-read-requires
+read-requires c κs = search needs
+
+number-in-requires : tie.Need-number-in-requires
+number-in-requires c κs = search needs
+
+returns : tie.Need-returns
+returns c = c .number-in .ensures ∙ ap (λ (r : Reading). numberIn (r .answer)) (c .before .read .ensures)
+
+pub wheelotter-number-spec : {M : Type 1} → statement M
+wheelotter-number-spec = tie.close (tie.spec read-requires number-in-requires returns)

@@ -1,0 +1,3 @@
+-- What the entries answer, in numbers.
+pub mod Text
+pub mod Judged
