@@ -7,20 +7,10 @@ mod linked {
     use second::chance::Chance;
     use second::families::{text, FAMILIES};
     use std::time::Instant;
-
-    extern "C" {
-        fn wheelotter_report(text: *const u8, len: usize, out: *mut u8, room: usize) -> usize;
-    }
-
-    /// The whole output for a text.
-    fn report(text: &[u8], out: &mut [u8]) -> usize {
-        // SAFETY: both slices are lent for the call, with their lengths, as the library asks.
-        unsafe { wheelotter_report(text.as_ptr(), text.len(), out.as_mut_ptr(), out.len()) }
-    }
+    use wheelotter::report;
 
     /// Of each text the best of three runs, so that what else the machine does counts little; then the mean and the most over the texts.
     pub fn time(cases: u64, seed: u64) {
-        let mut out = [0u8; 4096];
         for shape in &SHAPES {
             let (mut sum, mut most) = (0.0, 0.0f64);
             for case in 0..cases {
@@ -28,7 +18,7 @@ mod linked {
                 let best = (0..3)
                     .map(|_| {
                         let start = Instant::now();
-                        std::hint::black_box(report(&text, &mut out));
+                        std::hint::black_box(report(&text));
                         start.elapsed().as_secs_f64() * 1000.0
                     })
                     .fold(f64::MAX, f64::min);
@@ -44,21 +34,19 @@ mod linked {
 
     /// So many texts of each family, answered by both in one process. What differs is printed; the last line counts.
     pub fn compare(cases: u64, seed: u64) {
-        let mut out = [0u8; 4096];
         let (mut passed, mut failed, mut skipped) = (0u64, 0u64, 0u64);
         for case in 0..cases {
             for family in &FAMILIES {
                 let text = text(family, seed, case);
-                let ours = output(&text, STEPS).into_bytes();
-                let n = report(&text, &mut out);
-                if ours == out[..n] {
+                let (second, proved) = (output(&text, STEPS), report(&text));
+                if second == proved {
                     passed += 1;
-                } else if String::from_utf8_lossy(&ours).contains(NOT_KNOWN) {
+                } else if second.contains(NOT_KNOWN) {
                     skipped += 1;
                 } else {
                     failed += 1;
                     println!("{} {case}:\n{}", family.name, String::from_utf8_lossy(&text));
-                    println!("proved: {}second: {}", String::from_utf8_lossy(&out[..n]), String::from_utf8_lossy(&ours));
+                    println!("proved: {proved}second: {second}");
                 }
             }
         }
