@@ -1,6 +1,7 @@
 -- Pairs added to rows, one after the other.
 --
 --   adds-none, adds-put, adds-skip  == none; one; one whose test did not pass
+--   adds-if                         == one where a test passes, as rows put it
 --   adds-only                       == one, by another test that says the same
 --   adds-as                         == the same pairs, said otherwise
 --   adds-then, adds-or              == first some and then others
@@ -8,7 +9,7 @@
 --   union-skip                      == a turn that adds nothing
 use mathlib.Core.Path.{_≡_, refl, sym, _∙_, subst}
 use mathlib.Core.Logic.{_↔_, _⊎_, inl, inr}
-use mathlib.Core.Bool.{Bool, false, So, false≢true}
+use mathlib.Core.Bool.{Bool, true, false, So, false≢true}
 use mathlib.Core.List.{List}
 use Prim.Native.Nat.{ℕ, _+_, _<_}
 use native.Mathlib.Omega.{arith}
@@ -18,7 +19,7 @@ use Rattle.laws.proofs.Tests.{and-iff, or-iff, same-iff, so-eq, eq?}
 use Rattle.trace.specs.Bounds.{RECORDS}
 use Rattle.rows.specs.Bounds.{CELLS}
 use Rattle.rows.specs.Rows.{bit, Edges}
-use Rattle.rows.specs.Put.{putOf}
+use Rattle.rows.specs.Put.{putOf, putIf}
 use Rattle.rows.proofs.Pair.{put-bit, put-long, put-words}
 use Rattle.edges.specs.Adds.{Adds, Only, Union}
 
@@ -39,6 +40,11 @@ adds-put a l b s x y hx hy = record {
 
 pub adds-skip : (a : List ℕ) (b : Bool) → b ≡ false → (x y : ℕ) → Adds a (Only b x y) a
 adds-skip a b e x y = adds-none a (Only b x y) (λ i j o. false≢true (sym e ∙ o .0))
+
+pub adds-if : {a c : List ℕ} (b : Bool) (x y : ℕ) → length a ≡ CELLS → (So b → (x < RECORDS) × (y < RECORDS)) → c ≡ putIf a b x y → Adds a (Only b x y) c
+unfolding putIf
+adds-if {a} true x y l h e = rw e (adds-put a l true refl x y (h refl .0) (h refl .1))
+adds-if {a} false x y l h e = rw e (adds-skip a false refl x y)
 
 pub adds-only : {a c : List ℕ} {x y : ℕ} (b d : Bool) → b ≡ d → Adds a (Only b x y) c → Adds a (Only d x y) c
 adds-only {a} {c} {x} {y} b d e p = subst (λ (b : Bool). Adds a (Only b x y) c) e p

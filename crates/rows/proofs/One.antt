@@ -12,6 +12,8 @@ use Rattle.rows.proofs.test.Reads as test
 use Rattle.rows.proofs.test.Kinds as test-kinds
 use Rattle.rows.proofs.put.Reads as put
 use Rattle.rows.proofs.put.Kinds as put-kinds
+use Rattle.rows.proofs.put_if.Reads as put-if
+use Rattle.rows.proofs.put_if.Kinds as put-if-kinds
 use Rattle.rows.proofs.clear.Reads as clear
 use Rattle.rows.proofs.clear.Kinds as clear-kinds
 use Rattle.rows.proofs.empty.Reads as empty
@@ -32,6 +34,9 @@ test-settles κs a x y s t p q = p ∙ sym q
 
 pub put-leaves : Leaves 1 put-kinds.ps put-kinds.r (λ κs s. now (s .0)) put.Post
 put-leaves κs a x y s t p q = p ∙ sym q
+
+pub put-if-leaves : Leaves 1 put-if-kinds.ps put-if-kinds.r (λ κs s. now (s .0)) put-if.Post
+put-if-leaves κs a x y s t p q = p ∙ sym q
 
 pub clear-leaves : Leaves 1 clear-kinds.ps clear-kinds.r (λ κs s. now (s .0)) clear.Post
 clear-leaves κs a x y s t p q = p ∙ sym q

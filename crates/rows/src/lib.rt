@@ -11,7 +11,7 @@ ghost use Rattle.rows.specs.Bounds.{CELLS, WORDS};
 ghost use Rattle.rows.specs.Rows.{bit, place};
 ghost use Rattle.rows.specs.Within.{wordOf, Within};
 ghost use Rattle.rows.specs.Empty.{emptyOf};
-ghost use Rattle.rows.specs.Put.{markOf, putOf};
+ghost use Rattle.rows.specs.Put.{markOf, putOf, putIf};
 ghost use Rattle.rows.specs.Copy.{copyOf};
 ghost use Rattle.rows.specs.Added.{Added, Row, Through};
 ghost use Rattle.rows.specs.Chained.{Chained};
@@ -68,6 +68,15 @@ pub fn put(rows: &mut [u64], x: usize, y: usize)
                 mark(rows, x, y);
             }
         }
+    }
+}
+
+// Adds the pair x, y where a test passed.
+pub fn put_if(rows: &mut [u64], yes: bool, x: usize, y: usize)
+    ensures { λ r. ⌜ now (rows .exit) ≡ putIf (now (rows .entry)) yes x y ⌝ }
+{
+    if yes {
+        put(rows, x, y);
     }
 }
 

@@ -40,16 +40,6 @@ pub struct Round {
     pub chains: [u64; rows::CELLS],
 }
 
-// Adds the pair x, y where a test passed.
-fn put_if(rows: &mut [u64], yes: bool, x: usize, y: usize)
-    requires { ⌜ (length (now rows) ≡ CELLS) × (So yes → (x < RECORDS) × (y < RECORDS)) ⌝ }
-    ensures { λ r. ⌜ Adds (now (rows .entry)) (Only yes x y) (now (rows .exit)) ⌝ }
-{
-    if yes {
-        rows::put(rows, x, y);
-    }
-}
-
 // Draws rules 1 and 8 from record x.
 fn draw_pairs_from(t: Trace, model: u8, supposed: &[u64], x: usize, edges: &mut [u64])
     requires { ⌜ (x < t .len) × (t .len ≤ RECORDS) × (length (now edges) ≡ CELLS) ⌝ }
@@ -65,7 +55,7 @@ fn draw_pairs_from(t: Trace, model: u8, supposed: &[u64], x: usize, edges: &mut 
         let b = record.op;
         let kept = kept_pair(model, a, b, (x < y) & (y < n), passed);
         let pair = !a.fence() & !b.fence() & rows::test(supposed, x, y);
-        put_if(edges, kept | pair, x, y);
+        rows::put_if(edges, kept | pair, x, y);
         passed = passed | (b.fence() & (x < y) & (b.thread() == a.thread()));
         y += 1;
     }
@@ -90,11 +80,11 @@ fn draw_value(earlier: bool, early: bool, source: usize, x: usize, load: usize, 
     requires { ⌜ (x < RECORDS) × (load < RECORDS) × (length (now edges) ≡ CELLS) ⌝ }
     ensures { λ r. ⌜ Adds (now (edges .entry)) (Valued earlier early source x load) (now (edges .exit)) ⌝ }
 {
-    put_if(edges, (x == source) & !earlier, x, load);
+    rows::put_if(edges, (x == source) & !earlier, x, load);
     let other = (source < RECORDS) & (x != source);
-    put_if(edges, other & earlier, x, source);
-    put_if(edges, early, load, x);
-    put_if(edges, early & earlier, x, load);
+    rows::put_if(edges, other & earlier, x, source);
+    rows::put_if(edges, early, load, x);
+    rows::put_if(edges, early & earlier, x, load);
 }
 
 // Draws what every record gives one record as a load, by rules 2 to 5, and notes the writers of its address.
@@ -146,8 +136,8 @@ fn draw_settled_by(chains: &[u64], source: usize, load: usize, x: usize, edges: 
     requires { ⌜ (x < RECORDS) × (source < RECORDS) × (load < RECORDS) × (length (now edges) ≡ CELLS) ⌝ }
     ensures { λ r. ⌜ Adds (now (edges .entry)) (Settled (now (chains .entry)) source load x) (now (edges .exit)) ⌝ }
 {
-    put_if(edges, rows::test(chains, x, load), x, source);
-    put_if(edges, rows::test(chains, source, x), load, x);
+    rows::put_if(edges, rows::test(chains, x, load), x, source);
+    rows::put_if(edges, rows::test(chains, source, x), load, x);
 }
 
 // Draws what the chains give one load with a source, by rules 6 and 7.

@@ -12,16 +12,6 @@ ghost use Rattle.search.specs.Laying.{Filled, leads, Counted, Sources};
 use pairs::source_of;
 use trace::Trace;
 
-// Adds x to row y where a test passed.
-fn put_if(rows: &mut [u64], yes: bool, y: usize, x: usize)
-    requires { ⌜ (length (now rows) ≡ CELLS) × (x < RECORDS) × (y < RECORDS) ⌝ }
-    ensures { λ r. ⌜ Adds (now (rows .entry)) (Only yes y x) (now (rows .exit)) ⌝ }
-{
-    if yes {
-        rows::put(rows, y, x);
-    }
-}
-
 // Lays row y: what is held before y, the writers of its address but y, and those of both.
 fn lay_row(
     t: Trace,
@@ -46,9 +36,9 @@ fn lay_row(
         let op = record.op;
         let led = rows::test(held, x, y);
         let writer = op.writes() & (op.address() == addr) & (x != y);
-        put_if(before, led, y, x);
-        put_if(writers, writer, y, x);
-        put_if(leaders, writer & led, y, x);
+        rows::put_if(before, led, y, x);
+        rows::put_if(writers, writer, y, x);
+        rows::put_if(leaders, writer & led, y, x);
         x += 1;
     }
 }

@@ -6,7 +6,7 @@ use Rattle.laws.specs.Tests.{any}
 use Rattle.pairs.specs.Kept.{fenced}
 use Rattle.edges.specs.Adds.{Adds, Only, Union}
 use Rattle.edges.specs.Drawn.{paired}
-use Rattle.edges.proofs.Adds.{adds-only, union-none, union-more}
+use Rattle.edges.proofs.Adds.{adds-if, adds-only, union-none, union-more}
 use Rattle.edges.proofs.Drawn.{fenced-more, paired-at}
 use borrow.Author.Needs.{needs}
 use Rattle.edges.proofs.force.draw_pairs_from.Statement.{statement}
@@ -47,9 +47,7 @@ test-requires : tie.Need-test-requires Inv-loop μ-loop
 test-requires c κs = search needs
 
 put-if-requires : tie.Need-put-if-requires Inv-loop μ-loop
-put-if-requires c κs =
-    let l = c .before .before .before .before .before .before .before in
-    (l .loop .inv .2 .long ∙ l .before .before .before .before .pre .2, λ _. (omega arith, omega arith))
+put-if-requires c κs = search needs
 
 fence-requires-3 : tie.Need-fence-requires-3 Inv-loop μ-loop
 fence-requires-3 c κs = search needs
@@ -70,13 +68,15 @@ loop-again : tie.Need-loop-again Inv-loop μ-loop
 loop-again c =
     let p = c .before .before .before .before .before in
     let l = p .before .before .before .before .before .before .before .before in
-    let a = l .before .before .before .before .args in
+    let s = l .before .before .before .before in
+    let a = s .args in
     let q = p .before .before in
     let e = paired-at (a .model) (a .t1) (a .supposed .now) (a .x) (l .loop .y) (search needs) (search needs) _ _ _ _ _ (l .loop .inv .1)
-    (q .before .before .before .kept-pair .ensures) (q .before .before .fence .ensures) (q .before .fence2 .ensures) (q .test .ensures) in (
+    (q .before .before .before .kept-pair .ensures) (q .before .before .fence .ensures) (q .before .fence2 .ensures) (q .test .ensures) in
+    let d = adds-if _ (a .x) (l .loop .y) (l .loop .inv .2 .long ∙ s .pre .2) (λ _. (omega arith, omega arith)) (p .put-if .ensures) in (
       omega arith,
       (cc (fenced-more (a .t1) (a .x) (l .loop .y))),
-      union-more _ (l .loop .y) (l .loop .inv .2) (adds-only _ _ e (p .put-if .ensures)),
+      union-more _ (l .loop .y) (l .loop .inv .2) (adds-only _ _ e d),
     )
 
 same-length : tie.Need-same-length Inv-loop μ-loop

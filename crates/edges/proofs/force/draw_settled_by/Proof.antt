@@ -1,4 +1,6 @@
 -- `edges::force::draw_settled_by`: the two rules, one after the other.
+use mathlib.Core.Path.{_∙_}
+use Rattle.edges.proofs.Adds.{adds-if}
 use Rattle.edges.proofs.Drawn.{settled-at}
 use borrow.Author.Needs.{needs}
 use Rattle.edges.proofs.force.draw_settled_by.Statement.{statement}
@@ -23,8 +25,11 @@ returns : tie.Need-returns
 returns c =
     let p₂ = c .before .before in
     let p₁ = p₂ .before .before .before .before .before in
-    let a = p₁ .before .before .before .before .before .args in
-    settled-at (a .chains .now) (a .source) (a .load) (a .x) _ _ (p₁ .before .test .ensures) (p₂ .before .test2 .ensures) (p₁ .put-if .ensures) (p₂ .put-if2 .ensures)
+    let s = p₁ .before .before .before .before .before in
+    let a = s .args in
+    let d₁ = adds-if _ (a .x) (a .source) (s .pre .3) (λ _. (s .pre .0, s .pre .1)) (p₁ .put-if .ensures) in
+    let d₂ = adds-if _ (a .load) (a .x) (d₁ .long ∙ s .pre .3) (λ _. (s .pre .2, s .pre .0)) (p₂ .put-if2 .ensures) in
+    settled-at (a .chains .now) (a .source) (a .load) (a .x) _ _ (p₁ .before .test .ensures) (p₂ .before .test2 .ensures) d₁ d₂
 
 pub draw-settled-by-spec : {M : Type 1} → statement M
 draw-settled-by-spec =

@@ -1,14 +1,15 @@
 -- `search::tables::lay_row`: what the records below x give to row y is added.
 use mathlib.Core.Path.{_≡_, ap₂, _∙_}
 use mathlib.Core.Bool.{_&&_}
-use Prim.Native.Nat.{_≤_, _-_}
+use Prim.Native.Nat.{_<_, _≤_, _-_}
 use native.Mathlib.Omega.{arith}
 use borrow.Author.Needs.{needs}
+use Rattle.trace.specs.Bounds.{RECORDS}
 use Rattle.trace.specs.Meaning.{frameOf}
 use Rattle.rows.specs.Rows.{bit}
 use Rattle.rules.specs.Tests.{writer?}
 use Rattle.edges.specs.Adds.{Adds, Only, Union}
-use Rattle.edges.proofs.Adds.{adds-only, union-none, union-more}
+use Rattle.edges.proofs.Adds.{adds-if, adds-only, union-none, union-more}
 use Rattle.edges.proofs.Drawn.{writer-at}
 use Rattle.search.specs.Laying.{leads}
 use Rattle.search.proofs.tables.lay_row.Statement.{statement}
@@ -52,19 +53,13 @@ address-requires-2 : tie.Need-address-requires-2 Inv-loop μ-loop
 address-requires-2 c κs = search needs
 
 put-if-requires : tie.Need-put-if-requires Inv-loop μ-loop
-put-if-requires c κs = let l = c .before .before .before .before .before .before in
-    let s = l .before .before .before .before .before .before .before in
-    (l .loop .inv .1 .long ∙ s .pre .2, omega arith, omega arith)
+put-if-requires c κs = search needs
 
 put-if-requires-2 : tie.Need-put-if-requires-2 Inv-loop μ-loop
-put-if-requires-2 c κs = let l = c .before .before .before .before .before .before .before .before .before .before in
-    let s = l .before .before .before .before .before .before .before in
-    (l .loop .inv .2 .long ∙ s .pre .3, omega arith, omega arith)
+put-if-requires-2 c κs = search needs
 
 put-if-requires-3 : tie.Need-put-if-requires-3 Inv-loop μ-loop
-put-if-requires-3 c κs = let l = c .before .before .before .before .before .before .before .before .before .before .before .before .before .before in
-    let s = l .before .before .before .before .before .before .before in
-    (l .loop .inv .3 .long ∙ s .pre .4, omega (arith, c .before .before .before .before .before .before .before .before .before .before .before .before .before .loop-test .taken, s .pre .1), omega (arith, s .pre .0, s .pre .1))
+put-if-requires-3 c κs = search needs
 
 add-x : tie.Need-add-x Inv-loop μ-loop
 add-x c = search needs
@@ -76,12 +71,14 @@ loop-again : tie.Need-loop-again Inv-loop μ-loop
 loop-again c = let l = c .before .before .before .before .before .before .before .before .before .before .before .before .before .before .before .before .before in
     let s = l .before .before .before .before .before .before .before in
     let a = s .args in
-    let w = writer-at (a .t1) (l .loop .x) (a .y) (c .before .before .before .before .before .before .before .before .before .before .before .before .before .before .before .before .loop-test .taken) _ _ _ (c .before .before .before .before .before .before .before .before .before .before .before .before .before .writes .ensures) (c .before .before .before .before .before .before .before .before .before .before .before .before .address2 .ensures) (l .before .address .ensures) in
-    let h = c .before .before .before .before .before .before .before .before .before .before .before .before .before .before .test .ensures in (
-      omega (arith, c .before .before .before .before .before .before .before .before .before .before .before .before .before .before .before .before .loop-test .taken),
-      union-more _ (l .loop .x) (l .loop .inv .1) (adds-only _ _ h (c .before .before .before .before .before .before .before .before .before .before .put-if .ensures)),
-      union-more _ (l .loop .x) (l .loop .inv .2) (adds-only _ _ w (c .before .before .before .before .before .before .put-if2 .ensures)),
-      union-more _ (l .loop .x) (l .loop .inv .3) (adds-only _ _ (ap₂ _&&_ w h) (c .before .before .put-if3 .ensures)),
+    let below = c .before .before .before .before .before .before .before .before .before .before .before .before .before .before .before .before .loop-test .taken in
+    let w = writer-at (a .t1) (l .loop .x) (a .y) (below) _ _ _ (c .before .before .before .before .before .before .before .before .before .before .before .before .before .writes .ensures) (c .before .before .before .before .before .before .before .before .before .before .before .before .address2 .ensures) (l .before .address .ensures) in
+    let h = c .before .before .before .before .before .before .before .before .before .before .before .before .before .before .test .ensures in
+    let small : (a .y < RECORDS) × (l .loop .x < RECORDS) = (omega (arith, s .pre .0, s .pre .1), omega (arith, below, s .pre .1)) in (
+      omega (arith, below),
+      union-more _ (l .loop .x) (l .loop .inv .1) (adds-only _ _ h (adds-if _ (a .y) (l .loop .x) (l .loop .inv .1 .long ∙ s .pre .2) (λ _. small) (c .before .before .before .before .before .before .before .before .before .before .put-if .ensures))),
+      union-more _ (l .loop .x) (l .loop .inv .2) (adds-only _ _ w (adds-if _ (a .y) (l .loop .x) (l .loop .inv .2 .long ∙ s .pre .3) (λ _. small) (c .before .before .before .before .before .before .put-if2 .ensures))),
+      union-more _ (l .loop .x) (l .loop .inv .3) (adds-only _ _ (ap₂ _&&_ w h) (adds-if _ (a .y) (l .loop .x) (l .loop .inv .3 .long ∙ s .pre .4) (λ _. small) (c .before .before .put-if3 .ensures))),
     )
 
 same-length : tie.Need-same-length Inv-loop μ-loop
