@@ -16,8 +16,10 @@ use trace::Trace;
 use trace::empty;
 use turns::turned;
 
-// How many bytes a text has at the most.
+// How many bytes a text has at the most, and a line without its feed; specs/Bounds.antt has the same numbers.
 const TEXT: usize = 8192;
+
+const LINE: usize = 80;
 
 // A line of one of the four forms, its numbers not yet held to their bounds.
 pub enum Raw {

@@ -3,6 +3,7 @@ ghost use mathlib.Core.Path.{_≡_};
 ghost use mathlib.Core.Bool.{So};
 ghost use Rattle.reader.specs.Answer.{numberOf, inBounds, oneAddress, opOf, joined, checked, turned};
 use crate::Form;
+use crate::LINE;
 use crate::Raw;
 use crate::Reason;
 use crate::Turn;
@@ -15,8 +16,6 @@ use trace::Trace;
 use trace::VALUES;
 use trace::first;
 use trace::form::written_before;
-
-const LINE: usize = 80;
 
 // Document 01's number of a reason.
 pub fn number(reason: Reason) -> u8
