@@ -7,14 +7,14 @@ use denote.Ref.{now}
 use Rattle.laws.specs.Settles.{Settles, Leaves}
 use Rattle.laws.proofs.Tests.{test-one}
 use Rattle.report.proofs.One.{reported-one}
-use Rattle.desk.proofs.wheelotter_report.Reads as report
-use Rattle.desk.proofs.wheelotter_report.Kinds as report-kinds
-use Rattle.desk.proofs.wheelotter_number.Reads as number
-use Rattle.desk.proofs.wheelotter_number.Kinds as number-kinds
-use Rattle.desk.proofs.wheelotter_line.Reads as line
-use Rattle.desk.proofs.wheelotter_line.Kinds as line-kinds
-use Rattle.desk.proofs.wheelotter_judge.Reads as judge
-use Rattle.desk.proofs.wheelotter_judge.Kinds as judge-kinds
+use Rattle.desk.proofs.texts.wheelotter_report.Reads as report
+use Rattle.desk.proofs.texts.wheelotter_report.Kinds as report-kinds
+use Rattle.desk.proofs.texts.wheelotter_number.Reads as number
+use Rattle.desk.proofs.texts.wheelotter_number.Kinds as number-kinds
+use Rattle.desk.proofs.texts.wheelotter_line.Reads as line
+use Rattle.desk.proofs.texts.wheelotter_line.Kinds as line-kinds
+use Rattle.desk.proofs.verdicts.wheelotter_judge.Reads as judge
+use Rattle.desk.proofs.verdicts.wheelotter_judge.Kinds as judge-kinds
 
 pub report-settles : Settles 2 report-kinds.ps report-kinds.r report.Post
 report-settles κs a x y s t p q = reported-one (now (a .0)) (now (a .1 .0)) (now (s .1 .0)) (now (t .1 .0)) x y p q .0
