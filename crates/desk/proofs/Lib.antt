@@ -1,2 +1,3 @@
 -- Laws of the entries.
+pub mod Part
 pub mod One

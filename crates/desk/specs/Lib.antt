@@ -1,3 +1,4 @@
 -- What the entries answer, in numbers.
 pub mod Text
+pub mod Part
 pub mod Judged
