@@ -1,7 +1,7 @@
 -- No second answer meets the contract of an entry.
 --
 --   ENTRY-settles == the contract settles what comes back
---   report-leaves == and what the lent buffer holds
+--   ENTRY-leaves  == and what the lent buffer holds
 use mathlib.Core.Path.{sym, _∙_}
 use denote.Ref.{now}
 use Rattle.laws.specs.Settles.{Settles, Leaves}
@@ -17,6 +17,8 @@ use Rattle.desk.proofs.texts.wheelotter_start.Reads as start
 use Rattle.desk.proofs.texts.wheelotter_start.Kinds as start-kinds
 use Rattle.desk.proofs.texts.wheelotter_end.Reads as end
 use Rattle.desk.proofs.texts.wheelotter_end.Kinds as end-kinds
+use Rattle.desk.proofs.verdicts.wheelotter_verdict.Reads as verdict
+use Rattle.desk.proofs.verdicts.wheelotter_verdict.Kinds as verdict-kinds
 use Rattle.desk.proofs.verdicts.wheelotter_judge.Reads as judge
 use Rattle.desk.proofs.verdicts.wheelotter_judge.Kinds as judge-kinds
 
@@ -37,6 +39,12 @@ start-settles κs a x y s t p q = p ∙ sym q
 
 pub end-settles : Settles 1 end-kinds.ps end-kinds.r end.Post
 end-settles κs a x y s t p q = p ∙ sym q
+
+pub verdict-settles : Settles 2 verdict-kinds.ps verdict-kinds.r verdict.Post
+verdict-settles κs a x y s t p q = p .0 ∙ sym (q .0)
+
+pub verdict-leaves : Leaves 2 verdict-kinds.ps verdict-kinds.r (λ κs s. now (s .1 .1 .0)) verdict.Post
+verdict-leaves κs a x y s t p q = p .1 ∙ sym (q .1)
 
 pub judge-settles : Settles 2 judge-kinds.ps judge-kinds.r judge.Post
 judge-settles κs a x y s t p q = test-one p q
