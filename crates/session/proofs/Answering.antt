@@ -5,7 +5,7 @@
 --   back-unlike, back-none, back-done              == whether it has one to take back
 --   told-contradicted, told-bit                    == what its table says
 --   pair-allows, suppose-allows, back-allows       == what is so where nothing was turned back
---   afresh-done, afresh-unlike                     == a session from its parts
+--   afresh-done, afresh-unlike, afresh-allows      == a session from its parts
 --   open-done, open-refused, suppose-taken, suppose-refused, back-taken, back-refused, ask-told, ask-refused == the calls as a whole
 use mathlib.Core.Path.{_≡_, refl, sym, ap, _∙_}
 use mathlib.Core.Logic.{_≢_}
@@ -173,3 +173,11 @@ module _ (t : Trace) (m : ℕ) (k : Stack) where
   pub afresh-unlike : (openable t m && stands t k) ≡ false → (s : Session) → s ≡ blank → both (Refused Unlike) s ≡ afreshOf t m k
   unfolding afreshOf
   afresh-unlike n s q = rw n (ap (both (Refused Unlike)) q)
+
+  pub afresh-allows : So (isDone (afreshOf t m k .answer)) → So (openable t m && stands t k)
+  unfolding afreshOf
+  afresh-allows = go (openable t m && stands t k)
+    where
+      go : (b : Bool) → So (isDone (cond b (both Done (afresh t m (standing k))) (both (Refused Unlike) blank) .answer)) → So b
+      go true s = refl
+      go false s = absurd (false≢true s)
