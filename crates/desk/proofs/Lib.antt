@@ -1,2 +1,6 @@
 -- Laws of the entries.
+pub mod Laying
+pub mod Keeping
+pub mod Acting
+pub mod Opens
 pub mod One

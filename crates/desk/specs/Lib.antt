@@ -1,3 +1,7 @@
 -- What the entries answer, in numbers.
 pub mod Text
 pub mod Judged
+pub mod Head
+pub mod Kept
+pub mod Acts
+pub mod Opened

@@ -5,6 +5,10 @@ ghost use mathlib.Core.Logic.{_↔_};
 ghost use Rattle.report.specs.Wrote.{Reported};
 ghost use Rattle.desk.specs.Text.{numberIn, lineIn, numberOf, lineOf};
 ghost use Rattle.desk.specs.Judged.{Judged};
+
+mod heads;
+pub mod sessions;
+
 use orders::judging::judge;
 use reader::Answer;
 use reader::read;
