@@ -11,3 +11,10 @@ pub const CIRCLE: u8 = 19;
 
 // One that leaves no order.
 pub const NONE_LEFT: u8 = 20;
+
+// A session that was asked: the pair is held, is not, or the session is contradicted.
+pub const HELD: u8 = 21;
+
+pub const NOT_HELD: u8 = 22;
+
+pub const CONTRADICTED: u8 = 23;
