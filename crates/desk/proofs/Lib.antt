@@ -1,4 +1,6 @@
 -- Laws of the entries.
+pub mod Part
+pub mod Spelling
 pub mod Laying
 pub mod Keeping
 pub mod Acting

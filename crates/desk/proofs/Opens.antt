@@ -28,10 +28,11 @@ use Rattle.session.specs.Calls.{after, standingAfter, supposeAll}
 use Rattle.session.specs.declared.Session.{Session}
 use Rattle.session.proofs.Standing.{opened, after-opened, after-again}
 use Rattle.session.proofs.Lasting.{blank-intact, opened-intact}
+use Rattle.desk.specs.Answers.{NO-ROOM}
 use Rattle.desk.specs.Text.{numberOf}
 use Rattle.desk.specs.Head.{HEAD, headOf}
 use Rattle.desk.specs.Acts.{codeOf, bytesAfter}
-use Rattle.desk.specs.Opened.{NOROOM, openNumber, openSession, openAnswer, openBytes}
+use Rattle.desk.specs.Opened.{openNumber, openSession, openAnswer, openBytes}
 use Rattle.desk.proofs.Laying.{head-long}
 use Rattle.desk.proofs.Keeping.{On}
 use Rattle.desk.proofs.Acting.{bytes-after, done-code}
@@ -66,7 +67,7 @@ module _ (text : List ℕ) (m : ℕ) where
   ]
 
   module _ (b : List ℕ) where
-    pub no-room : length b < HEAD + length text → (NOROOM ≡ openAnswer text m b) × (b ≡ openBytes text m b)
+    pub no-room : length b < HEAD + length text → (NO-ROOM ≡ openAnswer text m b) × (b ≡ openBytes text m b)
     unfolding openAnswer openBytes
     no-room h = (rw (lt-leb _ _ h) refl, rw (lt-leb _ _ h) refl)
 

@@ -1,6 +1,6 @@
 -- What a call on a session in bytes answers, and the bytes after it.
 --
---   codeOf a        == an answer as a number: 0 done, 21 held, 22 not held, 23 contradicted, otherwise document 01's
+--   codeOf a        == an answer as a number: 0 where the call was done
 --   answerIn b a    == what a call on the bytes is answered: 12 where they are not those of a session
 --   bytesIn b a     == the bytes after it
 --   bytesAfter b cs == the bytes after any list of calls
@@ -11,15 +11,16 @@ use Rattle.session.specs.Numbers.{reasonNumber, Act, replyOf}
 use Rattle.session.specs.declared.Reason.the-variants.{Unlike}
 use Rattle.session.specs.declared.Answer.{Answer}
 use Rattle.session.specs.declared.Answer.the-variants.{Done, Held, NotHeld, Contradicted, NoSource, Refused}
+use Rattle.desk.specs.Answers.{HELD, NOT-HELD, CONTRADICTED, NO-SOURCE}
 use Rattle.desk.specs.Head.{headOf}
 use Rattle.desk.specs.Kept.{textIn, sessionIn, like}
 
 abbrev pub codeOf : Answer → ℕ
 codeOf Done = 0
-codeOf Held = 21
-codeOf NotHeld = 22
-codeOf Contradicted = 23
-codeOf (NoSource x) = 11
+codeOf Held = HELD
+codeOf NotHeld = NOT-HELD
+codeOf Contradicted = CONTRADICTED
+codeOf (NoSource x) = NO-SOURCE
 codeOf (Refused r) = reasonNumber r
 
 unfoldable pub answerIn : List ℕ → Act → ℕ

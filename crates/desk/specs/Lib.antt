@@ -1,5 +1,8 @@
 -- What the entries answer, in numbers.
 pub mod Text
+pub mod Part
+pub mod Answers
+pub mod Verdict
 pub mod Judged
 pub mod Head
 pub mod Kept

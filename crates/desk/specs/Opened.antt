@@ -1,11 +1,10 @@
 -- What opening a session into lent bytes answers, and the bytes after it.
 --
---   NOROOM          == the answer where the lent bytes are too short
---   roomy text b    == they have room for a head and the text
---   openNumber text m == what is wrong with the text, or with opening a session on its trace; 0 where it is opened
---   openSession text m == the session, or that of the empty trace under model 1
---   openAnswer text m b == the answer
---   openBytes text m b  == the bytes after it
+--   roomy text b        == the lent bytes have room for a head and the text
+--   openNumber text m   == what is wrong with the text, or with opening a session on its trace; 0 where it is opened
+--   openSession text m  == the session that is opened; that of the empty trace under model 1 where none is
+--   openAnswer text m b == what comes back for the bytes that are lent
+--   openBytes text m b  == what they hold then: head and text, or the head alone, and all else as it was
 use mathlib.Core.Bool.{Bool, cond}
 use mathlib.Core.List.{List, _++_}
 use Prim.Native.Nat.{ℕ, _+_}
@@ -15,12 +14,10 @@ use Rattle.reader.specs.Read.{readText}
 use Rattle.session.specs.Session.{blank}
 use Rattle.session.specs.Entries.{openOf}
 use Rattle.session.specs.declared.Session.{Session}
+use Rattle.desk.specs.Answers.{NO-ROOM}
 use Rattle.desk.specs.Text.{numberOf}
 use Rattle.desk.specs.Head.{HEAD, headOf}
 use Rattle.desk.specs.Acts.{codeOf}
-
-abbrev pub NOROOM : ℕ
-NOROOM = 17
 
 abbrev pub roomy : List ℕ → List ℕ → Bool
 roomy text b = leb (HEAD + length text) (length b)
@@ -32,7 +29,7 @@ unfoldable pub openSession : List ℕ → ℕ → Session
 openSession text m = cond (eqb (numberOf text) 0) (openOf (readText text .trace) m .session) blank
 
 unfoldable pub openAnswer : List ℕ → ℕ → List ℕ → ℕ
-openAnswer text m b = cond (roomy text b) (openNumber text m) NOROOM
+openAnswer text m b = cond (roomy text b) (openNumber text m) NO-ROOM
 
 unfoldable pub openBytes : List ℕ → ℕ → List ℕ → List ℕ
 openBytes text m b =

@@ -9,15 +9,14 @@ use mathlib.Core.List.{List, _++_}
 use Prim.Native.Nat.{ℕ, _≤_}
 use native.Mathlib.Nat.{zero-add}
 use native.Mathlib.Omega.{arith}
-use lib.ListN.{length, take, drop}
-use lib.Seq.{take-length}
+use lib.ListN.{length, take}
 use Rattle.laws.proofs.Tests.{and-iff, same-iff}
 use Rattle.trace.specs.Meaning.{frameOf}
 use Rattle.trace.specs.WellFormed.{wellFormed}
 use Rattle.pairs.specs.Kept.{SC, TSO, modelled, keptOf}
 use Rattle.orders.specs.Verdict as said
 use Rattle.text.specs.Room.{putAt, behind}
-use Rattle.text.proofs.Put.{put-paste, put-none, behind-room, behind-none}
+use Rattle.text.proofs.Put.{put-front, put-none, behind-room, behind-none}
 use Rattle.reader.specs.Answer.{numberOf}
 use Rattle.reader.specs.Read.{readText}
 use Rattle.reader.specs.declared.Answer.{Answer}
@@ -60,7 +59,7 @@ module _ (text before : List ℕ) (n : ℕ) (blank buffer : List ℕ) (w : Wrote
         within = omega (arith, w .ends);
         fits = λ l. (
           e ∙ behind-room (reportOf text) before 0 (omega arith) ∙ zero-add (length (reportOf text)),
-          p ∙ put-paste (reportOf text) before 0 (omega arith) ∙ ap₂ (λ (x : List ℕ) (k : ℕ). x ++ drop k before) (take-length (reportOf text)) (zero-add (length (reportOf text))),
+          p ∙ put-front (reportOf text) before l,
         );
         short = λ l. (e ∙ behind-none (reportOf text) before 0 (omega arith), p ∙ put-none (reportOf text) before 0 (omega arith));
       }

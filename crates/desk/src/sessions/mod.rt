@@ -11,11 +11,15 @@ ghost use Rattle.desk.specs.Head.{HEAD, headOf};
 ghost use Rattle.desk.specs.Kept.{keptOf};
 ghost use Rattle.desk.specs.Acts.{codeOf, answerIn, bytesIn};
 ghost use Rattle.desk.specs.Opened.{openNumber, openSession, openAnswer, openBytes};
+use crate::answers::CONTRADICTED;
+use crate::answers::HELD;
+use crate::answers::NO_ROOM;
+use crate::answers::NOT_HELD;
 use crate::heads::HEAD;
 use crate::heads::agrees;
 use crate::heads::lay;
 use crate::heads::stack_in;
-use crate::number_in;
+use crate::texts::number_in;
 use reader::read;
 use session::Answer;
 use session::Reason;
@@ -33,9 +37,6 @@ const SC: u8 = 1;
 
 // Document 01's number of a session that is not one.
 const UNLIKE: u8 = 12;
-
-// The answer where the lent bytes are too short.
-const NO_ROOM: u8 = 17;
 
 // What lent bytes are: those of a session, or not, and then the session of the empty trace under model 1 stands beside it.
 struct Lent {
@@ -70,9 +71,9 @@ fn code(a: Answer) -> u8
 {
     match a {
         Answer::Done => 0,
-        Answer::Held => 21,
-        Answer::NotHeld => 22,
-        Answer::Contradicted => 23,
+        Answer::Held => HELD,
+        Answer::NotHeld => NOT_HELD,
+        Answer::Contradicted => CONTRADICTED,
         Answer::NoSource(_) => 11,
         Answer::Refused(r) => number(r),
     }
