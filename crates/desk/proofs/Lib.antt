@@ -1,4 +1,5 @@
 -- Laws of the entries.
 pub mod Part
 pub mod Spelling
+pub mod Heard
 pub mod One

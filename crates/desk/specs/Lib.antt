@@ -3,4 +3,5 @@ pub mod Text
 pub mod Part
 pub mod Answers
 pub mod Verdict
+pub mod Heard
 pub mod Judged
