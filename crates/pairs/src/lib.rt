@@ -9,7 +9,11 @@ use trace::RECORDS;
 use trace::Trace;
 use trace::first;
 
-// Models are numbered from 1 to this: 1 is SC, 2 is TSO.
+// The models by document 01's numbers, and how many there are: they are numbered from 1.
+pub const SC: u8 = 1;
+
+pub const TSO: u8 = 2;
+
 pub const MODELS: u8 = 2;
 
 // How many kinds of records there are: 0 load, 1 store, 2 swap, 3 fence.

@@ -11,6 +11,8 @@ mod pieces;
 
 use lines::put_line;
 use lines::put_refusal;
+use pairs::SC;
+use pairs::TSO;
 use pieces::wide;
 use reader::Answer;
 use reader::read;
@@ -18,11 +20,6 @@ use reader::turns::number;
 use text::room::put;
 use trace::RECORDS;
 use verdict::tell::verdict_of;
-
-// The models, by document 01's numbers.
-const SC: u8 = 1;
-
-const TSO: u8 = 2;
 
 // How many bytes an answer has at the most: two lines, each with its words and two lists of numbers.
 pub const REPORT: usize = 2 * (46 + 8 * RECORDS);

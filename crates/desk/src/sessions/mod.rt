@@ -20,6 +20,7 @@ use crate::heads::agrees;
 use crate::heads::lay;
 use crate::heads::stack_in;
 use crate::texts::number_in;
+use pairs::SC;
 use reader::read;
 use session::Answer;
 use session::Reason;
@@ -31,9 +32,6 @@ use session::calls::open;
 use session::calls::suppose;
 use session::calls::take_back;
 use text::room::put;
-
-// The model of the session that stands beside a refused opening.
-const SC: u8 = 1;
 
 // Document 01's number of a session that is not one.
 const UNLIKE: u8 = 12;

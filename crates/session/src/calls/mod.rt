@@ -19,13 +19,11 @@ use crate::Stack;
 use edges::force::forced;
 use orders::sources::Found;
 use orders::sources::missing;
+use pairs::SC;
 use pairs::modelled;
 use pairs::op_at;
 use trace::Trace;
 use trace::form::well_formed;
-
-// The model of the session that stands beside a refused opening.
-const SC: u8 = 1;
 
 // Whether a number is that of an operation.
 fn operation(t: Trace, x: usize) -> bool
