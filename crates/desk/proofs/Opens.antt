@@ -2,6 +2,7 @@
 --
 --   bad-number, bad-session, good-number, good-session == by whether the text is good
 --   session-intact == the session laid down is intact
+--   never-ten      == 10 never comes
 --   no-room, open-turned, open-done == the answer and the bytes, as the entry learns them
 --   opened-bytes   == the bytes of an opened session
 --   after-bytes    == opened bytes after any calls are those of the session made afresh with the pairs still standing
@@ -15,23 +16,34 @@ use native.Mathlib.Omega.{arith}
 use lib.ListN.{length, take, drop, drop-of-length-le, length-append, length-drop}
 use lib.Seq.{take-length, take-at, drop-at, drop-drop}
 use borrow.Author.Tests.{eq-eqb, ne-eqb, le-leb, lt-leb}
-use Rattle.laws.proofs.Tests.{eq?}
+use Rattle.laws.proofs.Tests.{eq?, test}
 use Rattle.text.specs.Room.{putAt}
 use Rattle.text.proofs.Put.{put-paste}
 use Rattle.trace.specs.declared.Trace.{Trace}
 use Rattle.reader.specs.Read.{readText}
-use Rattle.session.specs.Opening.{openable}
+use Rattle.reader.specs.declared.Reason.the-variants.{LongText, LongLine, NoForm, PastBound, Addresses, FirstValue, TooMany, Twice}
+use Rattle.reader.specs.declared.Answer as told
+use Rattle.reader.specs.declared.Answer.the-variants as turned
+use Rattle.reader.proofs.RoundTrip.{read-well}
+use Rattle.pairs.specs.Kept.{modelled}
+use Rattle.orders.specs.MissingOf.{missingOf}
+use Rattle.orders.specs.declared.sources.Found.{Found}
+use Rattle.orders.specs.declared.sources.Found.the-variants.{At, Nothing}
+use Rattle.session.specs.Opening.{sourcedOf, openable}
 use Rattle.session.specs.Session.{afresh, Intact, blank}
 use Rattle.session.specs.Entries.{openOf}
 use Rattle.session.specs.Numbers.{Act}
 use Rattle.session.specs.Calls.{after, standingAfter, supposeAll}
+use Rattle.session.specs.declared.Reason.the-variants.{NoModel}
+use Rattle.session.specs.declared.Answer.the-variants.{Refused}
 use Rattle.session.specs.declared.Session.{Session}
+use Rattle.session.proofs.Openings.{opening-nine, opening-asks}
 use Rattle.session.proofs.Standing.{opened, after-opened, after-again}
 use Rattle.session.proofs.Lasting.{blank-intact, opened-intact}
-use Rattle.desk.specs.Text.{numberOf}
+use Rattle.desk.specs.Answers.{NO-ROOM}
+use Rattle.desk.specs.Text.{numberIn, numberOf}
 use Rattle.desk.specs.Head.{HEAD, headOf}
 use Rattle.desk.specs.Acts.{codeOf, bytesAfter}
-use Rattle.desk.specs.Answers.{NO-ROOM}
 use Rattle.desk.specs.Opened.{openNumber, openSession, openAnswer, openBytes}
 use Rattle.desk.proofs.Laying.{head-long}
 use Rattle.desk.proofs.Keeping.{On}
@@ -65,6 +77,35 @@ module _ (text : List ℕ) (m : ℕ) where
     | inl g ↦ subst (λ (s : Session). Intact s) (sym (good-session g)) (opened-intact trace m)
     | inr d ↦ subst (λ (s : Session). Intact s) (sym (bad-session d)) blank-intact
   ]
+
+  -- a text that was read is well formed, so that 10 never comes
+  pub never-ten : openNumber text m ≢ 10
+  unfolding openOf
+  never-ten z = elim (eq? (numberOf text) 0) [
+    | inl g ↦ good-ten (sym (good-number g) ∙ z)
+    | inr d ↦ bad-ten (readText text .answer) (sym (bad-number d) ∙ z)
+  ]
+    where
+      source-ten : (a : Found) → codeOf (sourcedOf a) ≡ 10 → ⊥
+      source-ten (At x) e = omega arith
+      source-ten Nothing e = omega arith
+
+      good-ten : codeOf (openOf trace m .answer) ≡ 10 → ⊥
+      good-ten e = elim (test (modelled m)) [
+        | inl h ↦ source-ten (missingOf trace) (sym (ap codeOf (opening-asks trace m h (read-well text))) ∙ e)
+        | inr n ↦ let q : codeOf (Refused NoModel) ≡ 10 = sym (ap codeOf (opening-nine trace m n)) ∙ e in omega arith
+      ]
+
+      bad-ten : (a : told.Answer) → numberIn a ≡ 10 → ⊥
+      bad-ten turned.Good e = omega arith
+      bad-ten (turned.Refused LongText n) e = omega arith
+      bad-ten (turned.Refused LongLine n) e = omega arith
+      bad-ten (turned.Refused NoForm n) e = omega arith
+      bad-ten (turned.Refused PastBound n) e = omega arith
+      bad-ten (turned.Refused Addresses n) e = omega arith
+      bad-ten (turned.Refused FirstValue n) e = omega arith
+      bad-ten (turned.Refused TooMany n) e = omega arith
+      bad-ten (turned.Refused Twice n) e = omega arith
 
   module _ (b : List ℕ) where
     pub no-room : length b < HEAD + length text → (NO-ROOM ≡ openAnswer text m b) × (b ≡ openBytes text m b)

@@ -26,6 +26,7 @@ const MARKS: usize = RECORDS * RECORDS;
 // How many bytes a head has.
 pub const HEAD: usize = FRONT + MARKS;
 
+// A byte as a number.
 fn wide(x: u8) -> usize
     ensures { λ r. ⌜ r ≡ x ⌝ }
 {
