@@ -1,2 +1,4 @@
 -- Laws of the entries.
+pub mod Part
+pub mod Spelling
 pub mod One

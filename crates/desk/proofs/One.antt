@@ -1,20 +1,26 @@
 -- No second answer meets the contract of an entry.
 --
 --   ENTRY-settles == the contract settles what comes back
---   report-leaves == and what the lent buffer holds
+--   ENTRY-leaves  == and what the lent buffer holds
 use mathlib.Core.Path.{sym, _∙_}
 use denote.Ref.{now}
 use Rattle.laws.specs.Settles.{Settles, Leaves}
 use Rattle.laws.proofs.Tests.{test-one}
 use Rattle.report.proofs.One.{reported-one}
-use Rattle.desk.proofs.wheelotter_report.Reads as report
-use Rattle.desk.proofs.wheelotter_report.Kinds as report-kinds
-use Rattle.desk.proofs.wheelotter_number.Reads as number
-use Rattle.desk.proofs.wheelotter_number.Kinds as number-kinds
-use Rattle.desk.proofs.wheelotter_line.Reads as line
-use Rattle.desk.proofs.wheelotter_line.Kinds as line-kinds
-use Rattle.desk.proofs.wheelotter_judge.Reads as judge
-use Rattle.desk.proofs.wheelotter_judge.Kinds as judge-kinds
+use Rattle.desk.proofs.texts.wheelotter_report.Reads as report
+use Rattle.desk.proofs.texts.wheelotter_report.Kinds as report-kinds
+use Rattle.desk.proofs.texts.wheelotter_number.Reads as number
+use Rattle.desk.proofs.texts.wheelotter_number.Kinds as number-kinds
+use Rattle.desk.proofs.texts.wheelotter_line.Reads as line
+use Rattle.desk.proofs.texts.wheelotter_line.Kinds as line-kinds
+use Rattle.desk.proofs.texts.wheelotter_start.Reads as start
+use Rattle.desk.proofs.texts.wheelotter_start.Kinds as start-kinds
+use Rattle.desk.proofs.texts.wheelotter_end.Reads as end
+use Rattle.desk.proofs.texts.wheelotter_end.Kinds as end-kinds
+use Rattle.desk.proofs.verdicts.wheelotter_verdict.Reads as verdict
+use Rattle.desk.proofs.verdicts.wheelotter_verdict.Kinds as verdict-kinds
+use Rattle.desk.proofs.verdicts.wheelotter_judge.Reads as judge
+use Rattle.desk.proofs.verdicts.wheelotter_judge.Kinds as judge-kinds
 
 pub report-settles : Settles 2 report-kinds.ps report-kinds.r report.Post
 report-settles κs a x y s t p q = reported-one (now (a .0)) (now (a .1 .0)) (now (s .1 .0)) (now (t .1 .0)) x y p q .0
@@ -27,6 +33,18 @@ number-settles κs a x y s t p q = p ∙ sym q
 
 pub line-settles : Settles 1 line-kinds.ps line-kinds.r line.Post
 line-settles κs a x y s t p q = p ∙ sym q
+
+pub start-settles : Settles 1 start-kinds.ps start-kinds.r start.Post
+start-settles κs a x y s t p q = p ∙ sym q
+
+pub end-settles : Settles 1 end-kinds.ps end-kinds.r end.Post
+end-settles κs a x y s t p q = p ∙ sym q
+
+pub verdict-settles : Settles 2 verdict-kinds.ps verdict-kinds.r verdict.Post
+verdict-settles κs a x y s t p q = p .0 ∙ sym (q .0)
+
+pub verdict-leaves : Leaves 2 verdict-kinds.ps verdict-kinds.r (λ κs s. now (s .1 .1 .0)) verdict.Post
+verdict-leaves κs a x y s t p q = p .1 ∙ sym (q .1)
 
 pub judge-settles : Settles 2 judge-kinds.ps judge-kinds.r judge.Post
 judge-settles κs a x y s t p q = test-one p q

@@ -1,3 +1,6 @@
 -- What the entries answer, in numbers.
 pub mod Text
+pub mod Part
+pub mod Answers
+pub mod Verdict
 pub mod Judged

@@ -2,19 +2,21 @@
 --
 --   answer-good, answer-refused    == the lines of both models, or the line of a refusal, are the output for the text
 --   answer-says                    == a text that is read is answered: no line of it says `refused`
---   reported-short, reported-whole == what comes of an answer that was written elsewhere: it fits, or nothing is written
-use mathlib.Core.Path.{_≡_, refl, sym, ap, ap₂, _∙_}
+--   reported-put                   == what comes of an answer that was written elsewhere and put into a buffer: it fits, or nothing is written
+use mathlib.Core.Path.{_≡_, sym, ap, ap₂, _∙_}
 use mathlib.Core.Bool.{So}
 use mathlib.Core.List.{List, _++_}
-use Prim.Native.Nat.{ℕ, _+_, _≤_, _<_}
+use Prim.Native.Nat.{ℕ, _≤_}
+use native.Mathlib.Nat.{zero-add}
 use native.Mathlib.Omega.{arith}
-use lib.ListN.{length, take, drop}
-use lib.Seq.{paste, take-length}
+use lib.ListN.{length, take}
 use Rattle.laws.proofs.Tests.{and-iff, same-iff}
 use Rattle.trace.specs.Meaning.{frameOf}
 use Rattle.trace.specs.WellFormed.{wellFormed}
 use Rattle.pairs.specs.Kept.{SC, TSO, modelled, keptOf}
 use Rattle.orders.specs.Verdict as said
+use Rattle.text.specs.Room.{putAt, behind}
+use Rattle.text.proofs.Put.{put-front, put-none, behind-room, behind-none}
 use Rattle.reader.specs.Answer.{numberOf}
 use Rattle.reader.specs.Read.{readText}
 use Rattle.reader.specs.declared.Answer.{Answer}
@@ -48,22 +50,16 @@ pub answer-says : (text : List ℕ) (m : ℕ) → So (modelled m) → let t = re
 answer-says text m k = says-laid m (readText text .trace) (and-iff (same-iff {a = wellFormed (readText text .trace)}) (same-iff {a = modelled m}) .1 (read-well text, k))
 
 module _ (text before : List ℕ) (n : ℕ) (blank buffer : List ℕ) (w : Wrote blank 0 (reportOf text) buffer n) (h : n ≤ REPORT) where
-  pub reported-short : length before < n → Reported text before before 0
-  reported-short l = record {
-    within = omega (arith, w .ends);
-    fits = λ g. absurd (omega (arith, w .ends));
-    short = λ _. (refl, refl);
-  }
-
-  pub reported-whole : (after : List ℕ) (r : ℕ) → n ≤ length before → r ≡ 0 + length (take n buffer) → after ≡ paste before 0 (take n buffer) (length (take n buffer)) → Reported text before after r
-  reported-whole after r l e p =
+  pub reported-put : (after : List ℕ) (r : ℕ) → r ≡ behind (take n buffer) before 0 → after ≡ putAt (take n buffer) before 0 → Reported text before after r
+  reported-put after r e p =
       let same = wrote-front blank (reportOf text) buffer n w .1 in
-      let size = ap length same in
+      let e : r ≡ behind (reportOf text) before 0 = e ∙ ap (λ (x : List ℕ). behind x before 0) same in
+      let p : after ≡ putAt (reportOf text) before 0 = p ∙ ap (λ (x : List ℕ). putAt x before 0) same in
       record {
         within = omega (arith, w .ends);
-        fits = λ _. (
-          omega (arith, w .ends),
-          p ∙ ap (λ (x : List ℕ). paste before 0 x (length x)) same ∙ ap₂ (λ (x : List ℕ) (k : ℕ). x ++ drop k before) (take-length (reportOf text)) (let z : 0 + length (reportOf text) ≡ length (reportOf text) = omega arith in z),
+        fits = λ l. (
+          e ∙ behind-room (reportOf text) before 0 (omega arith) ∙ zero-add (length (reportOf text)),
+          p ∙ put-front (reportOf text) before l,
         );
-        short = λ g. absurd (omega (arith, w .ends));
+        short = λ l. (e ∙ behind-none (reportOf text) before 0 (omega arith), p ∙ put-none (reportOf text) before 0 (omega arith));
       }

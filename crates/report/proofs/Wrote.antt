@@ -2,7 +2,7 @@
 --
 --   wrote-then  == what is written behind what was written
 --   wrote-byte  == one byte
---   wrote-paste == a string of bytes
+--   wrote-put   == a word that has room
 --   wrote-none  == nothing
 --   wrote-as    == the same bytes in other words
 --   wrote-front == from the front of a buffer on, it begins with what was written
@@ -14,7 +14,9 @@ use native.Mathlib.Numerals.{add-one}
 use native.Mathlib.Decide.{decLt}
 use native.Mathlib.Omega.{arith}
 use lib.ListN.{length, take, drop, set, length-append, length-set}
-use lib.Seq.{paste, length-paste, take-paste, take-suc-set, take-length}
+use lib.Seq.{take-paste, take-suc-set, take-length}
+use Rattle.text.specs.Room.{putAt, behind}
+use Rattle.text.proofs.Put.{put-paste, behind-room, length-put}
 use Rattle.report.specs.Report.{reportOf}
 use Rattle.report.specs.Wrote.{Wrote, Reported}
 
@@ -33,12 +35,15 @@ module _ (before : List ℕ) (at : ℕ) where
     said = rw add-one (take-suc-set before at v h);
   }
 
-  pub wrote-paste : (word after : List ℕ) (r : ℕ) → at + length word ≤ length before → r ≡ at + length word → after ≡ paste before at word (length word) → Wrote before at word after r
-  wrote-paste word after r h e p = record {
-    long = ap length p ∙ length-paste before at word (length word) h (omega arith);
-    ends = e;
-    said = rw (e, p) (take-paste before at word (length word) (omega arith) (omega arith) ∙ ap (λ (w : List ℕ). take at before ++ w) (take-length word));
-  }
+  pub wrote-put : (word after : List ℕ) (r : ℕ) → at + length word ≤ length before → r ≡ behind word before at → after ≡ putAt word before at → Wrote before at word after r
+  wrote-put word after r h e p =
+      let ends = e ∙ behind-room word before at h in
+      let same = p ∙ put-paste word before at h in
+      record {
+        long = ap length p ∙ length-put word before at;
+        ends = ends;
+        said = rw (ends, same) (take-paste before at word (length word) (omega arith) (omega arith) ∙ ap (λ (w : List ℕ). take at before ++ w) (take-length word));
+      }
 
   pub wrote-none : Wrote before at [] before at
   wrote-none = record { long = refl; ends = omega arith; said = sym (append-nil (take at before)) }

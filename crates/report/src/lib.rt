@@ -11,11 +11,11 @@ mod pieces;
 
 use lines::put_line;
 use lines::put_refusal;
-use pieces::put;
 use pieces::wide;
 use reader::Answer;
 use reader::read;
 use reader::turns::number;
+use text::room::put;
 use trace::RECORDS;
 use verdict::tell::verdict_of;
 
@@ -51,8 +51,5 @@ pub fn report(text: &[u8], out: &mut [u8]) -> usize
 {
     let mut whole = [0u8; REPORT];
     let n = written(text, &mut whole);
-    if out.len() < n {
-        return 0;
-    }
     put(&whole[..n], out, 0)
 }

@@ -4,4 +4,5 @@ pub mod Numbers
 pub mod Fits
 pub mod Decimal
 pub mod Template
+pub mod Put
 pub mod One

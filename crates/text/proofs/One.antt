@@ -2,9 +2,10 @@
 --
 --   FUNCTION-settles == the contract settles what the function gives back
 --   FUNCTION-shows   == the contract settles which bytes the part of the text holds that it hands back
+--   FUNCTION-leaves  == the contract settles what the lent buffer holds
 use mathlib.Core.Path.{_∙_, sym}
 use denote.Ref.{now}
-use Rattle.laws.specs.Settles.{Settles, Shows}
+use Rattle.laws.specs.Settles.{Settles, Shows, Leaves}
 use Rattle.text.proofs.Cursor.new.Reads as cursor-new
 use Rattle.text.proofs.Cursor.new.Kinds as cursor-new-kinds
 use Rattle.text.proofs.Cursor.next.Reads as cursor-next
@@ -19,6 +20,8 @@ use Rattle.text.proofs.digits.run_at.Reads as run-at
 use Rattle.text.proofs.digits.run_at.Kinds as run-at-kinds
 use Rattle.text.proofs.digits.number_at.Reads as number-at
 use Rattle.text.proofs.digits.number_at.Kinds as number-at-kinds
+use Rattle.text.proofs.room.put.Reads as put
+use Rattle.text.proofs.room.put.Kinds as put-kinds
 use Rattle.text.proofs.templates.fit.Reads as fit
 use Rattle.text.proofs.templates.fit.Kinds as fit-kinds
 use Rattle.text.proofs.Cursor.line.Reads as cursor-line
@@ -50,3 +53,9 @@ fit-settles κs a x y s t p q = p ∙ sym q
 
 pub cursor-line-shows : Shows 1 cursor-line-kinds.ps cursor-line-kinds.r (λ κs x. now x) cursor-line.Post
 cursor-line-shows κs a x y s t p q = p ∙ sym q
+
+pub put-settles : Settles 2 put-kinds.ps put-kinds.r put.Post
+put-settles κs a x y s t p q = p .0 ∙ sym (q .0)
+
+pub put-leaves : Leaves 2 put-kinds.ps put-kinds.r (λ κs s. now (s .1 .0)) put.Post
+put-leaves κs a x y s t p q = p .1 ∙ sym (q .1)

@@ -1,6 +1,7 @@
-// Bytes of a lent text: its lines, its decimal numbers, and templates that a line is held against.
+// Bytes of a lent text: its lines, its decimal numbers, and templates that a line is held against; and bytes put into a lent buffer.
 
 pub mod digits;
+pub mod room;
 pub mod templates;
 pub mod walk;
 

@@ -1,9 +1,9 @@
--- `report::report`: the answer is written elsewhere first, and copied where it fits.
+-- `report::report`: the answer is written elsewhere first, and put into the buffer where it fits.
 use mathlib.Core.Path.{_≡_, sym}
 use native.Mathlib.Omega.{arith}
 use lib.ListN.{length, take}
 use lib.Seq.{length-take-le}
-use Rattle.report.proofs.Answered.{reported-short, reported-whole}
+use Rattle.report.proofs.Answered.{reported-put}
 use borrow.Author.Needs.{needs}
 use Rattle.report.proofs.report.Statement.{statement}
 use Rattle.report.proofs.report.Tie as tie
@@ -18,28 +18,23 @@ slice-aggregate-written c = search needs
 written-requires : tie.Need-written-requires
 written-requires c κs = search needs
 
-returns : tie.Need-returns
-returns c = let w = c .before .before in
-    let s = w .before .before .before .before in
-    reported-short (s .args .text .now) (s .args .out .now) _ _ _ (w .written .ensures .0) (w .written .ensures .1) (c .if1 .taken)
-
 array-share-prefix-whole : tie.Need-array-share-prefix-whole
 array-share-prefix-whole c = search needs
 
 slice-aggregate-put : tie.Need-slice-aggregate-put
-slice-aggregate-put c = sym (used (c .before .before .before))
+slice-aggregate-put c = sym (used (c .before .before))
 
 put-requires : tie.Need-put-requires
-put-requires c κs = omega (arith, used (c .before .before .before .before), c .before .before .if1 .left)
+put-requires c κs = search needs
 
 same-length : tie.Need-same-length
 same-length c = search needs
 
-returns-2 : tie.Need-returns-2
-returns-2 c = let p = c .before .before in
-    let w = p .before .before .before .before .before in
+returns : tie.Need-returns
+returns c = let p = c .before .before in
+    let w = p .before .before .before .before in
     let s = w .before .before .before .before in
-    reported-whole (s .args .text .now) (s .args .out .now) _ _ _ (w .written .ensures .0) (w .written .ensures .1) _ _ (omega (arith, p .before .before .before .if1 .left)) (p .put .ensures .0) (p .put .ensures .1)
+    reported-put (s .args .text .now) (s .args .out .now) _ _ _ (w .written .ensures .0) (w .written .ensures .1) _ _ (p .put .ensures .0) (p .put .ensures .1)
 
 pub report-spec : {M : Type 1} → statement M
 report-spec =
@@ -47,9 +42,8 @@ report-spec =
     (tie.spec
     slice-aggregate-written
     written-requires
-    returns
     array-share-prefix-whole
     slice-aggregate-put
     put-requires
     same-length
-    returns-2)
+    returns)

@@ -3,30 +3,17 @@ ghost use mathlib.Core.Path.{_≡_};
 ghost use mathlib.Core.List.{[], _∷_};
 ghost use Prim.Native.Nat.{_+_, _*_, _≤_, _<_};
 ghost use lib.ListN.{length};
-ghost use lib.Seq.{paste};
 ghost use Rattle.text.specs.Number.{decimal};
 ghost use Rattle.report.specs.Bounds.{NUMBER};
 ghost use Rattle.report.specs.Words.{SPACE};
 ghost use Rattle.report.specs.Report.{spaced};
 ghost use Rattle.report.specs.Wrote.{Wrote};
+use text::room::put;
 
 pub(crate) fn wide(x: u8) -> usize
     ensures { λ r. ⌜ r ≡ x ⌝ }
 {
     x as usize
-}
-
-// A string of bytes; all others stay.
-pub(crate) fn put(word: &[u8], out: &mut [u8], at: usize) -> usize
-    requires { ⌜ at + length (now word) ≤ length (now out) ⌝ }
-    ensures { λ r. ⌜ (r ≡ at + length (now (word .entry))) × (now (out .exit) ≡ paste (now (out .entry)) at (now (word .entry)) (length (now (word .entry)))) ⌝ }
-{
-    let mut i: usize = 0;
-    while i < word.len() {
-        out[at + i] = word[i];
-        i += 1;
-    }
-    at + i
 }
 
 // A word, behind what was written before.

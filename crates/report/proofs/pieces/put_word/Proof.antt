@@ -1,5 +1,5 @@
 -- `report::pieces::put_word`: the bytes before the place are left alone, so the word stands behind them.
-use Rattle.report.proofs.Wrote.{wrote-paste}
+use Rattle.report.proofs.Wrote.{wrote-put}
 use borrow.Author.Needs.{needs}
 use Rattle.report.proofs.pieces.put_word.Statement.{statement}
 use Rattle.report.proofs.pieces.put_word.Tie as tie
@@ -13,7 +13,7 @@ same-length c = search needs
 returns : tie.Need-returns
 returns c = let p = c .before .before in
     let s = p .before .before .before .before in
-    wrote-paste (s .args .out .now) (s .args .at) (s .args .word .now) _ _ (s .pre) (p .put .ensures .0) (p .put .ensures .1)
+    wrote-put (s .args .out .now) (s .args .at) (s .args .word .now) _ _ (s .pre) (p .put .ensures .0) (p .put .ensures .1)
 
 pub put-word-spec : {M : Type 1} → statement M
 put-word-spec = tie.close (tie.spec put-requires same-length returns)

@@ -1,10 +1,10 @@
--- `desk::wheelotter_line`: the line in what the reader answers.
+-- `desk::texts::wheelotter_line`: the line in what the reader answers.
 use mathlib.Core.Path.{ap, _∙_}
 use Rattle.reader.specs.declared.Reading.{Reading}
 use Rattle.desk.specs.Text.{lineIn}
 use borrow.Author.Needs.{needs}
-use Rattle.desk.proofs.wheelotter_line.Statement.{statement}
-use Rattle.desk.proofs.wheelotter_line.Tie as tie
+use Rattle.desk.proofs.texts.wheelotter_line.Statement.{statement}
+use Rattle.desk.proofs.texts.wheelotter_line.Tie as tie
 
 read-requires : tie.Need-read-requires
 read-requires c κs = search needs

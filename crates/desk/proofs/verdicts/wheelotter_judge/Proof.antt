@@ -1,12 +1,12 @@
--- `desk::wheelotter_judge`: a text that is turned back has no list; for a good one the judge is asked.
+-- `desk::verdicts::wheelotter_judge`: a text that is turned back has no list; for a good one the judge is asked.
 use mathlib.Core.Path.{_≡_, sym, ap, _∙_, subst}
 use mathlib.Core.Bool.{false≢true}
 use Rattle.orders.specs.Accepted.{Accepted}
 use Rattle.reader.specs.declared.Reading.{Reading}
 use Rattle.desk.specs.Text.{numberIn, numberOf}
 use borrow.Author.Needs.{needs}
-use Rattle.desk.proofs.wheelotter_judge.Statement.{statement}
-use Rattle.desk.proofs.wheelotter_judge.Tie as tie
+use Rattle.desk.proofs.verdicts.wheelotter_judge.Statement.{statement}
+use Rattle.desk.proofs.verdicts.wheelotter_judge.Tie as tie
 
 read-requires : tie.Need-read-requires
 read-requires c κs = search needs

@@ -1,10 +1,10 @@
--- `desk::wheelotter_number`: the number in what the reader answers.
+-- `desk::texts::wheelotter_number`: the number in what the reader answers.
 use mathlib.Core.Path.{ap, _∙_}
 use Rattle.reader.specs.declared.Reading.{Reading}
 use Rattle.desk.specs.Text.{numberIn}
 use borrow.Author.Needs.{needs}
-use Rattle.desk.proofs.wheelotter_number.Statement.{statement}
-use Rattle.desk.proofs.wheelotter_number.Tie as tie
+use Rattle.desk.proofs.texts.wheelotter_number.Statement.{statement}
+use Rattle.desk.proofs.texts.wheelotter_number.Tie as tie
 
 read-requires : tie.Need-read-requires
 read-requires c κs = search needs

@@ -1,0 +1,122 @@
+-- The part of a text from the start to the end of its bad line is the bad line.
+--
+--   start-none, start-line, end-none, end-line == both by the line's number
+--   start-end, end-text == the part stands in the text
+--   part-bad            == its bytes are those of the line that the reader turns back; none where no line is to blame
+use mathlib.Core.Path.{_≡_, refl, sym, ap, _∙_}
+use mathlib.Core.Logic.{inl, inr}
+use mathlib.Core.List.{List, [], _∷_}
+use Prim.Native.Nat.{ℕ, zero, suc, _+_, _-_, _≤_, _<_}
+use native.Mathlib.Numerals.{add-one}
+use native.Mathlib.Decide.{decLt}
+use native.Mathlib.Omega.{arith}
+use borrow.Author.Tests.{lt-ltb, le-ltb, le-leb, lt-leb, eq-eqb, ne-eqb}
+use lib.Dec.{ltb}
+use lib.ListN.{length, take, drop}
+use Rattle.laws.proofs.Tests.{test}
+use Rattle.trace.specs.Trace.{empty, pushed}
+use Rattle.trace.specs.declared.Op.{Op}
+use Rattle.trace.specs.declared.Trace.{Trace}
+use Rattle.text.specs.Lines.{Line, lines, lineAt, endAt, nextAt}
+use Rattle.text.proofs.Lines.{end-within, line-part, lines-on, lines-over}
+use Rattle.reader.specs.Answer.{turned}
+use Rattle.reader.specs.Bounds.{TEXT}
+use Rattle.reader.specs.Read.{readLines, readText, badLines, badLineOf}
+use Rattle.reader.specs.declared.Turn.{Turn}
+use Rattle.reader.specs.declared.Turn.the-variants.{Taken, Refused}
+use Rattle.reader.proofs.Walks.{read-taken, bad-taken, read-refused, bad-refused}
+use Rattle.desk.specs.Text.{lineIn, lineOf}
+use Rattle.desk.specs.Part.{passed, startOf, endOf}
+
+module _ (text : List ℕ) where
+  -- the line behind the one at a place
+  next-in : (at : ℕ) → at ≤ length text → nextAt text at ≤ length text
+  unfolding nextAt
+  next-in at h = elim (decLt at (length text)) [
+    | no g ↦ rw (le-leb (length text) at (omega arith)) h
+    | yes g ↦ rw (lt-leb (length text) at g) (elim (decLt (endAt text at) (length text)) [
+      | yes e ↦ rw (lt-ltb (endAt text at) (length text) e) (omega arith)
+      | no e ↦ rw (le-ltb (endAt text at) (length text) (omega arith)) (end-within text at h)
+    ])
+  ]
+
+  passed-in : (n : ℕ) → passed text n ≤ length text
+  unfolding passed
+  passed-in zero = omega arith
+  passed-in (suc n) = next-in (passed text n) (passed-in n)
+
+  -- the lines behind the line at a place
+  next-lines : (at : ℕ) → at < length text → lines (drop (nextAt text at) text) ≡ lines (drop (endAt text at + 1) text)
+  unfolding nextAt
+  next-lines at h = rw (lt-leb (length text) at h) (elim (decLt (endAt text at) (length text)) [
+    | yes e ↦ rw (lt-ltb (endAt text at) (length text) e)
+    | no e ↦ rw (le-ltb (endAt text at) (length text) (omega arith)) (lines-over text (endAt text at) (omega arith) ∙ sym (lines-over text (endAt text at + 1) (omega arith)))
+  ])
+
+  -- what a line's number tells of a part of the text: it is the line with that number, the empty part for 0
+  record Tells (n : ℕ) (part : List ℕ) : Type 0 where
+    none : n ≡ 0 → part ≡ []
+    some : 0 < n → part ≡ lineAt text (passed text (n - 1))
+
+  -- line by line: the bad one among those from a place on has the number that the reader gives it
+  walk : (ls : List Line) (t : Trace) (k : ℕ) → lines (drop (passed text k) text) ≡ ls → Tells (lineIn (readLines (k + 1) t ls .answer)) (badLines t ls)
+  unfolding readLines badLines passed
+  walk [] t k e = record { none = λ _. refl; some = λ h. absurd (omega arith) }
+  walk (l ∷ ls) t k e = elim (decLt (passed text k) (length text)) [
+    | no g ↦ let z : _≡_ {A = ℕ} 0 1 = cc (lines-over text (passed text k) (omega arith)) in absurd (omega arith)
+    | yes g ↦
+        let both = sym (lines-on text (passed text k) g) ∙ e in
+        let rest : lines (drop (endAt text (passed text k) + 1) text) ≡ ls = cc in
+        let same : record { bytes = lineAt text (passed text k); ended = ltb (endAt text (passed text k)) (length text) } ≡ l = cc in
+        go (ap (λ (l : Line). l .bytes) same) (λ o. walk ls (pushed t o) (k + 1) (rw add-one (next-lines (passed text k) g ∙ rest))) (turned t l) refl
+  ]
+    where
+      go : lineAt text (passed text k) ≡ l .bytes
+          → ((o : Op) → Tells (lineIn (readLines (k + 1 + 1) (pushed t o) ls .answer)) (badLines (pushed t o) ls))
+          → (r : Turn) → turned t l ≡ r → Tells (lineIn (readLines (k + 1) t (l ∷ ls) .answer)) (badLines t (l ∷ ls))
+      go b f (Taken o) q = rw (read-taken t l ls o q (k + 1), bad-taken t l ls o q) (f o)
+      go b f (Refused reason) q =
+          rw (read-refused t l ls reason q (k + 1), bad-refused t l ls reason q)
+          record { none = λ z. absurd (omega arith); some = λ _. sym b ∙ ap (λ (n : ℕ). lineAt text (passed text n)) (let z : k ≡ k + 1 - 1 = omega arith in z) }
+
+  tells : Tells (lineOf text) (badLineOf text)
+  unfolding readText badLineOf passed
+  tells = elim (test (ltb TEXT (length text))) [
+    | inl e ↦ rw e record { none = λ _. refl; some = λ h. absurd (omega arith) }
+    | inr e ↦ rw e (walk (lines text) empty 0 refl)
+  ]
+
+  pub start-none : lineOf text ≡ 0 → startOf text ≡ 0
+  unfolding startOf passed
+  start-none e = rw e
+
+  pub start-line : (n : ℕ) → n ≡ lineOf text → startOf text ≡ passed text (n - 1)
+  unfolding startOf
+  start-line n e = rw e
+
+  pub end-none : lineOf text ≡ 0 → endOf text ≡ 0
+  unfolding endOf
+  end-none e = rw (eq-eqb (lineOf text) 0 e)
+
+  pub end-line : 0 < lineOf text → endOf text ≡ endAt text (startOf text)
+  unfolding endOf
+  end-line h = rw (ne-eqb (lineOf text) 0 (λ e. omega arith))
+
+  pub start-end : startOf text ≤ endOf text
+  start-end = elim (decLt 0 (lineOf text)) [
+    | yes h ↦ omega (arith, end-line h)
+    | no h ↦ omega (arith, start-none (omega arith), end-none (omega arith))
+  ]
+
+  pub end-text : endOf text ≤ length text
+  unfolding startOf
+  end-text = elim (decLt 0 (lineOf text)) [
+    | yes h ↦ omega (arith, end-line h, end-within text (startOf text) (passed-in (lineOf text - 1)))
+    | no h ↦ omega (arith, end-none (omega arith))
+  ]
+
+  pub part-bad : take (endOf text - startOf text) (drop (startOf text) text) ≡ badLineOf text
+  part-bad = elim (decLt 0 (lineOf text)) [
+    | yes h ↦ line-part text (startOf text) (endOf text) (end-line h) ∙ ap (lineAt text) (start-line (lineOf text) refl) ∙ sym (tells .some h)
+    | no h ↦ let z : lineOf text ≡ 0 = omega arith in rw (end-none z, start-none z) (sym (tells .none z))
+  ]

@@ -1,0 +1,108 @@
+-- `desk::verdicts::wheelotter_verdict`: too short a buffer, then a text that is turned back, then the verdict.
+use mathlib.Core.Path.{_≡_, sym, ap, _∙_, subst}
+use mathlib.Core.List.{_++_}
+use Prim.Native.Nat.{_≤_, _<_}
+use native.Mathlib.Omega.{arith}
+use lib.ListN.{drop}
+use Rattle.trace.specs.Bounds.{RECORDS}
+use Rattle.reader.specs.Read.{readText}
+use Rattle.reader.specs.declared.Reading.{Reading}
+use Rattle.reader.proofs.RoundTrip.{read-well}
+use Rattle.verdict.specs.Told.{verdictOf}
+use Rattle.verdict.specs.declared.Verdict.{Verdict}
+use Rattle.desk.specs.Text.{numberIn, numberOf}
+use Rattle.desk.specs.Verdict.{VERDICT, lacking, bytesOf}
+use Rattle.desk.proofs.Spelling.{spelled-fits, source-below, told-short, told-refused, told-good}
+use borrow.Author.Needs.{needs}
+use Rattle.desk.proofs.verdicts.wheelotter_verdict.Statement.{statement}
+use Rattle.desk.proofs.verdicts.wheelotter_verdict.Tie as tie
+
+returns : tie.Need-returns
+returns c = let a = c .before .before .before .args in told-short (a .text .now) (a .model) (a .out .now) (c .if1 .taken)
+
+read-requires : tie.Need-read-requires
+read-requires c κs = search needs
+
+number-in-requires : tie.Need-number-in-requires
+number-in-requires c κs = search needs
+
+slice-aggregate-put : tie.Need-slice-aggregate-put
+slice-aggregate-put c = search needs
+
+put-requires : tie.Need-put-requires
+put-requires c κs = search needs
+
+same-length : tie.Need-same-length
+same-length c = search needs
+
+-- the number in what the reader answers
+numbered : (c : tie.After-number-in) → c .number-in .result ≡ numberOf (c .before .before .before .before .before .args .text .now)
+numbered c = c .number-in .ensures ∙ ap (λ (r : Reading). numberIn (r .answer)) (c .before .read .ensures)
+
+returns-2 : tie.Need-returns-2
+returns-2 c =
+    let p = c .before .before in
+    let n = p .before .before .before .before in
+    let a = n .before .before .before .before .before .args in
+    let same = numbered n in
+    let (e, f) = told-refused (a .text .now) (a .model) (a .out .now) (omega (arith, n .before .before .if1 .left)) (omega (arith, same, p .before .before .before .if2 .taken)) in
+    (same ∙ e, p .put .ensures .1 ∙ f)
+
+verdict-of-requires : tie.Need-verdict-of-requires
+verdict-of-requires c κs = search needs
+
+-- the verdict on the trace that the text writes
+told : (c : tie.After-verdict-of) → let a = c .before .before .before .before .before .before .before .before .args in c .verdict-of .result ≡ verdictOf (a .model) (readText (a .text .now) .trace)
+told c =
+    let r = c .before .before .before .before in
+    let a = r .before .before .before .before .args in
+    c .verdict-of .ensures .is ∙ ap (λ (r : Reading). verdictOf (a .model) (r .trace)) (r .read .ensures)
+
+spelled-requires : tie.Need-spelled-requires
+spelled-requires c κs =
+    let a = c .before .before .before .before .before .before .before .before .args in
+    subst (λ (v : Verdict). lacking (v .outcome) < RECORDS) (sym (told c)) (source-below (a .model) (readText (a .text .now) .trace) (read-well (a .text .now)))
+
+lay-requires : tie.Need-lay-requires
+lay-requires c κs =
+    let s = c .before in
+    let v = s .before in (
+      subst (λ (v : Verdict). v .len ≤ RECORDS) (sym (s .spelled .ensures)) (spelled-fits (v .verdict-of .result) (v .verdict-of .ensures .fits)),
+      omega (arith, v .before .before .before .before .before .if1 .left),
+    )
+
+outcome-number-requires : tie.Need-outcome-number-requires
+outcome-number-requires c κs = search needs
+
+same-length-2 : tie.Need-same-length-2
+same-length-2 c = search needs
+
+returns-3 : tie.Need-returns-3
+returns-3 c =
+    let l = c .before .before .before in
+    let s = l .before .before in
+    let v = s .before in
+    let n = v .before .before .before in
+    let a = n .before .before .before .before .before .args in
+    let (e, f) = told-good (a .text .now) (a .model) (a .out .now) (omega (arith, n .before .before .if1 .left)) (omega (arith, numbered n, v .before .before .if2 .left)) (v .verdict-of .result) (told v) in (
+      c .outcome-number .ensures ∙ e,
+      l .lay .ensures ∙ ap (λ (v : Verdict). bytesOf v ++ drop VERDICT (a .out .now)) (s .spelled .ensures) ∙ f,
+    )
+
+pub wheelotter-verdict-spec : {M : Type 1} → statement M
+wheelotter-verdict-spec =
+    tie.close
+    (tie.spec
+    returns
+    read-requires
+    number-in-requires
+    slice-aggregate-put
+    put-requires
+    same-length
+    returns-2
+    verdict-of-requires
+    spelled-requires
+    lay-requires
+    outcome-number-requires
+    same-length-2
+    returns-3)

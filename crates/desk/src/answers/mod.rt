@@ -1,0 +1,13 @@
+// What the entries answer beside document 01's numbers.
+
+// The lent buffer is too short.
+pub const NO_ROOM: u8 = 17;
+
+// A verdict that hands back an order.
+pub const ORDER: u8 = 18;
+
+// One that shows a circle.
+pub const CIRCLE: u8 = 19;
+
+// One that leaves no order.
+pub const NONE_LEFT: u8 = 20;

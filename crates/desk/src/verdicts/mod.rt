@@ -1,0 +1,115 @@
+// What is said of the trace that a text writes.
+ghost use mathlib.Core.Path.{_≡_};
+ghost use mathlib.Core.Bool.{So};
+ghost use mathlib.Core.Logic.{_↔_};
+ghost use mathlib.Core.List.{_++_};
+ghost use Prim.Native.Nat.{_≤_, _<_};
+ghost use lib.ListN.{length, drop};
+ghost use Rattle.trace.specs.Bounds.{RECORDS};
+ghost use Rattle.desk.specs.Answers.{outcomeNumber};
+ghost use Rattle.desk.specs.Verdict.{VERDICT, lacking, spelled, bytesOf, verdictAnswer, verdictBuffer};
+ghost use Rattle.desk.specs.Judged.{Judged};
+use crate::answers::CIRCLE;
+use crate::answers::NO_ROOM;
+use crate::answers::NONE_LEFT;
+use crate::answers::ORDER;
+use crate::texts::number_in;
+use orders::judging::judge;
+use reader::read;
+use text::room::put;
+use trace::RECORDS;
+use verdict::Outcome;
+use verdict::Verdict;
+use verdict::tell::verdict_of;
+
+// How many bytes a verdict has: how many operations it tells, the operations, the rules.
+const VERDICT: usize = 1 + 2 * RECORDS;
+
+// The answer to a verdict, by its outcome.
+fn outcome_number(outcome: Outcome) -> u8
+    ensures { λ r. ⌜ r ≡ outcomeNumber outcome ⌝ }
+{
+    match outcome {
+        Outcome::NoSource(_) => 11,
+        Outcome::Circle => CIRCLE,
+        Outcome::Order => ORDER,
+        Outcome::NoneLeft => NONE_LEFT,
+        Outcome::NoModel => 9,
+        Outcome::NotWellFormed => 10,
+    }
+}
+
+// A verdict as it is told: a record that lacks a source is its one operation.
+fn spelled(v: Verdict) -> Verdict
+    requires { ⌜ lacking (v .outcome) < RECORDS ⌝ }
+    ensures { λ r. ⌜ r ≡ spelled v ⌝ }
+{
+    let outcome = v.outcome;
+    match outcome {
+        Outcome::NoSource(x) => {
+            let mut operations = [0u8; RECORDS];
+            operations[0] = x as u8;
+            Verdict {
+                outcome,
+                len: 1,
+                operations,
+                rules: [0; RECORDS],
+            }
+        }
+        Outcome::Circle => v,
+        Outcome::Order => v,
+        Outcome::NoneLeft => v,
+        Outcome::NoModel => v,
+        Outcome::NotWellFormed => v,
+    }
+}
+
+// The bytes of a verdict at the front of a buffer that has room for them.
+fn lay(v: Verdict, out: &mut [u8])
+    requires { ⌜ (v .len ≤ RECORDS) × (VERDICT ≤ length (now out)) ⌝ }
+    ensures { λ _. ⌜ now (out .exit) ≡ bytesOf v ++ drop VERDICT (now (out .entry)) ⌝ }
+{
+    let len = v.len;
+    let operations = v.operations;
+    let rules = v.rules;
+    out[0] = len as u8;
+    put(&operations, out, 1);
+    put(&rules, out, 1 + RECORDS);
+}
+
+// The verdict on a text under a model: its outcome as a number, its operations and rules in a lent buffer. A text that is turned back has its
+// number, and nothing to tell; a buffer that is too short stays as it was.
+#[no_mangle]
+pub extern "C" fn wheelotter_verdict(text: &[u8], model: u8, out: &mut [u8]) -> u8
+    ensures { λ r. ⌜ (r ≡ verdictAnswer (now (text .entry)) model (now (out .entry))) × (now (out .exit) ≡ verdictBuffer (now (text .entry)) model (now (out .entry))) ⌝ }
+{
+    if out.len() < VERDICT {
+        return NO_ROOM;
+    }
+    let reading = read(text);
+    let answer = reading.answer;
+    let wrong = number_in(answer);
+    if 0 < wrong {
+        put(&[0; VERDICT], out, 0);
+        return wrong;
+    }
+    let trace = reading.trace;
+    let verdict = verdict_of(trace, model);
+    let outcome = verdict.outcome;
+    lay(spelled(verdict), out);
+    outcome_number(outcome)
+}
+
+// Whether a list is a valid order of the trace that a text writes. A text that is turned back has none.
+#[no_mangle]
+pub extern "C" fn wheelotter_judge(text: &[u8], model: u8, list: &[u8]) -> bool
+    ensures { λ r. ⌜ So r ↔ Judged (now (text .entry)) model (now (list .entry)) ⌝ }
+{
+    let reading = read(text);
+    let answer = reading.answer;
+    if number_in(answer) != 0 {
+        return false;
+    }
+    let trace = reading.trace;
+    judge(trace, model, list)
+}
