@@ -1,4 +1,8 @@
 -- Laws of the entries.
 pub mod Part
 pub mod Spelling
+pub mod Laying
+pub mod Keeping
+pub mod Acting
+pub mod Opens
 pub mod One

@@ -21,6 +21,14 @@ use Rattle.desk.proofs.verdicts.wheelotter_verdict.Reads as verdict
 use Rattle.desk.proofs.verdicts.wheelotter_verdict.Kinds as verdict-kinds
 use Rattle.desk.proofs.verdicts.wheelotter_judge.Reads as judge
 use Rattle.desk.proofs.verdicts.wheelotter_judge.Kinds as judge-kinds
+use Rattle.desk.proofs.sessions.wheelotter_open.Reads as opens
+use Rattle.desk.proofs.sessions.wheelotter_open.Kinds as open-kinds
+use Rattle.desk.proofs.sessions.wheelotter_suppose.Reads as suppose
+use Rattle.desk.proofs.sessions.wheelotter_suppose.Kinds as suppose-kinds
+use Rattle.desk.proofs.sessions.wheelotter_take_back.Reads as take-back
+use Rattle.desk.proofs.sessions.wheelotter_take_back.Kinds as take-back-kinds
+use Rattle.desk.proofs.sessions.wheelotter_ask.Reads as ask
+use Rattle.desk.proofs.sessions.wheelotter_ask.Kinds as ask-kinds
 
 pub report-settles : Settles 2 report-kinds.ps report-kinds.r report.Post
 report-settles κs a x y s t p q = reported-one (now (a .0)) (now (a .1 .0)) (now (s .1 .0)) (now (t .1 .0)) x y p q .0
@@ -48,3 +56,24 @@ verdict-leaves κs a x y s t p q = p .1 ∙ sym (q .1)
 
 pub judge-settles : Settles 2 judge-kinds.ps judge-kinds.r judge.Post
 judge-settles κs a x y s t p q = test-one p q
+
+pub open-settles : Settles 2 open-kinds.ps open-kinds.r opens.Post
+open-settles κs a x y s t p q = p .0 ∙ sym (q .0)
+
+pub open-leaves : Leaves 2 open-kinds.ps open-kinds.r (λ κs s. now (s .1 .1 .0)) opens.Post
+open-leaves κs a x y s t p q = p .1 ∙ sym (q .1)
+
+pub suppose-settles : Settles 1 suppose-kinds.ps suppose-kinds.r suppose.Post
+suppose-settles κs a x y s t p q = p .0 ∙ sym (q .0)
+
+pub suppose-leaves : Leaves 1 suppose-kinds.ps suppose-kinds.r (λ κs s. now (s .0)) suppose.Post
+suppose-leaves κs a x y s t p q = p .1 ∙ sym (q .1)
+
+pub take-back-settles : Settles 1 take-back-kinds.ps take-back-kinds.r take-back.Post
+take-back-settles κs a x y s t p q = p .0 ∙ sym (q .0)
+
+pub take-back-leaves : Leaves 1 take-back-kinds.ps take-back-kinds.r (λ κs s. now (s .0)) take-back.Post
+take-back-leaves κs a x y s t p q = p .1 ∙ sym (q .1)
+
+pub ask-settles : Settles 1 ask-kinds.ps ask-kinds.r ask.Post
+ask-settles κs a x y s t p q = p ∙ sym q

@@ -4,3 +4,7 @@ pub mod Part
 pub mod Answers
 pub mod Verdict
 pub mod Judged
+pub mod Head
+pub mod Kept
+pub mod Acts
+pub mod Opened

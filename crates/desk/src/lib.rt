@@ -1,5 +1,7 @@
 // The entries for C and Rust, over numbers and byte slices. Each keeps the promise of the function behind it.
 
 mod answers;
+mod heads;
+pub mod sessions;
 pub mod texts;
 pub mod verdicts;

@@ -3,6 +3,7 @@ pub mod Loops
 pub mod Places
 pub mod Relation
 pub mod Via
+pub mod Rows
 pub mod Warshall
 pub mod Sums
 pub mod Growth

@@ -2,30 +2,18 @@
 --
 --   memo-iff   == a kept table says what the table said, within its bounds
 --   chains-iff == `chains n e` passes exactly where a chain of e leads
-use mathlib.Core.Path.{_≡_, refl, sym, ap, _∙_}
 use mathlib.Core.Logic.{_↔_}
 use mathlib.Core.Bool.{false, So, false≢true}
 use mathlib.Core.List.{[]}
-use Prim.Native.Nat.{ℕ, zero, suc, _+_, _≤_, _<_}
-use native.Mathlib.Nat.{not-suc-le-zero, add-zero, zero-add}
+use Prim.Native.Nat.{ℕ, zero, suc, _<_}
+use native.Mathlib.Nat.{zero-add}
 use native.Mathlib.Decide.{decLt}
 use native.Mathlib.Omega.{arith}
 use lib.ListN.{getD}
 use Rattle.laws.specs.Relation.{Rel, Table, Chain}
 use Rattle.laws.specs.Warshall.{row, memo, wars, chains}
+use Rattle.laws.proofs.Rows.{row-at, row-out}
 use Rattle.laws.proofs.Via.{Via, last, via-zero, via-more, via-rows, chain-iff-via, cell}
-
-row-at {ℓ} : {A : Type ℓ} (g : ℕ → A) (d : A) (i k j : ℕ) → j < k → getD (row g i k) j d ≡ g (i + j)
-unfolding row
-row-at g d i zero j h = absurd (not-suc-le-zero h)
-row-at g d i (suc k) zero h = ap g (sym (add-zero i))
-row-at g d i (suc k) (suc j) h = row-at g d (suc i) k j (omega arith) ∙ ap g (let q : suc i + j ≡ i + suc j = omega arith in q)
-
-row-out {ℓ} : {A : Type ℓ} (g : ℕ → A) (d : A) (i k j : ℕ) → k ≤ j → getD (row g i k) j d ≡ d
-unfolding row
-row-out g d i zero j h = refl
-row-out g d i (suc k) zero h = absurd (not-suc-le-zero h)
-row-out g d i (suc k) (suc j) h = row-out g d (suc i) k j (omega arith)
 
 pub memo-iff : (n : ℕ) (e : Table) (E : Rel) → ((x y : ℕ) → E x y → (x < n) × (y < n)) → ((x y : ℕ) → x < n → y < n → So (e x y) ↔ E x y) → (x y : ℕ) → So (memo n e x y) ↔ E x y
 unfolding memo

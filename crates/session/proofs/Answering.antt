@@ -5,6 +5,7 @@
 --   back-unlike, back-none, back-done              == whether it has one to take back
 --   told-contradicted, told-bit                    == what its table says
 --   pair-allows, suppose-allows, back-allows       == what is so where nothing was turned back
+--   afresh-done, afresh-unlike, afresh-allows      == a session from its parts
 --   open-done, open-refused, suppose-taken, suppose-refused, back-taken, back-refused, ask-told, ask-refused == the calls as a whole
 use mathlib.Core.Path.{_≡_, refl, sym, ap, _∙_}
 use mathlib.Core.Logic.{_≢_}
@@ -19,13 +20,14 @@ use Rattle.trace.specs.Meaning.{frameOf}
 use Rattle.trace.specs.declared.Trace.{Trace}
 use Rattle.rows.specs.Rows.{bit}
 use Rattle.session.specs.Bounds.{PAIRS}
-use Rattle.session.specs.Stack.{supposable, standing}
-use Rattle.session.specs.Opening.{openingOf, isDone}
+use Rattle.session.specs.Stack.{supposable, standing, stands}
+use Rattle.session.specs.Opening.{openingOf, isDone, openable}
 use Rattle.session.specs.Session.{afresh, intact, Intact, blank}
-use Rattle.session.specs.Entries.{pairTurn, supposeTurn, takeBackTurn, toldOf, openOf, supposeOf, takeBackOf, askOf}
+use Rattle.session.specs.Entries.{pairTurn, supposeTurn, takeBackTurn, toldOf, openOf, afreshOf, supposeOf, takeBackOf, askOf}
 use Rattle.session.specs.declared.Reason.the-variants.{Unlike, NoOperation, OneRecord, TooManyPairs, NoPair}
 use Rattle.session.specs.declared.Answer.{Answer}
 use Rattle.session.specs.declared.Answer.the-variants.{Done, Held, NotHeld, Contradicted, Refused}
+use Rattle.session.specs.declared.Stack.{Stack}
 use Rattle.session.specs.declared.Session.{Session}
 use Rattle.session.specs.declared.Reply.{Reply}
 use Rattle.session.proofs.Pairs.{supposable-iff}
@@ -162,3 +164,20 @@ module _ (t : Trace) (m : ℕ) (a : Answer) (e : a ≡ openingOf t m) where
   pub open-refused : isDone a ≡ false → (s : Session) → s ≡ blank → both a s ≡ openOf t m
   unfolding openOf
   open-refused n s q = rw (← e, n) (ap (both a) q)
+
+module _ (t : Trace) (m : ℕ) (k : Stack) where
+  pub afresh-done : So (openable t m && stands t k) → (s : Session) → s ≡ afresh t m (standing k) → both Done s ≡ afreshOf t m k
+  unfolding afreshOf
+  afresh-done d s q = rw d (ap (both Done) q)
+
+  pub afresh-unlike : (openable t m && stands t k) ≡ false → (s : Session) → s ≡ blank → both (Refused Unlike) s ≡ afreshOf t m k
+  unfolding afreshOf
+  afresh-unlike n s q = rw n (ap (both (Refused Unlike)) q)
+
+  pub afresh-allows : So (isDone (afreshOf t m k .answer)) → So (openable t m && stands t k)
+  unfolding afreshOf
+  afresh-allows = go (openable t m && stands t k)
+    where
+      go : (b : Bool) → So (isDone (cond b (both Done (afresh t m (standing k))) (both (Refused Unlike) blank) .answer)) → So b
+      go true s = refl
+      go false s = absurd (false≢true s)

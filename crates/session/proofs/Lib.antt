@@ -6,6 +6,7 @@ pub mod Openings
 pub mod Sessions
 pub mod Answering
 pub mod Standing
+pub mod Lasting
 pub mod Promises
 pub mod Numbering
 pub mod One

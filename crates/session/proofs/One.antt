@@ -5,6 +5,8 @@ use mathlib.Core.Path.{_∙_, sym}
 use Rattle.laws.specs.Settles.{Settles}
 use Rattle.session.proofs.calls.open.Reads as opens
 use Rattle.session.proofs.calls.open.Kinds as open-kinds
+use Rattle.session.proofs.calls.afresh.Reads as afresh
+use Rattle.session.proofs.calls.afresh.Kinds as afresh-kinds
 use Rattle.session.proofs.calls.suppose.Reads as suppose
 use Rattle.session.proofs.calls.suppose.Kinds as suppose-kinds
 use Rattle.session.proofs.calls.take_back.Reads as take-back
@@ -14,6 +16,9 @@ use Rattle.session.proofs.calls.ask.Kinds as ask-kinds
 
 pub open-settles : Settles 0 open-kinds.ps open-kinds.r opens.Post
 open-settles κs a x y s t p q = p ∙ sym q
+
+pub afresh-settles : Settles 0 afresh-kinds.ps afresh-kinds.r afresh.Post
+afresh-settles κs a x y s t p q = p ∙ sym q
 
 pub suppose-settles : Settles 0 suppose-kinds.ps suppose-kinds.r suppose.Post
 suppose-settles κs a x y s t p q = p ∙ sym q

@@ -2,8 +2,9 @@
 --
 --   kept-allowed  == the pairs that stand after a call are allowed again
 --   act-kept      == one call on a session made afresh
---   act-given     == a call that is turned back leaves the session as given
+--   act-stays, act-given == a call that is turned back leaves the session as given
 --   act-unlike    == so does every call on a session that is not intact
+--   opened        == an opening that is done gives the session with no pairs
 --   open-blank    == beside a refused opening stands the session of the empty trace under model 1
 --   after-afresh  == any list of calls, refused ones included
 --   after-opened, after-refused == so it goes after any opening, done or refused
@@ -131,7 +132,7 @@ module _ (t : Trace) where
     after-afresh [] ps al = refl
     after-afresh (a ∷ cs) ps al = ap (λ s. after s cs) (act-kept ps al a) ∙ after-afresh cs (kept t ps a) (kept-allowed ps al a)
 
-    opened : left (openOf t m) ≡ afresh t m []
+    pub opened : left (openOf t m) ≡ afresh t m []
     unfolding openable
     opened = sym (ap left (open-done t m (openingOf t m) refl o (afresh t m []) refl))
 
@@ -183,11 +184,14 @@ not-done Contradicted n e = refl
 not-done (NoSource x) n e = refl
 not-done (Refused r) n e = refl
 
-pub act-given : (s : Session) (a : Act) (n : ℕ) → refusal (replyOf s a .answer) ≡ some n → left (replyOf s a) ≡ s
+pub act-stays : (s : Session) (a : Act) → isDone (replyOf s a .answer) ≡ false → left (replyOf s a) ≡ s
 unfolding supposeOf takeBackOf askOf
-act-given s (supposes x y) n e = sym (ap left (suppose-refused s x y (supposeTurn s x y) refl (not-done (supposeTurn s x y) n e)))
-act-given s takesBack n e = sym (ap left (back-refused s (takeBackTurn s) refl (not-done (takeBackTurn s) n e)))
-act-given s (asks x y) n e = refl
+act-stays s (supposes x y) e = sym (ap left (suppose-refused s x y (supposeTurn s x y) refl e))
+act-stays s takesBack e = sym (ap left (back-refused s (takeBackTurn s) refl e))
+act-stays s (asks x y) e = refl
+
+pub act-given : (s : Session) (a : Act) (n : ℕ) → refusal (replyOf s a .answer) ≡ some n → left (replyOf s a) ≡ s
+act-given s a n e = act-stays s a (not-done (replyOf s a .answer) n e)
 
 pub act-unlike : (s : Session) → intact s ≡ false → (a : Act) → left (replyOf s a) ≡ s
 unfolding askOf

@@ -6,6 +6,7 @@
 --   toldOf s x y      == what the session's table says of a pair
 --   next a s′ s       == the session after a call: s′ where nothing was turned back, otherwise the session as given
 --   openOf, supposeOf, takeBackOf, askOf == the calls
+--   afreshOf t m k    == the session on a trace and a model with the pairs that a stack keeps; 12 where none such can be opened
 use mathlib.Core.Bool.{cond, _&&_}
 use mathlib.Core.List.{[], _∷_, _++_}
 use Prim.Native.Nat.{ℕ, _-_}
@@ -15,12 +16,13 @@ use Rattle.trace.specs.Meaning.{frameOf}
 use Rattle.trace.specs.declared.Trace.{Trace}
 use Rattle.rows.specs.Rows.{bit}
 use Rattle.session.specs.Bounds.{PAIRS}
-use Rattle.session.specs.Stack.{standing}
-use Rattle.session.specs.Opening.{openingOf, isDone}
+use Rattle.session.specs.Stack.{standing, stands}
+use Rattle.session.specs.Opening.{openingOf, isDone, openable}
 use Rattle.session.specs.Session.{afresh, intact, blank}
 use Rattle.session.specs.declared.Reason.the-variants.{Unlike, NoOperation, OneRecord, TooManyPairs, NoPair}
 use Rattle.session.specs.declared.Answer.{Answer}
 use Rattle.session.specs.declared.Answer.the-variants.{Done, Held, NotHeld, Contradicted, Refused}
+use Rattle.session.specs.declared.Stack.{Stack}
 use Rattle.session.specs.declared.Session.{Session}
 use Rattle.session.specs.declared.Reply.{Reply}
 
@@ -45,6 +47,12 @@ next a s′ s = cond (isDone a) s′ s
 
 unfoldable pub openOf : Trace → ℕ → Reply
 openOf t m = record { answer = openingOf t m; session = next (openingOf t m) (afresh t m []) blank }
+
+unfoldable pub afreshOf : Trace → ℕ → Stack → Reply
+afreshOf t m k =
+    cond (openable t m && stands t k)
+    (record { answer = Done; session = afresh t m (standing k) })
+    (record { answer = Refused Unlike; session = blank })
 
 unfoldable pub supposeOf : Session → ℕ → ℕ → Reply
 supposeOf s x y = record {

@@ -11,3 +11,12 @@ pub const CIRCLE: u8 = 19;
 
 // One that leaves no order.
 pub const NONE_LEFT: u8 = 20;
+
+// A pair that a session holds.
+pub const HELD: u8 = 21;
+
+// One that it does not hold.
+pub const NOT_HELD: u8 = 22;
+
+// Any pair, while it is contradicted.
+pub const CONTRADICTED: u8 = 23;

@@ -7,8 +7,8 @@ ghost use Rattle.trace.specs.Meaning.{frameOf};
 ghost use Rattle.session.specs.Bounds.{PAIRS};
 ghost use Rattle.session.specs.Stack.{supposable, placed, stands, stacked, standing, drawn, Stands};
 ghost use Rattle.session.specs.Opening.{openingOf, isDone, openable};
-ghost use Rattle.session.specs.Session.{afresh, intact};
-ghost use Rattle.session.specs.Entries.{pairTurn, supposeTurn, takeBackTurn, toldOf, openOf, supposeOf, takeBackOf, askOf};
+ghost use Rattle.session.specs.Session.{afresh, intact, blank};
+ghost use Rattle.session.specs.Entries.{pairTurn, supposeTurn, takeBackTurn, toldOf, openOf, afreshOf, supposeOf, takeBackOf, askOf};
 use crate::Answer;
 use crate::PAIRS;
 use crate::Pair;
@@ -169,6 +169,13 @@ fn unsupposed() -> Stack
     }
 }
 
+// The session beside a refusal: that of the empty trace under model 1.
+fn blank() -> Session
+    ensures { λ r. ⌜ r ≡ blank ⌝ }
+{
+    made(trace::empty(), SC, unsupposed())
+}
+
 // Whether a session takes x, y as a pair to speak of, and why not.
 fn pair_turn(s: Session, x: usize, y: usize) -> Answer
     ensures { λ r. ⌜ r ≡ pairTurn s x y ⌝ }
@@ -238,8 +245,27 @@ pub fn open(t: Trace, model: u8) -> Reply
         let session = made(t, model, unsupposed());
         return Reply { answer, session };
     }
-    let session = made(trace::empty(), SC, unsupposed());
+    let session = blank();
     Reply { answer, session }
+}
+
+// The session with the pairs of a stack, for who keeps a session's parts. Where none such can be opened, it is 12 beside the one of the empty trace
+// under model 1.
+pub fn afresh(t: Trace, model: u8, k: Stack) -> Reply
+    ensures { λ r. ⌜ r ≡ afreshOf t model k ⌝ }
+{
+    if done(opening(t, model)) & stands(t, k) {
+        let session = made(t, model, k);
+        return Reply {
+            answer: Answer::Done,
+            session,
+        };
+    }
+    let session = blank();
+    Reply {
+        answer: Answer::Refused(Reason::Unlike),
+        session,
+    }
 }
 
 // Supposes x before y.

@@ -1,0 +1,181 @@
+-- A session in bytes.
+--
+--   like-parts, like-same  == what the test of bytes says: they are the head of the session that they name, then its text
+--   behind                 == the text, as a part of the bytes
+--   kept-like, kept-unlike == the session that bytes are, or none
+--   unlike-short, unlike-text, unlike-made, unlike-head == the test fails at one of its parts
+--   named-intact, named-trace == the session that bytes name
+--   text-again, session-again, like-again == the bytes of an intact session are like, and name that session
+--   like-exactly           == bytes are like exactly where they are those of an intact session
+--   bytes-one              == two intact sessions with the same bytes are one, on one text
+use mathlib.Core.Path.{_≡_, refl, sym, ap, ap₂, _∙_, subst}
+use mathlib.Core.Logic.{_≢_, _↔_}
+use mathlib.Core.Bool.{Bool, true, false, So, false≢true}
+use mathlib.Core.List.{List, _++_}
+use Prim.Native.Nat.{ℕ, _+_, _*_, _-_, _/_, _<_, _≤_}
+use native.Mathlib.Omega.{arith}
+use lib.ListN.{length, getD, take, drop, take-append-drop, length-append, length-drop, List·getD-append}
+use lib.Seq.{take-all, take-at, drop-at, ext-getD}
+use Rattle.laws.specs.Warshall.{row}
+use Rattle.laws.proofs.Tests.{off, and-iff, same-iff, so-le, so-eq}
+use Rattle.laws.proofs.Alike.{alike-iff}
+use Rattle.laws.proofs.Rows.{row-long, row-place}
+use Rattle.reader.specs.Read.{readText}
+use Rattle.trace.specs.declared.Trace.{Trace}
+use Rattle.session.specs.Bounds.{PAIRS}
+use Rattle.session.specs.Stack.{unused, pairAt, standing}
+use Rattle.session.specs.Opening.{isDone}
+use Rattle.session.specs.Session.{afresh, Intact, blank}
+use Rattle.session.specs.Entries.{afreshOf}
+use Rattle.session.specs.declared.Answer.the-variants.{Done}
+use Rattle.session.specs.declared.Pair.{Pair}
+use Rattle.session.specs.declared.Stack.{Stack}
+use Rattle.session.specs.declared.Session.{Session}
+use Rattle.session.specs.declared.Reply.{Reply}
+use Rattle.session.proofs.Pairs.{stands-iff}
+use Rattle.session.proofs.Sessions.{intact-stands}
+use Rattle.session.proofs.Answering.{afresh-done, afresh-allows}
+use Rattle.session.proofs.Lasting.{made-intact}
+use Rattle.desk.specs.Text.{numberOf}
+use Rattle.desk.specs.Head.{FRONT, MARKS, HEAD, frontAt, markAt, headOf}
+use Rattle.desk.specs.Kept.{textIn, pairIn, stackIn, madeIn, sessionIn, like, keptOf}
+use Rattle.desk.specs.declared.sessions.Lent.{Lent}
+use Rattle.desk.proofs.Laying.{pair-first, pair-second, front-model, front-count, front-pair, head-long}
+
+-- whether bytes are those of a session, and which
+abbrev both : Bool → Session → Lent
+both l s = record { like = l; session = s }
+
+module _ (b : List ℕ) where
+  -- the parts of the test
+  pub record Parts : Type 0 where
+    pub long : HEAD ≤ length b
+    pub good : numberOf (textIn b) ≡ 0
+    pub done : So (isDone (madeIn b .answer))
+    pub head : headOf (sessionIn b) ≡ take HEAD b
+
+  pub like-parts : So (like b) ↔ Parts
+  unfolding like
+  like-parts =
+      let i = and-iff (and-iff (and-iff so-le so-eq) same-iff) (alike-iff (headOf (sessionIn b)) (take HEAD b)) in (
+        λ s. let p = i .0 s in record { long = p .0 .0 .0; good = p .0 .0 .1; done = p .0 .1; head = p .1 },
+        λ p. i .1 (((p .long, p .good), p .done), p .head),
+      )
+
+  -- all that stands behind the head
+  pub behind : take (length b - HEAD) (drop HEAD b) ≡ textIn b
+  behind = take-all (length b - HEAD) (drop HEAD b) (omega (arith, length-drop HEAD b))
+
+  pub like-same : So (like b) → headOf (sessionIn b) ++ textIn b ≡ b
+  like-same s = ap (λ (h : List ℕ). h ++ textIn b) (like-parts .0 s .head) ∙ take-append-drop HEAD b
+
+  pub kept-like : So (like b) → (s : Session) → s ≡ sessionIn b → both true s ≡ keptOf b
+  unfolding keptOf
+  kept-like l s e = rw l (ap (both true) e)
+
+  pub kept-unlike : like b ≡ false → (r : Lent) → (r .like ≡ false) × (r .session ≡ blank) → r ≡ keptOf b
+  unfolding keptOf
+  kept-unlike n r e = rw n (ap₂ both (e .0) (e .1))
+
+  -- what a function that looks at the parts in turn learns
+  pub unlike-short : length b < HEAD → like b ≡ false
+  unlike-short h = off (λ l. let g = like-parts .0 l .long in omega arith)
+
+  pub unlike-text : numberOf (textIn b) ≢ 0 → like b ≡ false
+  unlike-text d = off (λ l. d (like-parts .0 l .good))
+
+  pub unlike-made : isDone (madeIn b .answer) ≡ false → like b ≡ false
+  unlike-made n = off (λ l. false≢true (sym n ∙ like-parts .0 l .done))
+
+  pub unlike-head : (headOf (sessionIn b) ≡ take HEAD b → ⊥) → like b ≡ false
+  unlike-head d = off (λ l. d (like-parts .0 l .head))
+
+  -- what bytes name is intact, whatever they are
+  pub named-intact : Intact (sessionIn b)
+  unfolding madeIn
+  named-intact = made-intact (readText (textIn b) .trace) (getD b 0 0) (stackIn b)
+
+  pub named-trace : So (isDone (madeIn b .answer)) → sessionIn b .trace ≡ readText (textIn b) .trace
+  unfolding madeIn afresh
+  named-trace d =
+      let t = readText (textIn b) .trace in
+      sym (ap (λ (r : Reply). r .session .trace) (afresh-done t (getD b 0 0) (stackIn b) (afresh-allows t (getD b 0 0) (stackIn b) d) (afresh t (getD b 0 0) (standing (stackIn b))) refl))
+
+-- an intact session on the trace of a good text
+pub record On (s : Session) (text : List ℕ) : Type 0 where
+  pub intact : Intact s
+  pub good : numberOf text ≡ 0
+  pub trace : s .trace ≡ readText text .trace
+
+module _ (s : Session) (text : List ℕ) where
+  -- the bytes of the session
+  abbrev whole : List ℕ
+  whole = headOf s ++ text
+
+  pub text-again : textIn whole ≡ text
+  text-again = drop-at (headOf s) text HEAD (head-long s)
+
+  front-place : (j : ℕ) → j < FRONT → getD whole j 0 ≡ frontAt s j
+  unfolding headOf
+  front-place j h =
+      let n = row-long (frontAt s) 0 FRONT in
+      List·getD-append (headOf s) text 0 j (omega (arith, head-long s))
+      ∙ List·getD-append (row (frontAt s) 0 FRONT) (row (markAt (s .held)) 0 MARKS) 0 j (omega arith)
+      ∙ row-place (frontAt s) 0 FRONT j h
+
+  pair-again : (i : ℕ) → i < PAIRS → pairIn whole i ≡ pairAt (s .stack) i
+  unfolding pairIn
+  pair-again i h =
+      let k = s .stack in
+      let e : (2 + 2 * i - 2) / 2 ≡ i = omega arith in
+      let o : (3 + 2 * i - 2) / 2 ≡ i = omega arith in
+      ap₂ (λ (x y : ℕ). record { first = x; second = y })
+      (front-place (2 + 2 * i) (omega arith)
+      ∙ front-pair s (2 + 2 * i) (λ z. omega arith) (λ z. omega arith) (omega arith)
+      ∙ pair-first k (2 + 2 * i - 2) (omega arith)
+      ∙ ap (λ (j : ℕ). pairAt k j .first) e)
+      (front-place (3 + 2 * i) (omega arith)
+      ∙ front-pair s (3 + 2 * i) (λ z. omega arith) (λ z. omega arith) (omega arith)
+      ∙ pair-second k (3 + 2 * i - 2) (λ z. omega arith)
+      ∙ ap (λ (j : ℕ). pairAt k j .second) o)
+
+  stack-again : length (s .stack .pairs) ≡ PAIRS → stackIn whole ≡ s .stack
+  unfolding stackIn
+  stack-again l =
+      ap₂ (λ (ps : List Pair) (n : ℕ). record { pairs = ps; count = n })
+      (ext-getD unused (row (pairIn whole) 0 PAIRS) (s .stack .pairs) (row-long (pairIn whole) 0 PAIRS ∙ sym l)
+      (λ i h. let m : i < PAIRS = omega (arith, row-long (pairIn whole) 0 PAIRS) in row-place (pairIn whole) unused PAIRS i m ∙ pair-again i m))
+      (front-place 1 (omega arith) ∙ front-count s 1 refl)
+
+  module _ (o : On s text) where
+    made-again : madeIn whole ≡ record { answer = Done; session = s }
+    unfolding madeIn
+    made-again =
+        let i = o .intact in
+        let k = intact-stands s i in
+        ap (λ (t : Trace). afreshOf t (getD whole 0 0) (stackIn whole)) (ap (λ (x : List ℕ). readText x .trace) text-again ∙ sym (o .trace))
+        ∙ ap₂ (λ (m : ℕ) (q : Stack). afreshOf (s .trace) m q) (front-place 0 (omega arith) ∙ front-model s 0 refl) (stack-again (k .long))
+        ∙ sym (afresh-done (s .trace) (s .model) (s .stack) (and-iff same-iff (stands-iff (s .trace) (s .stack)) .1 (i .opens, k)) s (i .same))
+
+    pub session-again : sessionIn whole ≡ s
+    session-again = ap (λ (r : Reply). r .session) made-again
+
+    pub like-again : So (like whole)
+    like-again = like-parts whole .1 (record {
+      long = omega (arith, length-append (headOf s) text, head-long s);
+      good = ap numberOf text-again ∙ o .good;
+      done = ap (λ (r : Reply). isDone (r .answer)) made-again;
+      head = ap headOf session-again ∙ sym (take-at (headOf s) text HEAD (head-long s));
+    })
+
+pub like-exactly : (b : List ℕ) → So (like b) ↔ ((s : Session) × (text : List ℕ) × On s text × (b ≡ headOf s ++ text))
+like-exactly b = (
+  λ l. let p = like-parts b .0 l in (sessionIn b, textIn b, record { intact = named-intact b; good = p .good; trace = named-trace b (p .done) }, sym (like-same b l)),
+  λ w. subst (λ (x : List ℕ). So (like x)) (sym (w .3)) (like-again (w .0) (w .1) (w .2)),
+)
+
+pub bytes-one : (s s′ : Session) (text text′ : List ℕ) → On s text → On s′ text′ → headOf s ++ text ≡ headOf s′ ++ text′ → (s ≡ s′) × (text ≡ text′)
+bytes-one s s′ text text′ o o′ e = (
+  sym (session-again s text o) ∙ ap (λ (b : List ℕ). sessionIn b) e ∙ session-again s′ text′ o′,
+  sym (text-again s text) ∙ ap (λ (b : List ℕ). textIn b) e ∙ text-again s′ text′,
+)

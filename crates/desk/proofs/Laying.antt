@@ -1,0 +1,110 @@
+-- The bytes of a session's head, place by place, and that each is a byte.
+--
+--   count-room, pair-below          == the numbers of an intact session are small
+--   pair-first, pair-second         == the bytes of a pair
+--   front-model, front-count, front-pair, front-word == the bytes of the front
+--   head-long                       == how many bytes a head has
+--   laid, laid-alone                == the front and the marks laid down in turn are the head
+use mathlib.Core.Path.{_≡_, refl, sym, ap, ap₂, _∙_, subst}
+use mathlib.Core.Logic.{_≢_}
+use mathlib.Core.List.{List, _++_, append-assoc, append-nil}
+use Prim.Native.Nat.{ℕ, _+_, _*_, _-_, _/_, _%_, _<_, _≤_}
+use native.Mathlib.Decide.{decLt}
+use native.Mathlib.Omega.{arith}
+use lib.ListN.{length, take, drop, drop-of-length-le, length-append, length-drop}
+use lib.Seq.{take-all, take-at, drop-at, drop-drop}
+use borrow.Author.Tests.{eq-eqb, ne-eqb, lt-ltb, le-ltb}
+use Rattle.laws.specs.Sums.{num}
+use Rattle.laws.specs.Warshall.{row}
+use Rattle.laws.proofs.Rows.{row-long}
+use Rattle.trace.specs.Bounds.{RECORDS}
+use Rattle.trace.proofs.WellFormed.{form-iff}
+use Rattle.trace.proofs.Meaning.{operation-iff}
+use Rattle.session.specs.Bounds.{PAIRS}
+use Rattle.session.specs.Stack.{pairAt}
+use Rattle.session.specs.Session.{Intact}
+use Rattle.session.specs.declared.Pair.{Pair}
+use Rattle.session.specs.declared.Stack.{Stack}
+use Rattle.session.specs.declared.Session.{Session}
+use Rattle.session.proofs.Pairs.{supposable-iff}
+use Rattle.session.proofs.Openings.{openable-iff}
+use Rattle.session.proofs.Sessions.{intact-stands}
+use Rattle.desk.specs.Head.{FRONT, MARKS, HEAD, pairByte, frontAt, markAt, headOf}
+
+module _ (s : Session) (i : Intact s) where
+  pub count-room : s .stack .count ≤ PAIRS
+  count-room = intact-stands s i .room
+
+  -- an operation of the trace
+  below : (x : ℕ) → x < s .trace .len → x < RECORDS
+  below x h = let f = form-iff (s .trace) .0 (openable-iff (s .trace) (s .model) .0 (i .opens) .form) .fits in omega arith
+
+  pub pair-below : (j : ℕ) → j < PAIRS → (pairAt (s .stack) j .first < RECORDS) × (pairAt (s .stack) j .second < RECORDS)
+  pair-below j h = elim (decLt j (s .stack .count)) [
+    | yes l ↦
+        let o = supposable-iff (s .trace) (pairAt (s .stack) j) .0 (intact-stands s i .used j l) .0 in
+        (below _ (operation-iff (s .trace) _ .0 (o .0) .0), below _ (operation-iff (s .trace) _ .0 (o .1) .0))
+    | no l ↦
+        let e = intact-stands s i .rest j (omega arith) h in
+        (subst (λ (p : Pair). p .first < RECORDS) (sym e) (omega arith), subst (λ (p : Pair). p .second < RECORDS) (sym e) (omega arith))
+  ]
+
+module _ (k : Stack) (i : ℕ) where
+  pub pair-first : i % 2 ≡ 0 → pairByte k i ≡ pairAt k (i / 2) .first
+  unfolding pairByte
+  pair-first e = rw (eq-eqb _ _ e) refl
+
+  pub pair-second : i % 2 ≢ 0 → pairByte k i ≡ pairAt k (i / 2) .second
+  unfolding pairByte
+  pair-second d = rw (ne-eqb _ _ d) refl
+
+module _ (s : Session) (i : ℕ) where
+  pub front-model : i ≡ 0 → frontAt s i ≡ s .model
+  unfolding frontAt
+  front-model e = rw (eq-eqb i 0 e) refl
+
+  pub front-count : i ≡ 1 → frontAt s i ≡ s .stack .count
+  unfolding frontAt
+  front-count e = rw (ne-eqb i 0 (λ z. omega arith), eq-eqb i 1 e) refl
+
+  module _ (a : i ≢ 0) (b : i ≢ 1) where
+    pub front-pair : i < 2 + 2 * PAIRS → frontAt s i ≡ pairByte (s .stack) (i - 2)
+    unfolding frontAt
+    front-pair h = rw (ne-eqb i 0 a, ne-eqb i 1 b, lt-ltb i (2 + 2 * PAIRS) h) refl
+
+    pub front-word : 2 + 2 * PAIRS ≤ i → frontAt s i ≡ num (s .contradicted)
+    unfolding frontAt
+    front-word h = rw (ne-eqb i 0 a, ne-eqb i 1 b, le-ltb i (2 + 2 * PAIRS) h) refl
+
+module _ (s : Session) where
+  -- the two parts of a head
+  abbrev front : List ℕ
+  front = row (frontAt s) 0 FRONT
+
+  abbrev marks : List ℕ
+  marks = row (markAt (s .held)) 0 MARKS
+
+  pub head-long : length (headOf s) ≡ HEAD
+  unfolding headOf
+  head-long = length-append front marks ∙ ap₂ _+_ (row-long (frontAt s) 0 FRONT) (row-long (markAt (s .held)) 0 MARKS)
+
+  module _ (before mid last : List ℕ) (e : mid ≡ front ++ drop FRONT before) (q : last ≡ marks ++ drop MARKS (take (length mid - FRONT) (drop FRONT mid))) where
+    -- behind the front, all is lent for the marks
+    lent : last ++ drop (length mid - FRONT) (drop FRONT mid) ≡ marks ++ drop MARKS (drop FRONT mid)
+    lent =
+        let n : length (drop FRONT mid) ≤ length mid - FRONT = omega (arith, length-drop FRONT mid) in
+        ap₂ _++_ (q ∙ ap (λ (r : List ℕ). marks ++ drop MARKS r) (take-all (length mid - FRONT) (drop FRONT mid) n)) (drop-of-length-le (drop FRONT mid) {i = length mid - FRONT} n)
+        ∙ append-nil (marks ++ drop MARKS (drop FRONT mid))
+
+    pub laid : take FRONT mid ++ (last ++ drop (length mid - FRONT) (drop FRONT mid)) ≡ headOf s ++ drop HEAD before
+    unfolding headOf
+    laid =
+        ap₂ _++_
+        (ap (take FRONT) e ∙ take-at front (drop FRONT before) FRONT (row-long (frontAt s) 0 FRONT))
+        (lent ∙ ap (λ (r : List ℕ). marks ++ drop MARKS r) (ap (drop FRONT) e ∙ drop-at front (drop FRONT before) FRONT (row-long (frontAt s) 0 FRONT)))
+        ∙ ap (λ (r : List ℕ). front ++ (marks ++ r)) (drop-drop MARKS FRONT before)
+        ∙ sym (append-assoc front marks (drop HEAD before))
+
+  -- bytes that are as many as a head has are the head
+  pub laid-alone : (before last : List ℕ) → length before ≤ HEAD → last ≡ headOf s ++ drop HEAD before → last ≡ headOf s
+  laid-alone before last h q = q ∙ ap (λ (r : List ℕ). headOf s ++ r) (drop-of-length-le before {i = HEAD} h) ∙ append-nil (headOf s)

@@ -1,0 +1,38 @@
+-- What opening a session into lent bytes answers, and the bytes after it.
+--
+--   roomy text b        == the lent bytes have room for a head and the text
+--   openNumber text m   == what is wrong with the text, or with opening a session on its trace; 0 where it is opened
+--   openSession text m  == the session that is opened; that of the empty trace under model 1 where none is
+--   openAnswer text m b == what comes back for the bytes that are lent
+--   openBytes text m b  == what they hold then: head and text, or the head alone, and all else as it was
+use mathlib.Core.Bool.{Bool, cond}
+use mathlib.Core.List.{List, _++_}
+use Prim.Native.Nat.{ℕ, _+_}
+use lib.Dec.{eqb, leb}
+use lib.ListN.{length, drop}
+use Rattle.reader.specs.Read.{readText}
+use Rattle.session.specs.Session.{blank}
+use Rattle.session.specs.Entries.{openOf}
+use Rattle.session.specs.declared.Session.{Session}
+use Rattle.desk.specs.Answers.{NO-ROOM}
+use Rattle.desk.specs.Text.{numberOf}
+use Rattle.desk.specs.Head.{HEAD, headOf}
+use Rattle.desk.specs.Acts.{codeOf}
+
+abbrev pub roomy : List ℕ → List ℕ → Bool
+roomy text b = leb (HEAD + length text) (length b)
+
+unfoldable pub openNumber : List ℕ → ℕ → ℕ
+openNumber text m = cond (eqb (numberOf text) 0) (codeOf (openOf (readText text .trace) m .answer)) (numberOf text)
+
+unfoldable pub openSession : List ℕ → ℕ → Session
+openSession text m = cond (eqb (numberOf text) 0) (openOf (readText text .trace) m .session) blank
+
+unfoldable pub openAnswer : List ℕ → ℕ → List ℕ → ℕ
+openAnswer text m b = cond (roomy text b) (openNumber text m) NO-ROOM
+
+unfoldable pub openBytes : List ℕ → ℕ → List ℕ → List ℕ
+openBytes text m b =
+    cond (roomy text b)
+    (headOf (openSession text m) ++ cond (eqb (openNumber text m) 0) (text ++ drop (HEAD + length text) b) (drop HEAD b))
+    b

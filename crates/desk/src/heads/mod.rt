@@ -1,0 +1,156 @@
+// The head of a session in bytes: laid down, and its pairs read back.
+ghost use mathlib.Core.Path.{_≡_};
+ghost use mathlib.Core.Logic.{_↔_};
+ghost use mathlib.Core.Bool.{So};
+ghost use mathlib.Core.List.{_++_};
+ghost use Prim.Native.Nat.{_*_, _<_, _≤_};
+ghost use lib.ListN.{length, take, drop};
+ghost use Rattle.laws.specs.Sums.{num};
+ghost use Rattle.laws.specs.Warshall.{row};
+ghost use Rattle.session.specs.Bounds.{PAIRS};
+ghost use Rattle.session.specs.Session.{Intact};
+ghost use Rattle.desk.specs.Head.{FRONT, MARKS, HEAD, pairByte, frontAt, markAt, headOf};
+ghost use Rattle.desk.specs.Kept.{stackIn};
+use session::PAIRS;
+use session::Pair;
+use session::Session;
+use session::Stack;
+use trace::RECORDS;
+
+// How many bytes stand before the marks.
+const FRONT: usize = 2 + 2 * PAIRS + 1;
+
+// How many marks there are.
+const MARKS: usize = RECORDS * RECORDS;
+
+// How many bytes a head has.
+pub const HEAD: usize = FRONT + MARKS;
+
+fn wide(x: u8) -> usize
+    ensures { λ r. ⌜ r ≡ x ⌝ }
+{
+    x as usize
+}
+
+// A truth value as a byte.
+fn mark(b: bool) -> u8
+    ensures { λ r. ⌜ r ≡ num b ⌝ }
+{
+    if b {
+        return 1;
+    }
+    0
+}
+
+// Byte i of a session's pairs.
+fn pair_byte(s: Session, i: usize) -> u8
+    requires { ⌜ Intact s × (i < 2 * PAIRS) ⌝ }
+    ensures { λ r. ⌜ r ≡ pairByte (s .stack) i ⌝ }
+{
+    let k = s.stack;
+    let p = k.pairs[i / 2];
+    if i % 2 == 0 {
+        return p.first as u8;
+    }
+    p.second as u8
+}
+
+// Byte i of a session's front.
+fn front(s: Session, i: usize) -> u8
+    requires { ⌜ Intact s ⌝ }
+    ensures { λ r. ⌜ r ≡ frontAt s i ⌝ }
+{
+    if i == 0 {
+        return s.model;
+    }
+    if i == 1 {
+        let k = s.stack;
+        return k.count as u8;
+    }
+    if i < 2 + 2 * PAIRS {
+        return pair_byte(s, i - 2);
+    }
+    mark(s.contradicted)
+}
+
+// Lays the front of a session down.
+fn lay_front(s: Session, out: &mut [u8])
+    requires { ⌜ Intact s × (FRONT ≤ length (now out)) ⌝ }
+    ensures { λ r. ⌜ now (out .exit) ≡ row (frontAt s) 0 FRONT ++ drop FRONT (now (out .entry)) ⌝ }
+{
+    let mut i: usize = 0;
+    while i < FRONT {
+        out[i] = front(s, i);
+        i += 1;
+    }
+}
+
+// Lays the marks of a table down.
+fn lay_marks(held: &[u64], out: &mut [u8])
+    requires { ⌜ MARKS ≤ length (now out) ⌝ }
+    ensures { λ r. ⌜ now (out .exit) ≡ row (markAt (now (held .entry))) 0 MARKS ++ drop MARKS (now (out .entry)) ⌝ }
+{
+    let mut i: usize = 0;
+    while i < MARKS {
+        out[i] = mark(rows::test(held, i / RECORDS, i % RECORDS));
+        i += 1;
+    }
+}
+
+// Lays the head of a session down; what stands behind it stays.
+pub(crate) fn lay(s: Session, out: &mut [u8])
+    requires { ⌜ Intact s × (HEAD ≤ length (now out)) ⌝ }
+    ensures { λ r. ⌜ now (out .exit) ≡ headOf s ++ drop HEAD (now (out .entry)) ⌝ }
+{
+    lay_front(s, out);
+    let held = s.held;
+    lay_marks(&held, &mut out[FRONT..]);
+}
+
+// The pairs that the bytes of a session name.
+pub(crate) fn stack_in(bytes: &[u8]) -> Stack
+    requires { ⌜ HEAD ≤ length (now bytes) ⌝ }
+    ensures { λ r. ⌜ r ≡ stackIn (now (bytes .entry)) ⌝ }
+{
+    let mut pairs = [Pair {
+        first: 0,
+        second: 0,
+    }; PAIRS];
+    let mut i: usize = 0;
+    while i < PAIRS {
+        pairs[i] = Pair {
+            first: wide(bytes[2 + 2 * i]),
+            second: wide(bytes[3 + 2 * i]),
+        };
+        i += 1;
+    }
+    let count = wide(bytes[1]);
+    Stack { pairs, count }
+}
+
+// Whether two strings of bytes are the same.
+fn same(a: &[u8], b: &[u8]) -> bool
+    ensures { λ r. ⌜ So r ↔ (now (a .entry) ≡ now (b .entry)) ⌝ }
+{
+    if a.len() != b.len() {
+        return false;
+    }
+    let mut i: usize = 0;
+    while i < a.len() {
+        if a[i] != b[i] {
+            return false;
+        }
+        i += 1;
+    }
+    true
+}
+
+// Whether bytes begin with the head of a session.
+pub(crate) fn agrees(s: Session, bytes: &[u8]) -> bool
+    requires { ⌜ Intact s × (HEAD ≤ length (now bytes)) ⌝ }
+    ensures { λ r. ⌜ So r ↔ (headOf s ≡ take HEAD (now (bytes .entry))) ⌝ }
+{
+    let mut due = [0u8; HEAD];
+    lay(s, &mut due);
+    same(&due, &bytes[..HEAD])
+}

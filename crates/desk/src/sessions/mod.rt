@@ -1,0 +1,216 @@
+// The entries for a session in lent bytes: its head, then its trace's text. No bytes are believed: whatever opening and supposing do not make is
+// turned back as 12, and stays.
+ghost use mathlib.Core.Path.{_≡_};
+ghost use mathlib.Core.Bool.{false};
+ghost use mathlib.Core.List.{_++_};
+ghost use Prim.Native.Nat.{_≤_};
+ghost use lib.ListN.{length, drop};
+ghost use Rattle.session.specs.Session.{Intact, blank};
+ghost use Rattle.session.specs.Numbers.{reasonNumber, supposes, takesBack, asks};
+ghost use Rattle.desk.specs.Head.{HEAD, headOf};
+ghost use Rattle.desk.specs.Kept.{keptOf};
+ghost use Rattle.desk.specs.Acts.{codeOf, answerIn, bytesIn};
+ghost use Rattle.desk.specs.Opened.{openNumber, openSession, openAnswer, openBytes};
+use crate::answers::CONTRADICTED;
+use crate::answers::HELD;
+use crate::answers::NO_ROOM;
+use crate::answers::NOT_HELD;
+use crate::heads::HEAD;
+use crate::heads::agrees;
+use crate::heads::lay;
+use crate::heads::stack_in;
+use crate::texts::number_in;
+use reader::read;
+use session::Answer;
+use session::Reason;
+use session::Reply;
+use session::Session;
+use session::calls::afresh;
+use session::calls::ask;
+use session::calls::open;
+use session::calls::suppose;
+use session::calls::take_back;
+use text::room::put;
+
+// The model of the session that stands beside a refused opening.
+const SC: u8 = 1;
+
+// Document 01's number of a session that is not one.
+const UNLIKE: u8 = 12;
+
+// What lent bytes are: those of a session, or not, and then the session of the empty trace under model 1 stands beside it.
+struct Lent {
+    like: bool,
+    session: Session,
+}
+
+// What opening comes to, before there are bytes to hold it.
+struct Opened {
+    number: u8,
+    session: Session,
+}
+
+// Document 01's number of a call that is turned back.
+fn number(r: Reason) -> u8
+    ensures { λ n. ⌜ n ≡ reasonNumber r ⌝ }
+{
+    match r {
+        Reason::NoModel => 9,
+        Reason::NotWellFormed => 10,
+        Reason::Unlike => UNLIKE,
+        Reason::NoOperation => 13,
+        Reason::OneRecord => 14,
+        Reason::TooManyPairs => 15,
+        Reason::NoPair => 16,
+    }
+}
+
+// An answer as a number.
+fn code(a: Answer) -> u8
+    ensures { λ n. ⌜ n ≡ codeOf a ⌝ }
+{
+    match a {
+        Answer::Done => 0,
+        Answer::Held => HELD,
+        Answer::NotHeld => NOT_HELD,
+        Answer::Contradicted => CONTRADICTED,
+        Answer::NoSource(_) => 11,
+        Answer::Refused(r) => number(r),
+    }
+}
+
+// The session beside a refusal: that of the empty trace under model 1.
+fn blank() -> Session
+    ensures { λ r. ⌜ r ≡ blank ⌝ }
+{
+    let reply = open(trace::empty(), SC);
+    reply.session
+}
+
+// What bytes are that are those of no session.
+fn unlike() -> Lent
+    ensures { λ r. ⌜ (r .like ≡ false) × (r .session ≡ blank) ⌝ }
+{
+    let session = blank();
+    Lent {
+        like: false,
+        session,
+    }
+}
+
+// The session that lent bytes are, made afresh from their text, their model and their pairs, and held against them.
+fn kept(bytes: &[u8]) -> Lent
+    ensures { λ r. ⌜ r ≡ keptOf (now (bytes .entry)) ⌝ }
+{
+    if bytes.len() < HEAD {
+        return unlike();
+    }
+    let reading = read(&bytes[HEAD..]);
+    let told = reading.answer;
+    if number_in(told) != 0 {
+        return unlike();
+    }
+    let reply = afresh(reading.trace, bytes[0], stack_in(bytes));
+    let answer = reply.answer;
+    if code(answer) != 0 {
+        return unlike();
+    }
+    let session = reply.session;
+    if !agrees(session, bytes) {
+        return unlike();
+    }
+    Lent {
+        like: true,
+        session,
+    }
+}
+
+// The session after a call, laid over the one before it, and the answer.
+fn leave(reply: Reply, session: &mut [u8]) -> u8
+    requires { ⌜ Intact (reply .session) × (HEAD ≤ length (now session)) ⌝ }
+    ensures { λ r. ⌜ (r ≡ codeOf (reply .answer)) × (now (session .exit) ≡ headOf (reply .session) ++ drop HEAD (now (session .entry))) ⌝ }
+{
+    lay(reply.session, session);
+    let answer = reply.answer;
+    code(answer)
+}
+
+// What opening a session on a text's trace comes to: the text's own number first.
+fn opening(text: &[u8], model: u8) -> Opened
+    ensures { λ r. ⌜ (r .number ≡ openNumber (now (text .entry)) model) × (r .session ≡ openSession (now (text .entry)) model) ⌝ }
+{
+    let reading = read(text);
+    let told = reading.answer;
+    let number = number_in(told);
+    if number != 0 {
+        let session = blank();
+        return Opened { number, session };
+    }
+    let reply = open(reading.trace, model);
+    let answer = reply.answer;
+    let session = reply.session;
+    Opened {
+        number: code(answer),
+        session,
+    }
+}
+
+// Opens a session with no pairs into lent bytes: 0, and its head and the text; or why not, and the head of the session of the empty text under
+// model 1. All other bytes stay.
+#[no_mangle]
+pub extern "C" fn wheelotter_open(text: &[u8], model: u8, session: &mut [u8]) -> u8
+    ensures { λ r. ⌜ (r ≡ openAnswer (now (text .entry)) model (now (session .entry))) × (now (session .exit) ≡ openBytes (now (text .entry)) model (now (session .entry))) ⌝ }
+{
+    if session.len() < HEAD {
+        return NO_ROOM;
+    }
+    if session.len() - HEAD < text.len() {
+        return NO_ROOM;
+    }
+    let o = opening(text, model);
+    let number = o.number;
+    lay(o.session, session);
+    if number != 0 {
+        return number;
+    }
+    put(text, session, HEAD);
+    0
+}
+
+// Supposes x before y in a session in bytes.
+#[no_mangle]
+pub extern "C" fn wheelotter_suppose(session: &mut [u8], x: usize, y: usize) -> u8
+    ensures { λ r. ⌜ (r ≡ answerIn (now (session .entry)) (supposes x y)) × (now (session .exit) ≡ bytesIn (now (session .entry)) (supposes x y)) ⌝ }
+{
+    let found = kept(session);
+    if !found.like {
+        return UNLIKE;
+    }
+    leave(suppose(found.session, x, y), session)
+}
+
+// Takes the latest pair back in a session in bytes.
+#[no_mangle]
+pub extern "C" fn wheelotter_take_back(session: &mut [u8]) -> u8
+    ensures { λ r. ⌜ (r ≡ answerIn (now (session .entry)) takesBack) × (now (session .exit) ≡ bytesIn (now (session .entry)) takesBack) ⌝ }
+{
+    let found = kept(session);
+    if !found.like {
+        return UNLIKE;
+    }
+    leave(take_back(found.session), session)
+}
+
+// Whether x before y is held in a session in bytes.
+#[no_mangle]
+pub extern "C" fn wheelotter_ask(session: &[u8], x: usize, y: usize) -> u8
+    ensures { λ r. ⌜ r ≡ answerIn (now (session .entry)) (asks x y) ⌝ }
+{
+    let found = kept(session);
+    if !found.like {
+        return UNLIKE;
+    }
+    let reply = ask(found.session, x, y);
+    let answer = reply.answer;
+    code(answer)
+}

@@ -1,0 +1,69 @@
+-- Every session that is handed back is intact, and a call changes neither its trace nor its model.
+--
+--   blank-intact, blank-opened == the session beside a refusal, which is that of an opening too
+--   made-intact   == one made afresh from its parts
+--   opened-intact == one beside any opening
+--   act-intact, act-trace == one after a call on an intact session
+use mathlib.Core.Path.{_≡_, refl, sym, ap, _∙_, subst}
+use mathlib.Core.Logic.{inl, inr}
+use mathlib.Core.Bool.{_&&_}
+use mathlib.Core.List.{[]}
+use Prim.Native.Nat.{ℕ}
+use Rattle.laws.proofs.Tests.{test, and-iff, same-iff}
+use Rattle.trace.specs.Trace.{empty}
+use Rattle.trace.specs.declared.Trace.{Trace}
+use Rattle.pairs.specs.Kept.{SC}
+use Rattle.session.specs.Stack.{standing, stands}
+use Rattle.session.specs.Opening.{openable}
+use Rattle.session.specs.Session.{afresh, Intact, blank}
+use Rattle.session.specs.Entries.{openOf, afreshOf}
+use Rattle.session.specs.Numbers.{Act, replyOf}
+use Rattle.session.specs.Calls.{kept}
+use Rattle.session.specs.declared.Stack.{Stack}
+use Rattle.session.specs.declared.Session.{Session}
+use Rattle.session.specs.declared.Reply.{Reply}
+use Rattle.session.proofs.Pairs.{stands-iff, stands-allowed, none-allowed}
+use Rattle.session.proofs.Openings.{empty-opens}
+use Rattle.session.proofs.Sessions.{intact-iff, afresh-intact}
+use Rattle.session.proofs.Answering.{afresh-done, afresh-unlike}
+use Rattle.session.proofs.Standing.{kept-allowed, act-kept, opened, open-blank}
+
+-- the session of a reply
+abbrev left : Reply → Session
+left r = r .session
+
+pub blank-intact : Intact blank
+blank-intact = intact-iff blank .0 (afresh-intact empty SC [] empty-opens (none-allowed empty))
+
+pub blank-opened : openOf empty SC .session ≡ blank
+blank-opened = opened empty SC empty-opens
+
+pub made-intact : (t : Trace) (m : ℕ) (k : Stack) → Intact (afreshOf t m k .session)
+made-intact t m k = elim (test (openable t m && stands t k)) [
+  | inl d ↦
+      let p = and-iff same-iff (stands-iff t k) .0 d in
+      subst (λ (s : Session). Intact s) (ap left (afresh-done t m k d (afresh t m (standing k)) refl))
+      (intact-iff (afresh t m (standing k)) .0 (afresh-intact t m (standing k) (p .0) (stands-allowed t k (p .1))))
+  | inr n ↦ subst (λ (s : Session). Intact s) (ap left (afresh-unlike t m k n blank refl)) blank-intact
+]
+
+pub opened-intact : (t : Trace) (m : ℕ) → Intact (openOf t m .session)
+opened-intact t m = elim (test (openable t m)) [
+  | inl o ↦ subst (λ (s : Session). Intact s) (sym (opened t m o)) (intact-iff (afresh t m []) .0 (afresh-intact t m [] o (none-allowed t)))
+  | inr n ↦ subst (λ (s : Session). Intact s) (sym (open-blank t m n)) blank-intact
+]
+
+module _ (s : Session) (i : Intact s) (a : Act) where
+  -- the session after the call, made afresh
+  act-again : replyOf s a .session ≡ afresh (s .trace) (s .model) (kept (s .trace) (standing (s .stack)) a)
+  act-again = ap (λ x. replyOf x a .session) (i .same) ∙ act-kept (s .trace) (s .model) (i .opens) (standing (s .stack)) (i .allowed) a
+
+  pub act-intact : Intact (replyOf s a .session)
+  act-intact =
+      let ps = kept (s .trace) (standing (s .stack)) a in
+      subst (λ (x : Session). Intact x) (sym act-again)
+      (intact-iff (afresh (s .trace) (s .model) ps) .0 (afresh-intact (s .trace) (s .model) ps (i .opens) (kept-allowed (s .trace) (standing (s .stack)) (i .allowed) a)))
+
+  pub act-trace : replyOf s a .session .trace ≡ s .trace
+  unfolding afresh
+  act-trace = ap (λ x. x .trace) act-again
