@@ -1,16 +1,106 @@
-/* Reads a trace from standard input, prints the answer to it, and has the order 1 2 3 0 judged under each model. */
+/* Reads a trace from standard input. Prints the answer to it, what is wrong with it and where, the verdict in numbers under each model, whether
+ * 1 2 3 0 is an order, and a short talk with a session under TSO. */
 #include "wheelotter.h"
 
 #include <stdio.h>
 
-int main(void) {
-    static uint8_t text[8193];
-    size_t len = fread(text, 1, sizeof text, stdin);
+static uint8_t text[8193];
+static size_t text_len;
+
+static void print_list(const uint8_t *list, size_t len) {
+    for (size_t i = 0; i < len; i++) {
+        printf(" %u", list[i]);
+    }
+}
+
+static void print_answer(void) {
     uint8_t out[WHEELOTTER_REPORT];
-    fwrite(out, 1, wheelotter_report(text, len, out, sizeof out), stdout);
-    printf("number %u, line %zu\n", wheelotter_number(text, len), wheelotter_line(text, len));
+    fwrite(out, 1, wheelotter_report(text, text_len, out, sizeof out), stdout);
+}
+
+/* The bad line is a part of our own text: nothing is copied. */
+static void print_bad_line(void) {
+    uint8_t number = wheelotter_number(text, text_len);
+    if (number == WHEELOTTER_DONE) {
+        printf("the text is good\n");
+        return;
+    }
+    size_t start = wheelotter_start(text, text_len), end = wheelotter_end(text, text_len);
+    printf("number %u on line %zu, bytes %zu to %zu: ", number, wheelotter_line(text, text_len), start, end);
+    fwrite(text + start, 1, end - start, stdout);
+    printf("\n");
+}
+
+static void print_verdict(uint8_t model) {
+    uint8_t out[WHEELOTTER_VERDICT];
+    uint8_t answer = wheelotter_verdict(text, text_len, model, out, sizeof out);
+    printf("model %u: ", model);
+    switch (answer) {
+    case WHEELOTTER_ORDER:
+        printf("order");
+        print_list(out + WHEELOTTER_OPERATIONS, out[0]);
+        break;
+    case WHEELOTTER_CIRCLE:
+        printf("circle");
+        print_list(out + WHEELOTTER_OPERATIONS, out[0]);
+        printf(" by");
+        print_list(out + WHEELOTTER_RULES, out[0]);
+        break;
+    case WHEELOTTER_NO_SOURCE:
+        printf("no source %u", out[WHEELOTTER_OPERATIONS]);
+        break;
+    case WHEELOTTER_NONE_LEFT:
+        printf("none left");
+        break;
+    default:
+        printf("refused %u", answer);
+    }
     const uint8_t list[] = {1, 2, 3, 0};
-    printf("1 2 3 0 under SC: %s\n", wheelotter_judge(text, len, WHEELOTTER_SC, list, sizeof list) ? "yes" : "no");
-    printf("1 2 3 0 under TSO: %s\n", wheelotter_judge(text, len, WHEELOTTER_TSO, list, sizeof list) ? "yes" : "no");
+    printf("; is 1 2 3 0 an order: %s\n", wheelotter_judge(text, text_len, model, list, sizeof list) ? "yes" : "no");
+}
+
+static const char *word(uint8_t answer) {
+    switch (answer) {
+    case WHEELOTTER_DONE:
+        return "done";
+    case WHEELOTTER_HELD:
+        return "held";
+    case WHEELOTTER_NOT_HELD:
+        return "not held";
+    case WHEELOTTER_CONTRADICTED:
+        return "contradicted";
+    default:
+        return "refused";
+    }
+}
+
+/* Supposes 0 before 1, then 2 before 3, takes both back, and looks each time whether 3 before 2 is held. */
+static void talk(void) {
+    static uint8_t session[WHEELOTTER_HEAD + sizeof text];
+    size_t len = WHEELOTTER_HEAD + text_len;
+    uint8_t opened = wheelotter_open(text, text_len, WHEELOTTER_TSO, session, len);
+    printf("open: %s\n", word(opened));
+    if (opened != WHEELOTTER_DONE) {
+        return;
+    }
+    printf("ask 3 2: %s\n", word(wheelotter_ask(session, len, 3, 2)));
+    printf("suppose 0 1: %s\n", word(wheelotter_suppose(session, len, 0, 1)));
+    printf("ask 3 2: %s\n", word(wheelotter_ask(session, len, 3, 2)));
+    printf("suppose 2 3: %s\n", word(wheelotter_suppose(session, len, 2, 3)));
+    printf("ask 3 2: %s\n", word(wheelotter_ask(session, len, 3, 2)));
+    printf("take back: %s\n", word(wheelotter_take_back(session, len)));
+    printf("ask 3 2: %s\n", word(wheelotter_ask(session, len, 3, 2)));
+    printf("take back: %s\n", word(wheelotter_take_back(session, len)));
+    printf("ask 3 2: %s\n", word(wheelotter_ask(session, len, 3, 2)));
+    printf("take back: %s\n", word(wheelotter_take_back(session, len)));
+}
+
+int main(void) {
+    text_len = fread(text, 1, sizeof text, stdin);
+    print_answer();
+    print_bad_line();
+    print_verdict(WHEELOTTER_SC);
+    print_verdict(WHEELOTTER_TSO);
+    talk();
     return 0;
 }

@@ -2,9 +2,8 @@
 //!
 //!     bench count CASES [SEED]     placements, by the same search in Rust (search.rs)
 //!     bench time CASES [SEED]      milliseconds a text, reading and printing included
-//!     bench compare CASES [SEED]   the proved library and the second program on the same texts, in one process
 //!
-//! The last two need the feature `linked`; bench/run builds with it.
+//! The second needs the feature `linked`; bench/run builds with it. second/entries compares the library with the second program.
 
 mod closing;
 mod search;
@@ -24,8 +23,7 @@ fn main() {
     match words.get(1).map(String::as_str) {
         Some("count") => count(cases, seed),
         Some("time") => timing::time(cases, seed),
-        Some("compare") => timing::compare(cases, seed),
-        _ => eprintln!("usage: bench count|time|compare CASES [SEED]"),
+        _ => eprintln!("usage: bench count|time CASES [SEED]"),
     }
 }
 

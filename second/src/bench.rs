@@ -1,8 +1,9 @@
 //! The whole output of the program at the bench.
 
-use crate::reader::{self, MOST_TEXT};
+use crate::desk::Page;
+use crate::reader::{Refusal, MOST_TEXT};
 use crate::trace::Model;
-use crate::verdict::{verdict, Verdict};
+use crate::verdict::Verdict;
 use std::io::{self, Read};
 
 /// What a line says where this program does not know; the document has no such line.
@@ -16,16 +17,15 @@ pub fn standard_input() -> io::Result<Vec<u8>> {
 }
 
 pub fn output(text: &[u8], most_steps: u64) -> String {
-    match reader::read(text) {
-        Err(refusal) => format!("refused {} line {}\n", refusal.number, refusal.line),
-        Ok(trace) => [1, 2]
-            .map(|model| {
-                let verdict = verdict(&trace, model, most_steps).expect("the reader gives well formed traces");
-                let name = Model::numbered(model).expect("1 and 2 are models").name();
-                format!("{name}: {}\n", told(&verdict))
-            })
-            .concat(),
-    }
+    Page::new(text, most_steps).output()
+}
+
+pub fn refused(refusal: &Refusal<'_>) -> String {
+    format!("refused {} line {}\n", refusal.number, refusal.line)
+}
+
+pub fn line(model: Model, verdict: &Verdict) -> String {
+    format!("{}: {}\n", model.name(), told(verdict))
 }
 
 fn told(verdict: &Verdict) -> String {

@@ -12,7 +12,7 @@ pub struct Family {
     pub draw: fn(&mut Chance) -> Vec<u8>,
 }
 
-pub const FAMILIES: [Family; 16] = [
+pub const FAMILIES: [Family; 17] = [
     Family { name: "stated", what: "the traces of document 01, in other text orders too", draw: runs::stated },
     Family { name: "sc", what: "runs of a simulated SC machine", draw: runs::sc },
     Family { name: "tso", what: "runs of a simulated TSO machine", draw: runs::tso },
@@ -28,6 +28,11 @@ pub const FAMILIES: [Family; 16] = [
     Family { name: "ranks", what: "a line to which several numbers apply, often as the 65th record", draw: texts::ranks },
     Family { name: "sizes", what: "80 and 81 bytes, 64 and 65 records, 8,192 and 8,193 bytes", draw: texts::sizes },
     Family { name: "damaged", what: "a good text with one to three bytes put in, taken out or changed", draw: texts::damaged },
+    Family {
+        name: "edges-damaged",
+        what: "a text at a number's edge with one byte put in, taken out or changed",
+        draw: texts::edges_damaged,
+    },
     Family { name: "bytes", what: "random bytes, and random pieces of the forms", draw: texts::bytes },
 ];
 

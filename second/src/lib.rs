@@ -12,14 +12,17 @@
 //! | `verdict` | the verdict, numbers 9 and 10 |
 //! | `session` | suppose, take back, ask, numbers 9 to 16 |
 //! | `bench` | the output of the program at the bench |
-//! | `chance`, `machine`, `families`, `script` | texts and session words to compare on (these are ours, not the document's) |
+//! | `desk` | the entries of the library, in bytes (their form is ours; what they say is the document's) |
+//! | `chance`, `machine`, `families`, `script`, `plan` | texts and session words to compare on (these are ours, not the document's) |
 //! | `stated` | the document's own traces with the outputs it states |
 
 pub mod bench;
 pub mod chance;
+pub mod desk;
 pub mod families;
 pub mod machine;
 pub mod orders;
+pub mod plan;
 pub mod reader;
 pub mod rules;
 pub mod script;

@@ -5,39 +5,46 @@ use crate::trace::{within_bounds, Record, Trace, BEGINNING, MOST_RECORDS};
 pub const MOST_TEXT: usize = 8_192;
 pub const MOST_LINE: usize = 80;
 
-/// The part is borrowed from the caller's text, never a copy of it.
+/// The part is borrowed from the caller's text, never a copy of it. It begins at `start`, which is 0 where no line is to blame.
 #[derive(Clone, Copy, Debug, PartialEq, Eq)]
 pub struct Refusal<'a> {
     pub number: u8,
     pub line: usize,
+    pub start: usize,
     pub part: &'a [u8],
 }
 
 pub fn read(text: &[u8]) -> Result<Trace, Refusal<'_>> {
     if text.len() > MOST_TEXT {
-        return Err(Refusal { number: 1, line: 0, part: &[] });
+        return Err(Refusal { number: 1, line: 0, start: 0, part: &[] });
     }
     let mut records: Vec<Record> = Vec::new();
     for (above, line) in lines(text).into_iter().enumerate() {
         match read_line(&line, &records) {
             Ok(record) => records.push(record),
-            Err(number) => return Err(Refusal { number, line: above + 1, part: line.part }),
+            Err(number) => return Err(Refusal { number, line: above + 1, start: line.start, part: line.part }),
         }
     }
     Ok(Trace::of(&records))
 }
 
 struct Line<'a> {
+    start: usize,
     part: &'a [u8],
     has_feed: bool,
 }
 
 /// Every feed ends a line; bytes after the last feed are one more line, that has none. No bytes there: no line.
 fn lines(text: &[u8]) -> Vec<Line<'_>> {
+    let mut above = 0;
     text.split_inclusive(|&byte| byte == b'\n')
-        .map(|piece| match piece.strip_suffix(b"\n") {
-            Some(part) => Line { part, has_feed: true },
-            None => Line { part: piece, has_feed: false },
+        .map(|piece| {
+            let start = above;
+            above += piece.len();
+            match piece.strip_suffix(b"\n") {
+                Some(part) => Line { start, part, has_feed: true },
+                None => Line { start, part: piece, has_feed: false },
+            }
         })
         .collect()
 }

@@ -1,6 +1,6 @@
 //! The edges that the rules force, as plain sets of pairs.
 
-use crate::trace::{kept, Model, Trace, BEGINNING};
+use crate::trace::{kept, Model, Trace, BEGINNING, MOST_RECORDS};
 use std::collections::{BTreeMap, BTreeSet};
 
 pub type Pair = (usize, usize);
@@ -139,18 +139,41 @@ fn other_writers(trace: &Trace, load: usize, source: Option<usize>) -> Vec<usize
     (0..trace.count).filter(|&w| trace.writes_to(w, address) && w != load && Some(w) != source).collect()
 }
 
-/// Joins chains with edges until nothing is added. Each chain that is new is joined once with every edge that begins where it ends.
-pub fn chains(edges: &Edges) -> Pairs {
-    let mut all: Pairs = edges.keys().copied().collect();
-    let mut fresh: Vec<Pair> = all.iter().copied().collect();
-    while let Some((x, y)) = fresh.pop() {
-        for (&(_, z), _) in edges.range((y, 0)..=(y, usize::MAX)) {
-            if all.insert((x, z)) {
-                fresh.push((x, z));
-            }
+/// For each operation that an edge leads from, those that its edges lead to, lowest first.
+type Followers = Vec<(usize, Vec<usize>)>;
+
+fn followers(edges: &Edges) -> Followers {
+    let mut all = Followers::new();
+    for &(x, y) in edges.keys() {
+        match all.last_mut() {
+            Some((last, ends)) if *last == x => ends.push(y),
+            _ => all.push((x, vec![y])),
         }
     }
     all
+}
+
+/// A set of operations, as a mark for each.
+type Marks = [bool; MOST_RECORDS];
+
+/// A chain leads from x to whatever can be walked to from x: from each end that is new, the walk goes on along every edge.
+pub fn chains(edges: &Edges) -> Pairs {
+    let followers = followers(edges);
+    let mut ends: [&[usize]; MOST_RECORDS] = [&[]; MOST_RECORDS];
+    followers.iter().for_each(|(x, next)| ends[*x] = next);
+    let mut all = Vec::new();
+    for (x, first) in &followers {
+        let mut reached: Marks = [false; MOST_RECORDS];
+        let mut fresh = first.clone();
+        while let Some(y) = fresh.pop() {
+            if !reached[y] {
+                reached[y] = true;
+                fresh.extend(ends[y]);
+            }
+        }
+        all.extend((0..MOST_RECORDS).filter(|&y| reached[y]).map(|y| (*x, y)));
+    }
+    Pairs::from_iter(all)
 }
 
 /// The shortest circle; written from its lowest number; of several the first in dictionary order.
@@ -160,34 +183,43 @@ pub fn chains(edges: &Edges) -> Pairs {
 /// lowest operation from which s is still reached in just the steps that are left. (A closed walk of the shortest length names no
 /// operation twice, or a shorter one would be inside it.)
 pub fn first_shortest_circle(edges: &Edges) -> Option<Vec<usize>> {
-    let starts: BTreeSet<usize> = edges.keys().map(|&(x, _)| x).collect();
-    let reaches: Vec<(usize, Vec<BTreeSet<usize>>)> = starts.iter().map(|&s| (s, reaching(edges, s))).collect();
-    let shortest = reaches.iter().filter_map(|(s, steps)| shortest_return(*s, steps)).min()?;
-    let (start, steps) = reaches.iter().find(|(s, steps)| shortest_return(*s, steps) == Some(shortest))?;
-    let mut list = vec![*start];
-    for left in (1..shortest).rev() {
+    let followers = followers(edges);
+    let mut best: Option<(usize, Vec<Marks>)> = None;
+    for &(s, _) in &followers {
+        // A later start counts only where it comes back sooner.
+        let most = best.as_ref().map_or(MOST_RECORDS, |(_, steps)| steps.len() - 1);
+        if let Some(steps) = returning(&followers, s, most) {
+            best = Some((s, steps));
+        }
+    }
+    let (start, steps) = best?;
+    let mut list = vec![start];
+    for left in (1..steps.len()).rev() {
         let here = list[list.len() - 1];
-        let next = edges.range((here, 0)..=(here, usize::MAX)).map(|(&(_, y), _)| y).find(|y| steps[left].contains(y))?;
+        let next = edges.range((here, 0)..=(here, usize::MAX)).map(|(&(_, y), _)| y).find(|&y| steps[left][y])?;
         list.push(next);
     }
     Some(list)
 }
 
-/// Entry n: the operations from which some walk of exactly n edges ends in s. Walks longer than the number of operations are not needed.
-fn reaching(edges: &Edges, s: usize) -> Vec<BTreeSet<usize>> {
-    let most = edges.keys().flat_map(|&(x, y)| [x, y]).collect::<BTreeSet<_>>().len();
-    let mut steps = vec![BTreeSet::from([s])];
-    for n in 0..most {
-        let before = edges.keys().filter(|(_, y)| steps[n].contains(y)).map(|&(x, _)| x).collect::<BTreeSet<_>>();
-        let done = before.is_empty() || before.contains(&s);
-        steps.push(before);
-        if done {
-            break;
+/// Entry n: the operations from which some walk of exactly n edges ends in s; one entry for each n below the length of the shortest walk
+/// from s to s. None where that walk would have more than `most` edges.
+fn returning(followers: &Followers, s: usize, most: usize) -> Option<Vec<Marks>> {
+    let mut steps = vec![[false; MOST_RECORDS]];
+    steps[0][s] = true;
+    while steps.len() <= most {
+        let after = &steps[steps.len() - 1];
+        let mut before: Marks = [false; MOST_RECORDS];
+        for (x, ends) in followers {
+            before[*x] = ends.iter().any(|&y| after[y]);
         }
+        if before[s] {
+            return Some(steps);
+        }
+        if !before.contains(&true) {
+            return None;
+        }
+        steps.push(before);
     }
-    steps
-}
-
-fn shortest_return(s: usize, steps: &[BTreeSet<usize>]) -> Option<usize> {
-    (1..steps.len()).find(|&n| steps[n].contains(&s))
+    None
 }

@@ -67,11 +67,68 @@ pub fn take_back(session: &Session) -> Result<Session, NotDone> {
 pub fn ask(session: &Session, x: usize, y: usize) -> Result<Answer, NotDone> {
     let asked = sound(session).and_then(|_| good_pair(&session.trace, x, y));
     asked.map_err(|number| (number, session.clone()))?;
-    Ok(match (session.contradicted, session.held.contains(&(x, y))) {
+    Ok(answer(session, x, y))
+}
+
+/// A session that was opened here and that nobody else can touch: no call has to make it anew to see that it is sound, and what stood
+/// before each pair is still there. The answers are those of the functions above, for less work.
+#[derive(Clone, Debug)]
+pub struct Talk {
+    kind: Model,
+    /// With no pair, with the first pair, with the first two, and so on; never empty.
+    stages: Vec<Session>,
+}
+
+impl Talk {
+    pub fn open(trace: &Trace, model: u64) -> Result<Talk, NotOpened> {
+        let opened = open(trace, model)?;
+        let kind = Model::numbered(model).expect("it was opened under a model");
+        Ok(Talk { kind, stages: vec![opened] })
+    }
+
+    /// The session beside a refused opening.
+    pub fn of_nothing() -> Talk {
+        Talk::open(&Trace::empty(), 1).expect("the empty trace opens")
+    }
+
+    pub fn session(&self) -> &Session {
+        &self.stages[self.stages.len() - 1]
+    }
+
+    pub fn suppose(&mut self, x: usize, y: usize) -> Result<(), u8> {
+        let session = self.session();
+        good_pair(&session.trace, x, y)?;
+        if session.pairs.len() == MOST_PAIRS {
+            return Err(15);
+        }
+        let pairs = [&session.pairs[..], &[(x, y)]].concat();
+        let next = anew(&session.trace, self.kind, session.model, &pairs);
+        self.stages.push(next);
+        Ok(())
+    }
+
+    pub fn take_back(&mut self) -> Result<(), u8> {
+        if self.stages.len() == 1 {
+            return Err(16);
+        }
+        self.stages.pop();
+        Ok(())
+    }
+
+    pub fn ask(&self, x: usize, y: usize) -> Result<Answer, u8> {
+        let session = self.session();
+        good_pair(&session.trace, x, y)?;
+        Ok(answer(session, x, y))
+    }
+}
+
+/// From the table, for good numbers.
+fn answer(session: &Session, x: usize, y: usize) -> Answer {
+    match (session.contradicted, session.held.contains(&(x, y))) {
         (true, _) => Answer::Contradicted,
         (false, true) => Answer::Held,
         (false, false) => Answer::NotHeld,
-    })
+    }
 }
 
 /// Only for a trace, a model and pairs that are good.

@@ -1,19 +1,75 @@
-//! Reads a trace from standard input, prints the answer to it, and has the order 1 2 3 0 judged under each model.
+//! Reads a trace from standard input. Prints the answer to it, what is wrong with it and where, the verdict in numbers under each model, whether
+//! 1 2 3 0 is an order, and a short talk with a session under TSO.
 
 use std::io::{self, Read};
-use wheelotter::{check, judge, report, Model};
+use wheelotter::{check, judge, report, verdict, Answer, Asked, Model, Session, Verdict};
 
 fn main() -> io::Result<()> {
     let mut text = Vec::new();
     io::stdin().read_to_end(&mut text)?;
     print!("{}", report(&text));
-    match check(&text) {
-        Ok(()) => println!("number 0, line 0"),
-        Err(refusal) => println!("number {}, line {}", refusal.number, refusal.line),
-    }
-    for (name, model) in [("SC", Model::Sc), ("TSO", Model::Tso)] {
-        let yes = judge(&text, model, &[1, 2, 3, 0]);
-        println!("1 2 3 0 under {name}: {}", if yes { "yes" } else { "no" });
+    print_bad_line(&text);
+    print_verdict(&text, Model::Sc);
+    print_verdict(&text, Model::Tso);
+    match Session::open(&text, Model::Tso) {
+        Err(_) => println!("open: refused"),
+        Ok(session) => {
+            println!("open: done");
+            talk(session);
+        }
     }
     Ok(())
+}
+
+/// The bad line is a part of our own text: nothing is copied.
+fn print_bad_line(text: &[u8]) {
+    match check(text) {
+        Ok(()) => println!("the text is good"),
+        Err(refusal) => {
+            let start = refusal.part.as_ptr() as usize - text.as_ptr() as usize;
+            let part = String::from_utf8_lossy(refusal.part);
+            let end = start + refusal.part.len();
+            println!("number {} on line {}, bytes {start} to {end}: {part}", refusal.answer as u8, refusal.line);
+        }
+    }
+}
+
+fn print_verdict(text: &[u8], model: Model) {
+    let list = |numbers: &[u8]| numbers.iter().map(|number| format!(" {number}")).collect::<String>();
+    let told = match verdict(text, model) {
+        Ok(Verdict::Order(operations)) => format!("order{}", list(&operations)),
+        Ok(Verdict::Circle { operations, rules }) => format!("circle{} by{}", list(&operations), list(&rules)),
+        Ok(Verdict::NoSource(load)) => format!("no source {load}"),
+        Ok(Verdict::NoneLeft) => "none left".to_string(),
+        Err(refusal) => format!("refused {}", refusal.answer as u8),
+    };
+    let yes = judge(text, model, &[1, 2, 3, 0]);
+    println!("model {}: {told}; is 1 2 3 0 an order: {}", model as u8, if yes { "yes" } else { "no" });
+}
+
+fn done(answer: Result<(), Answer>) -> &'static str {
+    answer.map_or("refused", |()| "done")
+}
+
+fn asked(answer: Result<Asked, Answer>) -> &'static str {
+    match answer {
+        Ok(Asked::Held) => "held",
+        Ok(Asked::NotHeld) => "not held",
+        Ok(Asked::Contradicted) => "contradicted",
+        Err(_) => "refused",
+    }
+}
+
+/// Supposes 0 before 1, then 2 before 3, takes both back, and looks each time whether 3 before 2 is held.
+fn talk(mut session: Session) {
+    println!("ask 3 2: {}", asked(session.ask(3, 2)));
+    println!("suppose 0 1: {}", done(session.suppose(0, 1)));
+    println!("ask 3 2: {}", asked(session.ask(3, 2)));
+    println!("suppose 2 3: {}", done(session.suppose(2, 3)));
+    println!("ask 3 2: {}", asked(session.ask(3, 2)));
+    println!("take back: {}", done(session.take_back()));
+    println!("ask 3 2: {}", asked(session.ask(3, 2)));
+    println!("take back: {}", done(session.take_back()));
+    println!("ask 3 2: {}", asked(session.ask(3, 2)));
+    println!("take back: {}", done(session.take_back()));
 }

@@ -1,10 +1,24 @@
-//! Wheelotter for Rust: safe functions over libdesk.a, which `bindings/build` makes. Tell the linker where it is:
-//! `RUSTFLAGS="-L native=DIR"`.
+//! Wheelotter for Rust: safe functions over libdesk.a, which `bindings/build DIR` makes. Say where it is: `WHEELOTTER_LIBRARY=DIR`, an absolute
+//! path, when cargo is called.
 //!
-//! Any bytes may be handed in; docs/GUIDE.md explains the answers and the numbers.
+//! Any bytes may be handed in; docs/GUIDE.md explains the answers and the numbers. The functions here speak in Rust's types; [`entries`] has the
+//! library's own, which take any memory, any model and any session that the caller lends.
 
-/// A buffer of this many bytes holds any answer.
-const REPORT: usize = 1116;
+pub mod entries;
+
+use std::fmt;
+
+/// A buffer of this many bytes holds any answer in words.
+pub const REPORT: usize = 1116;
+
+/// A verdict in bytes: how many operations it names, the operations, the rules.
+pub const VERDICT: usize = 1 + 2 * RECORDS;
+
+/// What stands in a session before its text.
+pub const HEAD: usize = 4131;
+
+/// A trace has at most so many records.
+const RECORDS: usize = 64;
 
 /// What orders a memory may show.
 #[derive(Clone, Copy, Debug, PartialEq, Eq)]
@@ -13,42 +27,185 @@ pub enum Model {
     Tso = 2,
 }
 
-/// Why a text is turned back: the number, 1 to 8, and the line, counted from 1, or 0 where no line is to blame.
+/// One table of answers for every entry; its numbers up to 16 are those of docs/GUIDE.md. (10 is for traces that were not read from a text: no
+/// entry gives it.)
 #[derive(Clone, Copy, Debug, PartialEq, Eq)]
-pub struct Refusal {
-    pub number: u8,
+pub enum Answer {
+    /// The text is good; or opened, supposed, taken back.
+    Done = 0,
+    LongText = 1,
+    LongLine = 2,
+    NoForm = 3,
+    PastBound = 4,
+    TwoAddresses = 5,
+    ZeroWritten = 6,
+    ManyRecords = 7,
+    WrittenBefore = 8,
+    NoModel = 9,
+    /// Somebody reads what nobody wrote: a verdict, and no session is opened.
+    NoSource = 11,
+    /// The bytes are not a session that opening and supposing make.
+    NoSession = 12,
+    /// A fence, or past the end.
+    NoOperation = 13,
+    SameTwice = 14,
+    ManyPairs = 15,
+    NoPair = 16,
+    /// The lent memory is too short, and stays as it was.
+    NoRoom = 17,
+    Order = 18,
+    Circle = 19,
+    NoneLeft = 20,
+    Held = 21,
+    NotHeld = 22,
+    Contradicted = 23,
+}
+
+// In the order of their numbers.
+#[rustfmt::skip]
+const ANSWERS: [Answer; 23] = {
+    use Answer::*;
+    [
+        Done, LongText, LongLine, NoForm, PastBound, TwoAddresses, ZeroWritten, ManyRecords, WrittenBefore, NoModel, NoSource, NoSession,
+        NoOperation, SameTwice, ManyPairs, NoPair, NoRoom, Order, Circle, NoneLeft, Held, NotHeld, Contradicted,
+    ]
+};
+
+impl Answer {
+    /// The answer with a number; None where the table has no such row.
+    pub fn numbered(number: u8) -> Option<Answer> {
+        ANSWERS.into_iter().find(|answer| *answer as u8 == number)
+    }
+
+    /// Of what the library gave back, which is in the table.
+    fn of(number: u8) -> Answer {
+        Answer::numbered(number).expect("the library answers by its table")
+    }
+}
+
+/// Why a text is turned back: the number (1 to 8 in the table), the line, counted from 1, or 0 where no line is to blame, and that line as a part of
+/// the text, without its line feed.
+#[derive(Clone, Copy, Debug, PartialEq, Eq)]
+pub struct Refusal<'a> {
+    pub answer: Answer,
     pub line: usize,
+    pub part: &'a [u8],
 }
 
-#[link(name = "desk", kind = "static")]
-extern "C" {
-    fn wheelotter_report(text: *const u8, text_len: usize, out: *mut u8, out_len: usize) -> usize;
-    fn wheelotter_number(text: *const u8, text_len: usize) -> u8;
-    fn wheelotter_line(text: *const u8, text_len: usize) -> usize;
-    fn wheelotter_judge(text: *const u8, text_len: usize, model: u8, list: *const u8, list_len: usize) -> bool;
+impl fmt::Display for Refusal<'_> {
+    fn fmt(&self, f: &mut fmt::Formatter<'_>) -> fmt::Result {
+        write!(f, "refused {} line {}", self.answer as u8, self.line)
+    }
 }
 
-// SAFETY, for each call below: a slice's pointer is never null and is lent with its own length for the time of the call, and the library reads
-// and writes nothing else.
+impl std::error::Error for Refusal<'_> {}
+
+/// What the memory did, in record numbers.
+#[derive(Clone, Debug, PartialEq, Eq)]
+pub enum Verdict {
+    /// This record read a value that nobody wrote.
+    NoSource(u8),
+    /// The rules run in a circle: each operation before the next and the last before the first, by the rules in the same places.
+    Circle { operations: Vec<u8>, rules: Vec<u8> },
+    /// The first valid order.
+    Order(Vec<u8>),
+    /// Every order was ruled out.
+    NoneLeft,
+}
 
 /// The whole answer to a text: one line for each model, or the line of a refusal.
 pub fn report(text: &[u8]) -> String {
     let mut out = [0u8; REPORT];
-    let n = unsafe { wheelotter_report(text.as_ptr(), text.len(), out.as_mut_ptr(), out.len()) };
-    String::from_utf8_lossy(&out[..n]).into_owned()
+    let length = entries::report(text, &mut out);
+    String::from_utf8_lossy(&out[..length]).into_owned()
 }
 
 /// Whether a text writes a trace, or why it is turned back.
-pub fn check(text: &[u8]) -> Result<(), Refusal> {
-    let number = unsafe { wheelotter_number(text.as_ptr(), text.len()) };
-    if number == 0 {
-        return Ok(());
+pub fn check(text: &[u8]) -> Result<(), Refusal<'_>> {
+    match Answer::of(entries::number(text)) {
+        Answer::Done => Ok(()),
+        answer => Err(Refusal { answer, line: entries::line(text), part: &text[entries::start(text)..entries::end(text)] }),
     }
-    let line = unsafe { wheelotter_line(text.as_ptr(), text.len()) };
-    Err(Refusal { number, line })
+}
+
+/// What the memory did under a model.
+pub fn verdict(text: &[u8], model: Model) -> Result<Verdict, Refusal<'_>> {
+    let mut out = [0; VERDICT];
+    let answer = Answer::of(entries::verdict(text, model as u8, &mut out));
+    let named = usize::from(out[0]);
+    let operations = out[1..][..named].to_vec();
+    match answer {
+        Answer::NoSource => Ok(Verdict::NoSource(operations[0])),
+        Answer::Circle => Ok(Verdict::Circle { operations, rules: out[1 + RECORDS..][..named].to_vec() }),
+        Answer::Order => Ok(Verdict::Order(operations)),
+        Answer::NoneLeft => Ok(Verdict::NoneLeft),
+        _ => check(text).map(|()| unreachable!("a good text has a verdict under either model")),
+    }
 }
 
 /// Whether a list of record numbers is a valid order of the trace that a text writes. A text that is turned back has none.
 pub fn judge(text: &[u8], model: Model, list: &[u8]) -> bool {
-    unsafe { wheelotter_judge(text.as_ptr(), text.len(), model as u8, list.as_ptr(), list.len()) }
+    entries::judge(text, model as u8, list)
+}
+
+/// What a session knows of two operations.
+#[derive(Clone, Copy, Debug, PartialEq, Eq)]
+pub enum Asked {
+    Held,
+    NotHeld,
+    Contradicted,
+}
+
+/// A trace, a model and the pairs that are supposed of it, with all that is then held. Two sessions are equal exactly when their bytes are.
+#[derive(Clone, Debug, PartialEq, Eq)]
+pub struct Session {
+    bytes: Vec<u8>,
+}
+
+impl Session {
+    /// Refused where the text is turned back, and where it has a missing source: [`verdict`] tells which.
+    pub fn open(text: &[u8], model: Model) -> Result<Session, Answer> {
+        let mut bytes = vec![0; HEAD + text.len()];
+        done(entries::open(text, model as u8, &mut bytes))?;
+        Ok(Session { bytes })
+    }
+
+    /// Supposes that x came before y; at most 16 pairs stand. Refused, the session stays as it was.
+    pub fn suppose(&mut self, x: usize, y: usize) -> Result<(), Answer> {
+        done(entries::suppose(&mut self.bytes, x, y))
+    }
+
+    /// Takes the latest pair back, and all that came from it.
+    pub fn take_back(&mut self) -> Result<(), Answer> {
+        done(entries::take_back(&mut self.bytes))
+    }
+
+    /// Asks whether x before y is held: true in every order that the memory may show, as long as the supposed pairs are.
+    pub fn ask(&self, x: usize, y: usize) -> Result<Asked, Answer> {
+        match Answer::of(entries::ask(&self.bytes, x, y)) {
+            Answer::Held => Ok(Asked::Held),
+            Answer::NotHeld => Ok(Asked::NotHeld),
+            Answer::Contradicted => Ok(Asked::Contradicted),
+            refused => Err(refused),
+        }
+    }
+
+    /// To keep a session, or to send it.
+    pub fn as_bytes(&self) -> &[u8] {
+        &self.bytes
+    }
+}
+
+/// Bytes from anywhere. If they are not a session, every call is refused with [`Answer::NoSession`] and leaves them as they are.
+impl From<Vec<u8>> for Session {
+    fn from(bytes: Vec<u8>) -> Session {
+        Session { bytes }
+    }
+}
+
+fn done(number: u8) -> Result<(), Answer> {
+    match Answer::of(number) {
+        Answer::Done => Ok(()),
+        refused => Err(refused),
+    }
 }

@@ -5,48 +5,34 @@
 //! Without `-- PROGRAM` only this package runs, to see how fast it is.
 
 use second::bench::{self, NOT_KNOWN};
-use second::families::{family, text, Family, FAMILIES};
+use second::families::{text, Family};
 use second::orders;
+use second::plan::{shown, Plan};
 use second::reader;
 use second::trace::Model;
-use second::verdict::MOST_STEPS;
 use std::collections::BTreeMap;
 use std::io::{self, Read, Write};
 use std::process::{Command, ExitCode, Stdio};
-use std::sync::atomic::{AtomicU64, Ordering};
 use std::sync::Mutex;
 use std::thread;
 use std::time::{Duration, Instant};
-
-struct Plan {
-    seed: u64,
-    time: Option<Duration>,
-    cases: u64,
-    families: Vec<&'static Family>,
-    steps: u64,
-    patience: Duration,
-    threads: usize,
-    program: Vec<String>,
-}
 
 const USAGE: &str = "usage: compare [--seed N] [--seconds N | --cases N] [--family NAME].. [--steps N] [--patience SECONDS] \
                      [--threads N] [-- PROGRAM [WORD..]]";
 
 fn main() -> ExitCode {
-    let Some(plan) = plan(std::env::args().skip(1)) else {
+    let Some(plan) = Plan::of(std::env::args().skip(1)) else {
         eprintln!("{USAGE}");
         return ExitCode::from(2);
     };
-    let begun = Instant::now();
     let tally = Mutex::new(Tally::default());
-    let next = AtomicU64::new(0);
     thread::scope(|scope| {
         for _ in 0..plan.threads {
-            scope.spawn(|| work(&plan, &next, &tally, begun));
+            scope.spawn(|| work(&plan, &tally));
         }
     });
     let tally = tally.into_inner().expect("no worker panicked");
-    tally.print(&plan, begun.elapsed());
+    tally.print(&plan);
     // A program that never answers in time has not passed anything.
     if tally.failed() == 0 && tally.passed() > 0 {
         ExitCode::SUCCESS
@@ -55,53 +41,8 @@ fn main() -> ExitCode {
     }
 }
 
-fn plan(mut words: impl Iterator<Item = String>) -> Option<Plan> {
-    let mut plan = Plan {
-        seed: 1,
-        time: None,
-        cases: u64::MAX,
-        families: Vec::new(),
-        steps: MOST_STEPS,
-        patience: Duration::from_secs(20),
-        threads: 2,
-        program: Vec::new(),
-    };
-    while let Some(word) = words.next() {
-        if word == "--" {
-            plan.program = words.by_ref().collect();
-            break;
-        }
-        let value = words.next()?;
-        match word.as_str() {
-            "--seed" => plan.seed = value.parse().ok()?,
-            "--seconds" => plan.time = Some(Duration::from_secs(value.parse().ok()?)),
-            "--cases" => plan.cases = value.parse().ok()?,
-            "--family" => plan.families.push(family(&value)?),
-            "--steps" => plan.steps = value.parse().ok()?,
-            "--patience" => plan.patience = Duration::from_secs(value.parse().ok()?),
-            "--threads" => plan.threads = value.parse().ok().filter(|&n| n > 0)?,
-            _ => return None,
-        }
-    }
-    if plan.families.is_empty() {
-        plan.families = FAMILIES.iter().collect();
-    }
-    if plan.time.is_none() && plan.cases == u64::MAX {
-        plan.cases = 1_000;
-    }
-    Some(plan)
-}
-
-/// Cases go round the families, so that every family gets its share however early the time ends.
-fn work(plan: &Plan, next: &AtomicU64, tally: &Mutex<Tally>, begun: Instant) {
-    loop {
-        let number = next.fetch_add(1, Ordering::Relaxed);
-        if number >= plan.cases || plan.time.is_some_and(|time| begun.elapsed() >= time) {
-            return;
-        }
-        let count = plan.families.len() as u64;
-        let family = plan.families[(number % count) as usize];
-        let case = number / count;
+fn work(plan: &Plan, tally: &Mutex<Tally>) {
+    while let Some((family, case)) = plan.next() {
         let text = text(family, plan.seed, case);
         let wanted = bench::output(&text, plan.steps);
         let outcome = if plan.program.is_empty() { alone(&wanted) } else { compared(plan, &text, &wanted) };
@@ -255,7 +196,8 @@ impl Tally {
         self.families.values().map(|counts| counts.failed).sum()
     }
 
-    fn print(&self, plan: &Plan, time: Duration) {
+    fn print(&self, plan: &Plan) {
+        let time = plan.elapsed();
         let (mut not_known, mut too_slow) = (0, 0);
         for (name, counts) in &self.families {
             let kinds: Vec<String> = counts.kinds.iter().map(|(kind, count)| format!("{kind} {count}")).collect();
@@ -291,15 +233,4 @@ fn kind(line: &str) -> String {
         [model, "order", ..] => format!("{} order", model.trim_end_matches(':')),
         _ => line.replace(':', ""),
     }
-}
-
-/// Readable, and exact: bytes that do not print are told by their escapes, feeds also end the shown line. Long texts are cut; the case
-/// number gives them whole.
-fn shown(bytes: &[u8]) -> String {
-    let cut = &bytes[..bytes.len().min(6_000)];
-    let mut shown = cut.escape_ascii().to_string().replace("\\n", "\\n\n").replace("\\'", "'").replace("\\\"", "\"");
-    if cut.len() < bytes.len() {
-        shown.push_str(" ...");
-    }
-    shown
 }

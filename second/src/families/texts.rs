@@ -265,6 +265,14 @@ pub(super) fn damaged(chance: &mut Chance) -> Vec<u8> {
     text
 }
 
+/// Every number has its edge in one of the four: lines and bounds, ranks, sizes, numbers.
+pub(super) fn edges_damaged(chance: &mut Chance) -> Vec<u8> {
+    let draw = *chance.of(&[edges, edges, ranks, sizes, numbers]);
+    let mut text = draw(chance);
+    damage(chance, &mut text);
+    text
+}
+
 fn damage(chance: &mut Chance, text: &mut Vec<u8>) {
     let byte = if chance.percent(90) { *chance.of(ODD) } else { chance.below(256) as u8 };
     let place = chance.between(0, text.len());

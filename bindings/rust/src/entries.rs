@@ -1,0 +1,79 @@
+//! The library's entries as they are, over slices and numbers. Any bytes, models and numbers may be handed in. The answers are the numbers
+//! of [`Answer`](crate::Answer), unless said otherwise.
+
+mod linked {
+    #[link(name = "desk", kind = "static")]
+    extern "C" {
+        pub fn wheelotter_report(text: *const u8, text_len: usize, out: *mut u8, out_len: usize) -> usize;
+        pub fn wheelotter_number(text: *const u8, text_len: usize) -> u8;
+        pub fn wheelotter_line(text: *const u8, text_len: usize) -> usize;
+        pub fn wheelotter_start(text: *const u8, text_len: usize) -> usize;
+        pub fn wheelotter_end(text: *const u8, text_len: usize) -> usize;
+        pub fn wheelotter_verdict(text: *const u8, text_len: usize, model: u8, out: *mut u8, out_len: usize) -> u8;
+        pub fn wheelotter_judge(text: *const u8, text_len: usize, model: u8, list: *const u8, list_len: usize) -> bool;
+        pub fn wheelotter_open(text: *const u8, text_len: usize, model: u8, session: *mut u8, session_len: usize) -> u8;
+        pub fn wheelotter_suppose(session: *mut u8, session_len: usize, x: usize, y: usize) -> u8;
+        pub fn wheelotter_take_back(session: *mut u8, session_len: usize) -> u8;
+        pub fn wheelotter_ask(session: *const u8, session_len: usize, x: usize, y: usize) -> u8;
+    }
+}
+
+// SAFETY, for each call below: a slice's pointer is never null and is lent with its own length for the time of the call, and the library reads
+// and writes nothing else. A slice that is lent for reading it does not write.
+
+/// Writes the whole answer to a text into `out` and gives back how many bytes it has; 0, and `out` as it was, where it is too short.
+pub fn report(text: &[u8], out: &mut [u8]) -> usize {
+    unsafe { linked::wheelotter_report(text.as_ptr(), text.len(), out.as_mut_ptr(), out.len()) }
+}
+
+/// The number of what is wrong with a text, 1 to 8; 0 for a good one.
+pub fn number(text: &[u8]) -> u8 {
+    unsafe { linked::wheelotter_number(text.as_ptr(), text.len()) }
+}
+
+/// The line that a text is turned back for, counted from 1; 0 where no line is to blame.
+pub fn line(text: &[u8]) -> usize {
+    unsafe { linked::wheelotter_line(text.as_ptr(), text.len()) }
+}
+
+/// Where the bad line starts in the text; 0 where no line is to blame.
+pub fn start(text: &[u8]) -> usize {
+    unsafe { linked::wheelotter_start(text.as_ptr(), text.len()) }
+}
+
+/// Where the bad line ends, before its line feed; 0 where no line is to blame.
+pub fn end(text: &[u8]) -> usize {
+    unsafe { linked::wheelotter_end(text.as_ptr(), text.len()) }
+}
+
+/// The verdict under a model, in the first [`VERDICT`](crate::VERDICT) bytes of `out`: how many operations it names, the operations, and from
+/// byte 65 on the rules of a circle; unused places are 0. Where `out` is shorter it stays as it was.
+pub fn verdict(text: &[u8], model: u8, out: &mut [u8]) -> u8 {
+    unsafe { linked::wheelotter_verdict(text.as_ptr(), text.len(), model, out.as_mut_ptr(), out.len()) }
+}
+
+/// Whether a list of record numbers is a valid order of the trace that a text writes, under a model.
+pub fn judge(text: &[u8], model: u8, list: &[u8]) -> bool {
+    unsafe { linked::wheelotter_judge(text.as_ptr(), text.len(), model, list.as_ptr(), list.len()) }
+}
+
+/// Opens a session on a text in the first [`HEAD`](crate::HEAD) and as many bytes more as the text has; the rest of `session` stays. Refused,
+/// the first HEAD bytes are the session of the empty text under model 1. Where `session` is too short it stays as it was.
+pub fn open(text: &[u8], model: u8, session: &mut [u8]) -> u8 {
+    unsafe { linked::wheelotter_open(text.as_ptr(), text.len(), model, session.as_mut_ptr(), session.len()) }
+}
+
+/// Supposes that x came before y. Refused, the session stays as it was.
+pub fn suppose(session: &mut [u8], x: usize, y: usize) -> u8 {
+    unsafe { linked::wheelotter_suppose(session.as_mut_ptr(), session.len(), x, y) }
+}
+
+/// Takes the latest pair back. Refused, the session stays as it was.
+pub fn take_back(session: &mut [u8]) -> u8 {
+    unsafe { linked::wheelotter_take_back(session.as_mut_ptr(), session.len()) }
+}
+
+/// Asks whether x before y is held.
+pub fn ask(session: &[u8], x: usize, y: usize) -> u8 {
+    unsafe { linked::wheelotter_ask(session.as_ptr(), session.len(), x, y) }
+}

@@ -1,0 +1,81 @@
+//! Each kind of answer through the safe functions, worked out from document 01.
+
+use wheelotter::{check, entries, judge, report, verdict, Answer, Asked, Model, Refusal, Session, Verdict, HEAD, REPORT, VERDICT};
+
+const BUFFERS: &[u8] = b"0: M[0] := 1\n0: M[1] == 0\n1: M[1] := 1\n1: M[0] == 0\n";
+const NO_SOURCE: &[u8] = b"0: M[0] := 1\n0: sync\n0: M[0] == 2\n";
+const KNOT: &[u8] = include_bytes!("../../../tests/traces/knot.txt");
+
+#[test]
+fn the_numbers_of_the_header() {
+    let header = include_str!("../../wheelotter.h");
+    let number = |name: &str| {
+        let line = header.lines().find(|line| line.starts_with(&format!("#define WHEELOTTER_{name} "))).expect("defined");
+        line.split_whitespace().nth(2).and_then(|number| number.parse::<usize>().ok()).expect("a number")
+    };
+    assert_eq!([number("REPORT"), number("VERDICT"), number("HEAD")], [REPORT, VERDICT, HEAD]);
+    assert_eq!([number("SC"), number("TSO")], [Model::Sc as usize, Model::Tso as usize]);
+    for answer in (0..=255).filter_map(Answer::numbered) {
+        let large = |c: char| if c.is_uppercase() { format!("_{c}") } else { c.to_uppercase().to_string() };
+        let name: String = format!("{answer:?}").chars().map(large).collect();
+        assert_eq!(number(&name[1..]), answer as usize, "{answer:?}");
+    }
+    assert_eq!((0..=255).filter_map(Answer::numbered).count(), 23);
+}
+
+#[test]
+fn texts() {
+    assert_eq!(report(BUFFERS), "SC: no order, circle 0 1 2 3 by 1 4 1 4\nTSO: order 1 2 3 0\n");
+    assert_eq!(check(BUFFERS), Ok(()));
+    assert_eq!(check(b"0: sync\n8: sync\n"), Err(Refusal { answer: Answer::PastBound, line: 2, part: b"8: sync" }));
+    assert_eq!(check(&[b'\n'; 8_193]), Err(Refusal { answer: Answer::LongText, line: 0, part: b"" }));
+    assert_eq!(check(b"0").map_err(|refusal| refusal.to_string()), Err("refused 3 line 1".to_string()));
+    assert!(judge(BUFFERS, Model::Tso, &[1, 2, 3, 0]) && !judge(BUFFERS, Model::Sc, &[1, 2, 3, 0]));
+}
+
+#[test]
+fn verdicts() {
+    let circle = Verdict::Circle { operations: vec![0, 1, 2, 3], rules: vec![1, 4, 1, 4] };
+    assert_eq!(verdict(BUFFERS, Model::Sc), Ok(circle));
+    assert_eq!(verdict(BUFFERS, Model::Tso), Ok(Verdict::Order(vec![1, 2, 3, 0])));
+    assert_eq!(verdict(NO_SOURCE, Model::Tso), Ok(Verdict::NoSource(2)));
+    assert_eq!(verdict(KNOT, Model::Sc), Ok(Verdict::NoneLeft));
+    assert_eq!(verdict(b"", Model::Sc), Ok(Verdict::Order(vec![])));
+    assert_eq!(verdict(b"\n", Model::Sc).map_err(|refusal| refusal.answer), Err(Answer::NoForm));
+}
+
+#[test]
+fn sessions() {
+    let mut session = Session::open(KNOT, Model::Sc).expect("KNOT opens");
+    let fresh = session.clone();
+    for (x, y) in [(2, 8), (8, 2)] {
+        assert_eq!(session.ask(x, y), Ok(Asked::NotHeld));
+        assert_eq!(session.suppose(x, y), Ok(()));
+        assert_eq!(session.ask(x, y), Ok(Asked::Contradicted));
+        assert_eq!(session.take_back(), Ok(()));
+        assert_eq!(session, fresh);
+    }
+    assert_eq!(session.ask(0, 1), Ok(Asked::Held), "by the core's own order");
+    let refused = [session.take_back(), session.suppose(0, 4), session.suppose(3, 3)];
+    assert_eq!(refused, [Answer::NoPair, Answer::NoOperation, Answer::SameTwice].map(Err));
+    (0..16).for_each(|_| assert_eq!(session.suppose(0, 1), Ok(())));
+    assert_eq!(session.suppose(0, 1), Err(Answer::ManyPairs));
+    assert_eq!(Session::open(NO_SOURCE, Model::Sc), Err(Answer::NoSource));
+    assert_eq!(Session::open(b"0", Model::Sc), Err(Answer::NoForm));
+}
+
+#[test]
+fn bytes_from_anywhere() {
+    let session = Session::open(BUFFERS, Model::Tso).expect("opens");
+    assert_eq!(session.as_bytes().len(), HEAD + BUFFERS.len());
+    let mut bytes = session.as_bytes().to_vec();
+    assert_eq!(Session::from(bytes.clone()).ask(1, 2), Ok(Asked::Held));
+    bytes[34] = 1;
+    let mut forged = Session::from(bytes.clone());
+    assert_eq!(forged.ask(1, 2), Err(Answer::NoSession));
+    assert_eq!([forged.suppose(0, 1), forged.take_back()], [Err(Answer::NoSession); 2]);
+    assert_eq!(forged.as_bytes(), bytes);
+    assert_eq!(Session::from(vec![]).ask(0, 1), Err(Answer::NoSession));
+    assert_eq!(entries::open(BUFFERS, 2, &mut bytes[1..]), Answer::NoRoom as u8);
+    assert_eq!(entries::verdict(BUFFERS, 3, &mut [0; VERDICT]), Answer::NoModel as u8);
+}

@@ -1,0 +1,59 @@
+//! The calls of a case, kept so that they can be told where something differs.
+
+use std::fmt;
+
+#[derive(Clone, Debug)]
+pub enum Call {
+    Report { room: usize },
+    Number,
+    Line,
+    Start,
+    End,
+    Verdict { model: u8, room: usize },
+    Judge { model: u8, list: Vec<u8> },
+    Open { model: u8, room: usize },
+    Suppose { x: usize, y: usize },
+    TakeBack,
+    Ask { x: usize, y: usize },
+}
+
+/// The entries' names without the front that all share, in the order of the header.
+pub const ENTRIES: [&str; 11] = ["report", "number", "line", "start", "end", "verdict", "judge", "open", "suppose", "take_back", "ask"];
+
+impl Call {
+    /// Which of `ENTRIES` is called.
+    pub fn entry(&self) -> usize {
+        match self {
+            Call::Report { .. } => 0,
+            Call::Number => 1,
+            Call::Line => 2,
+            Call::Start => 3,
+            Call::End => 4,
+            Call::Verdict { .. } => 5,
+            Call::Judge { .. } => 6,
+            Call::Open { .. } => 7,
+            Call::Suppose { .. } => 8,
+            Call::TakeBack => 9,
+            Call::Ask { .. } => 10,
+        }
+    }
+
+    /// What comes back is a row of the table of answers, or yes and no: few enough to be counted one by one.
+    pub fn answers_by_table(&self) -> bool {
+        !matches!(self, Call::Report { .. } | Call::Line | Call::Start | Call::End)
+    }
+}
+
+impl fmt::Display for Call {
+    fn fmt(&self, f: &mut fmt::Formatter<'_>) -> fmt::Result {
+        write!(f, "{}", ENTRIES[self.entry()])?;
+        match self {
+            Call::Report { room } => write!(f, " into {room} bytes"),
+            Call::Verdict { model, room } => write!(f, " under {model} into {room} bytes"),
+            Call::Judge { model, list } => write!(f, " under {model} of {list:?}"),
+            Call::Open { model, room } => write!(f, " under {model} in {room} bytes"),
+            Call::Suppose { x, y } | Call::Ask { x, y } => write!(f, " {x} {y}"),
+            Call::Number | Call::Line | Call::Start | Call::End | Call::TakeBack => Ok(()),
+        }
+    }
+}

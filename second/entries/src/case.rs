@@ -1,0 +1,120 @@
+//! One case: a text, the calls on it and on its sessions, and what came of them.
+
+use crate::call::{Call, ENTRIES};
+use crate::desk::Desk;
+use crate::lent::Lent;
+use crate::{sessions, texts};
+use second::chance::Chance;
+use second::desk::Page;
+use second::families::{text, Family};
+use second::plan::shown;
+
+/// The answers of the table, and one place more for whatever is none.
+pub const ANSWERS: usize = 25;
+
+#[derive(Clone, Default)]
+pub struct Counts {
+    pub texts: u64,
+    pub texts_failed: u64,
+    /// Texts on which the second reading does not know a verdict; whatever else could be compared was right.
+    pub not_known: u64,
+    /// Calls on sessions: opening, supposing, taking back, asking.
+    pub calls: u64,
+    pub calls_failed: u64,
+    /// Damaged sessions, and those of them that were a session all the same.
+    pub damaged: u64,
+    pub still_sessions: u64,
+    /// For each entry how often each answer was wanted; in the last place what is not of the table.
+    pub answers: [[u64; ANSWERS]; ENTRIES.len()],
+}
+
+impl Counts {
+    pub fn add(&mut self, other: &Counts) {
+        self.texts += other.texts;
+        self.texts_failed += other.texts_failed;
+        self.not_known += other.not_known;
+        self.calls += other.calls;
+        self.calls_failed += other.calls_failed;
+        self.damaged += other.damaged;
+        self.still_sessions += other.still_sessions;
+        for (mine, theirs) in self.answers.iter_mut().flatten().zip(other.answers.iter().flatten()) {
+            *mine += theirs;
+        }
+    }
+
+    pub fn passed(&self) -> u64 {
+        self.texts + self.calls
+    }
+
+    pub fn failed(&self) -> u64 {
+        self.texts_failed + self.calls_failed
+    }
+}
+
+/// What was done so far: a call with the answer that was wanted, or something done to a session's bytes in between.
+pub enum Step {
+    Called(Call, usize),
+    Done(String),
+}
+
+pub struct Case<'a, D: Desk> {
+    pub desk: &'a D,
+    pub text: &'a [u8],
+    pub page: Page<'a>,
+    pub chance: Chance,
+    pub counts: Counts,
+    pub steps: Vec<Step>,
+    /// Each with the calls that led there.
+    pub differences: Vec<String>,
+}
+
+/// Draws a family's case and compares all of it; what differed is told with the text.
+pub fn compared(desk: &impl Desk, family: &Family, seed: u64, number: u64, most_steps: u64) -> (Counts, Vec<String>) {
+    let text = text(family, seed, number);
+    let before = text.clone();
+    // A stream apart from the text's own.
+    let chance = Chance::of_case(seed ^ 0x5EC0_4D00, number);
+    let page = Page::new(&text, most_steps);
+    let mut case = Case { desk, text: &text, page, chance, counts: Counts::default(), steps: Vec::new(), differences: Vec::new() };
+    texts::compare(&mut case);
+    sessions::compare(&mut case);
+    if before != case.text {
+        case.counts.texts_failed += 1;
+        case.differences.push("the text itself was changed\n".to_string());
+    }
+    let told = |difference: &String| {
+        let head = format!("DIFFERENCE: family {} seed {seed} case {number}: {difference}", family.name);
+        format!("{head}text ({} bytes):\n{}\n", text.len(), shown(&text))
+    };
+    let differences = case.differences.iter().map(told).collect();
+    (case.counts, differences)
+}
+
+impl<D: Desk> Case<'_, D> {
+    /// Notes a call with what was wanted and what came; true where they are the same, memory and all.
+    pub fn same(&mut self, call: Call, (wanted, mine): (usize, &Lent), (got, theirs): (usize, &Lent)) -> bool {
+        let answer = if call.answers_by_table() { wanted.min(ANSWERS - 1) } else { ANSWERS - 1 };
+        self.counts.answers[call.entry()][answer] += 1;
+        let same = wanted == got && mine == theirs;
+        if !same {
+            let calls: String = self.steps.iter().map(told).collect();
+            let answers = format!("{call}: wanted {wanted}, got {got}\n");
+            self.differences.push(format!("{answers}{}calls so far:\n{calls}", mine.differences(theirs)));
+        }
+        self.steps.push(Step::Called(call, wanted));
+        same
+    }
+
+    /// The same for an entry that is lent nothing to write.
+    pub fn same_answer(&mut self, call: Call, wanted: usize, got: usize) -> bool {
+        let nothing = Lent::of(&[]);
+        self.same(call, (wanted, &nothing), (got, &nothing))
+    }
+}
+
+fn told(step: &Step) -> String {
+    match step {
+        Step::Called(call, wanted) => format!("    {call}: {wanted}\n"),
+        Step::Done(what) => format!("    {what}\n"),
+    }
+}

@@ -1,0 +1,126 @@
+//! Bytes that were a session. Some of what is done here leaves one: a pair that was held all the same, a line that changes nothing.
+
+use second::chance::Chance;
+use second::desk::{place_of, HEAD};
+
+const COUNT: usize = 1;
+const PAIRS: usize = 2;
+const CONTRADICTED: usize = 34;
+const TABLE: usize = 35;
+
+type Damage = (&'static str, fn(&mut Chance, &mut Vec<u8>));
+
+const DAMAGES: [Damage; 18] = [
+    ("another model", |chance, bytes| bytes[0] = *chance.of(&[0, 1, 1, 2, 2, 3, 255])),
+    ("another count of pairs", |chance, bytes| bytes[COUNT] = *chance.of(&[0, 1, 2, 15, 16, 17, 255])),
+    ("a byte of the pairs", |chance, bytes| {
+        let place = chance.between(PAIRS, CONTRADICTED - 1);
+        bytes[place] = byte(chance, bytes[place]);
+    }),
+    ("a byte of the standing pairs", |chance, bytes| {
+        if let Some(place) = standing(chance, bytes) {
+            bytes[place + chance.below(2)] = chance.below(66) as u8;
+        }
+    }),
+    ("a pair turned round", |chance, bytes| {
+        if let Some(place) = standing(chance, bytes) {
+            bytes.swap(place, place + 1);
+        }
+    }),
+    ("two pairs in each other's place", |chance, bytes| {
+        if let (Some(one), Some(other)) = (standing(chance, bytes), standing(chance, bytes)) {
+            bytes.swap(one, other);
+            bytes.swap(one + 1, other + 1);
+        }
+    }),
+    ("the latest pair gone, but not what it forced", |_, bytes| {
+        let count = usize::from(bytes[COUNT]);
+        if count > 0 {
+            bytes[COUNT] -= 1;
+            bytes[PAIRS + 2 * (count - 1)..][..2].fill(0);
+        }
+    }),
+    ("a pair more, but not what it forces", |chance, bytes| {
+        let count = usize::from(bytes[COUNT]);
+        if count < 16 {
+            let pair = some_pair(chance, bytes);
+            bytes[COUNT] += 1;
+            bytes[PAIRS + 2 * count..][..2].copy_from_slice(&pair);
+        }
+    }),
+    ("contradicted or not", |_, bytes| bytes[CONTRADICTED] ^= 1),
+    ("contradicted, and an empty table", |_, bytes| {
+        bytes[CONTRADICTED] = 1;
+        bytes[TABLE..HEAD].fill(0);
+    }),
+    ("the byte for contradicted", |chance, bytes| bytes[CONTRADICTED] = byte(chance, bytes[CONTRADICTED])),
+    ("a pair put into the table or taken out", |chance, bytes| {
+        let [x, y] = some_pair(chance, bytes);
+        bytes[place_of((x.into(), y.into())).min(HEAD - 1)] ^= 1;
+    }),
+    ("a byte of the table", |chance, bytes| {
+        let place = chance.between(TABLE, HEAD - 1);
+        bytes[place] = byte(chance, bytes[place]);
+    }),
+    ("a byte of the text", |chance, bytes| {
+        if bytes.len() > HEAD {
+            let place = chance.between(HEAD, bytes.len() - 1);
+            bytes[place] = byte(chance, bytes[place]);
+        }
+    }),
+    ("a digit of the text", |chance, bytes| {
+        let digits: Vec<usize> = (HEAD..bytes.len()).filter(|&place| bytes[place].is_ascii_digit()).collect();
+        if !digits.is_empty() {
+            bytes[*chance.of(&digits)] = b'0' + chance.below(10) as u8;
+        }
+    }),
+    ("cut off", |chance, bytes| {
+        let length = bytes.len();
+        let to = [0, 1, 35, HEAD - 1, HEAD, length - 1, chance.below(length), length - chance.below(length - HEAD + 1)];
+        bytes.truncate(*chance.of(&to));
+    }),
+    ("something behind it", |chance, bytes| {
+        let more = ["0: sync\n", "3: sync\n7: sync\n", "0: M[0] == 0\n", "\n", "0", "0: sync", "\0", "5: M[9] := 65535\n"];
+        bytes.extend_from_slice(chance.of(&more).as_bytes());
+    }),
+    ("bytes by chance", |chance, bytes| {
+        let lengths = [0, 1, 2, 34, 35, HEAD - 1, HEAD, HEAD + 1, HEAD + 9, bytes.len(), chance.below(9_000), HEAD + 8_192, HEAD + 8_193];
+        let length = *chance.of(&lengths);
+        *bytes = chance.bytes(length);
+        if chance.percent(60) {
+            bytes.fill(0);
+            bytes.iter_mut().take(1).for_each(|model| *model = chance.below(4) as u8);
+        }
+    }),
+];
+
+/// What is done to a session that stands, in words, and the bytes after it.
+pub fn damaged(chance: &mut Chance, session: &[u8]) -> (&'static str, Vec<u8>) {
+    let (what, harm) = chance.of(&DAMAGES);
+    let mut bytes = session.to_vec();
+    harm(chance, &mut bytes);
+    (what, bytes)
+}
+
+/// Another byte than this one, mostly one that a session could have somewhere.
+fn byte(chance: &mut Chance, now: u8) -> u8 {
+    let any = chance.below(256) as u8;
+    let other = *chance.of(&[now ^ 1, now.wrapping_add(1), 0, 1, 2, 64, 255, any]);
+    if other == now {
+        !now
+    } else {
+        other
+    }
+}
+
+/// Where one of the pairs that stand begins.
+fn standing(chance: &mut Chance, bytes: &[u8]) -> Option<usize> {
+    let count = usize::from(bytes[COUNT]);
+    (count > 0).then(|| PAIRS + 2 * chance.below(count))
+}
+
+/// Records of the text, by how many lines it has; seldom the one past its end.
+fn some_pair(chance: &mut Chance, bytes: &[u8]) -> [u8; 2] {
+    let records = bytes[HEAD..].iter().filter(|&&byte| byte == b'\n').count();
+    [(); 2].map(|()| if records == 0 || chance.percent(2) { records as u8 } else { chance.below(records) as u8 })
+}

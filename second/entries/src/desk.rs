@@ -1,0 +1,56 @@
+//! The entries under test, whoever they belong to: the proved library, or in this package's tests a wrong one.
+
+use wheelotter::entries;
+
+pub trait Desk: Sync {
+    fn report(&self, text: &[u8], out: &mut [u8]) -> usize;
+    fn number(&self, text: &[u8]) -> u8;
+    fn line(&self, text: &[u8]) -> usize;
+    fn start(&self, text: &[u8]) -> usize;
+    fn end(&self, text: &[u8]) -> usize;
+    fn verdict(&self, text: &[u8], model: u8, out: &mut [u8]) -> u8;
+    fn judge(&self, text: &[u8], model: u8, list: &[u8]) -> bool;
+    fn open(&self, text: &[u8], model: u8, session: &mut [u8]) -> u8;
+    fn suppose(&self, session: &mut [u8], x: usize, y: usize) -> u8;
+    fn take_back(&self, session: &mut [u8]) -> u8;
+    fn ask(&self, session: &[u8], x: usize, y: usize) -> u8;
+}
+
+/// The proved library's.
+pub struct Proved;
+
+impl Desk for Proved {
+    fn report(&self, text: &[u8], out: &mut [u8]) -> usize {
+        entries::report(text, out)
+    }
+    fn number(&self, text: &[u8]) -> u8 {
+        entries::number(text)
+    }
+    fn line(&self, text: &[u8]) -> usize {
+        entries::line(text)
+    }
+    fn start(&self, text: &[u8]) -> usize {
+        entries::start(text)
+    }
+    fn end(&self, text: &[u8]) -> usize {
+        entries::end(text)
+    }
+    fn verdict(&self, text: &[u8], model: u8, out: &mut [u8]) -> u8 {
+        entries::verdict(text, model, out)
+    }
+    fn judge(&self, text: &[u8], model: u8, list: &[u8]) -> bool {
+        entries::judge(text, model, list)
+    }
+    fn open(&self, text: &[u8], model: u8, session: &mut [u8]) -> u8 {
+        entries::open(text, model, session)
+    }
+    fn suppose(&self, session: &mut [u8], x: usize, y: usize) -> u8 {
+        entries::suppose(session, x, y)
+    }
+    fn take_back(&self, session: &mut [u8]) -> u8 {
+        entries::take_back(session)
+    }
+    fn ask(&self, session: &[u8], x: usize, y: usize) -> u8 {
+        entries::ask(session, x, y)
+    }
+}

@@ -1,0 +1,19 @@
+//! Every entry of the proved library held against the second reading of document 01, in one process.
+//!
+//! | Module | Its part |
+//! |---|---|
+//! | `desk` | the entries under test |
+//! | `call` | a call, told |
+//! | `lent` | memory that is lent, and memory around it |
+//! | `case` | a case: its text, its calls, its counts, what differed |
+//! | `texts` | the entries that take a text |
+//! | `sessions` | opening, and the calls on a session |
+//! | `damage` | bytes that were a session |
+
+pub mod call;
+pub mod case;
+pub mod damage;
+pub mod desk;
+pub mod lent;
+pub mod sessions;
+pub mod texts;

@@ -1,0 +1,84 @@
+//! entries [--seed N] [--seconds N | --cases N] [--family NAME].. [--steps N] [--threads N]
+//!
+//! Draws texts, and sessions on them; asks every entry of the proved library and the second reading of document 01, and compares all that comes
+//! back and all memory that was lent. Each difference is printed with its text and the calls that led to it. The very last line is
+//! `N passed, M failed`: texts and session calls.
+
+use entries::call::ENTRIES;
+use entries::case::{compared, Counts, ANSWERS};
+use entries::desk::Proved;
+use second::plan::Plan;
+use std::collections::BTreeMap;
+use std::process::ExitCode;
+use std::sync::Mutex;
+use std::thread;
+
+/// Past so many, differences are counted and no longer printed.
+const MOST_PRINTED: u64 = 50;
+
+#[derive(Default)]
+struct Tally {
+    families: BTreeMap<&'static str, Counts>,
+    printed: u64,
+}
+
+fn main() -> ExitCode {
+    let Some(plan) = Plan::of(std::env::args().skip(1)).filter(|plan| plan.program.is_empty()) else {
+        eprintln!("usage: entries [--seed N] [--seconds N | --cases N] [--family NAME].. [--steps N] [--threads N]");
+        return ExitCode::from(2);
+    };
+    let tally = Mutex::new(Tally::default());
+    thread::scope(|scope| {
+        for _ in 0..plan.threads {
+            scope.spawn(|| work(&plan, &tally));
+        }
+    });
+    let tally = tally.into_inner().expect("no worker panicked");
+    print(&plan, &tally.families);
+    let all = sum(&tally.families);
+    if all.failed() == 0 && all.passed() > 0 {
+        ExitCode::SUCCESS
+    } else {
+        ExitCode::FAILURE
+    }
+}
+
+fn work(plan: &Plan, tally: &Mutex<Tally>) {
+    while let Some((family, case)) = plan.next() {
+        let (counts, differences) = compared(&Proved, family, plan.seed, case, plan.steps);
+        let mut tally = tally.lock().expect("no worker panicked");
+        tally.families.entry(family.name).or_default().add(&counts);
+        for difference in differences {
+            tally.printed += 1;
+            if tally.printed <= MOST_PRINTED {
+                println!("{difference}");
+            }
+        }
+    }
+}
+
+fn sum(families: &BTreeMap<&'static str, Counts>) -> Counts {
+    let mut all = Counts::default();
+    families.values().for_each(|counts| all.add(counts));
+    all
+}
+
+fn print(plan: &Plan, families: &BTreeMap<&'static str, Counts>) {
+    for (name, counts) in families {
+        let (texts, calls) = (counts.texts, counts.calls);
+        let failed = format!("{} and {}", counts.texts_failed, counts.calls_failed);
+        println!("{name:12} {texts} texts and {calls} session calls passed, {failed} failed, {} texts not known", counts.not_known);
+    }
+    let all = sum(families);
+    for (name, answers) in ENTRIES.iter().zip(&all.answers) {
+        let told = |answer: usize| if answer < ANSWERS - 1 { format!("{answer}: {}", answers[answer]) } else { "numbers".to_string() };
+        let each: Vec<String> = (0..ANSWERS).filter(|&answer| answers[answer] > 0).map(told).collect();
+        println!("{name:12} {} calls; {}", answers.iter().sum::<u64>(), each.join(", "));
+    }
+    println!("damaged sessions {}, of which {} were sessions all the same", all.damaged, all.still_sessions);
+    let (time, compared) = (plan.elapsed().as_secs_f64(), all.passed() + all.failed() + all.not_known);
+    let rate = compared as f64 / time.max(0.001) / plan.threads as f64;
+    println!("seed {}: {compared} in {time:.1} s, {rate:.0} a second on each of {} threads", plan.seed, plan.threads);
+    println!("skipped {}: texts of which a verdict is not known", all.not_known);
+    println!("{} passed, {} failed", all.passed(), all.failed());
+}

@@ -1,0 +1,147 @@
+//! A text: the whole answer, what is wrong with it and where, the verdict in numbers, the judge.
+
+use crate::call::Call;
+use crate::case::Case;
+use crate::desk::Desk;
+use crate::lent::Lent;
+use second::bench::NOT_KNOWN;
+use second::chance::Chance;
+use second::desk::{NONE_LEFT, ORDER, VERDICT};
+use second::trace::{Model, MOST_RECORDS};
+use second::verdict::Verdict;
+
+/// Models that there are not, besides those that there are.
+pub const OTHER_MODELS: [u8; 5] = [0, 3, 4, 128, 255];
+
+pub fn compare<D: Desk>(case: &mut Case<'_, D>) {
+    let readings = readings(case);
+    let report = report(case);
+    let verdicts = verdicts(case);
+    let judged = judged(case);
+    if !(readings && report && verdicts && judged) {
+        case.counts.texts_failed += 1;
+    } else if case.page.trace().is_some() && case.page.output().contains(NOT_KNOWN) {
+        case.counts.not_known += 1;
+    } else {
+        case.counts.texts += 1;
+    }
+}
+
+/// What the reader says.
+fn readings<D: Desk>(case: &mut Case<'_, D>) -> bool {
+    let (desk, text) = (case.desk, case.text);
+    let (number, line) = (case.page.number().into(), case.page.line());
+    let (start, end) = (case.page.start(), case.page.end());
+    let number = case.same_answer(Call::Number, number, desk.number(text).into());
+    let line = case.same_answer(Call::Line, line, desk.line(text));
+    let start = case.same_answer(Call::Start, start, desk.start(text));
+    let end = case.same_answer(Call::End, end, desk.end(text));
+    number && line && start && end
+}
+
+/// The whole answer in memory that is wide, just wide enough, or not.
+fn report<D: Desk>(case: &mut Case<'_, D>) -> bool {
+    let output = case.page.output();
+    if output.contains(NOT_KNOWN) {
+        return true;
+    }
+    let needed = output.len();
+    let rooms = [0, 1, needed - 1, needed, needed + 1, 1115, 1116, 1116, 1200];
+    let room = *case.chance.of(&rooms);
+    let mut mine = Lent::drawn(&mut case.chance, room);
+    let mut theirs = mine.clone();
+    let wanted = case.page.report(mine.bytes_mut());
+    let got = case.desk.report(case.text, theirs.bytes_mut());
+    case.same(Call::Report { room }, (wanted, &mine), (got, &theirs))
+}
+
+/// Both models with room enough, another one, and memory that is too short.
+fn verdicts<D: Desk>(case: &mut Case<'_, D>) -> bool {
+    let chance = &mut case.chance;
+    let any = *chance.of(&[0, 1, 2, 3, 255]);
+    let enough = [VERDICT, VERDICT, VERDICT + 1, 200, chance.between(VERDICT, 400)];
+    let short = [0, 1, 64, 65, VERDICT - 1, VERDICT - 1, chance.below(VERDICT)];
+    let mut asked: Vec<(u8, usize)> = [1, 2, *chance.of(&OTHER_MODELS)].map(|model| (model, *chance.of(&enough))).to_vec();
+    asked.push((any, *chance.of(&short)));
+    asked.into_iter().fold(true, |same, (model, room)| verdict(case, model, room) && same)
+}
+
+fn verdict<D: Desk>(case: &mut Case<'_, D>, model: u8, room: usize) -> bool {
+    let mut mine = Lent::drawn(&mut case.chance, room);
+    let mut theirs = mine.clone();
+    let got = case.desk.verdict(case.text, model, theirs.bytes_mut());
+    match case.page.verdict(model, mine.bytes_mut()) {
+        Some(wanted) => case.same(Call::Verdict { model, room }, (wanted.into(), &mine), (got.into(), &theirs)),
+        None => may_be(case, model, got, mine, theirs),
+    }
+}
+
+/// Where the second reading does not know, an order has to be valid, and none left may be; the bytes have to be those of either.
+fn may_be<D: Desk>(case: &mut Case<'_, D>, model: u8, got: u8, mut mine: Lent, theirs: Lent) -> bool {
+    let room = theirs.bytes().len();
+    let named = usize::from(theirs.bytes()[0]).min(MOST_RECORDS);
+    let list = theirs.bytes()[1..][..named].to_vec();
+    let wanted = if got == ORDER && case.page.judge(model, &list) { ORDER } else { NONE_LEFT };
+    mine.bytes_mut()[..VERDICT].fill(0);
+    if wanted == ORDER {
+        mine.bytes_mut()[0] = named as u8;
+        mine.bytes_mut()[1..][..named].copy_from_slice(&list);
+    }
+    case.same(Call::Verdict { model, room }, (wanted.into(), &mine), (got.into(), &theirs))
+}
+
+/// Lists that are orders, are nearly so, and are nothing of the kind.
+fn judged<D: Desk>(case: &mut Case<'_, D>) -> bool {
+    let mut same = true;
+    for _ in 0..3 {
+        let list = list(case);
+        let model = if case.chance.percent(90) { case.chance.between(1, 2) as u8 } else { *case.chance.of(&OTHER_MODELS) };
+        let wanted = case.page.judge(model, &list);
+        let got = case.desk.judge(case.text, model, &list);
+        same &= case.same_answer(Call::Judge { model, list }, wanted.into(), got.into());
+    }
+    same
+}
+
+fn list<D: Desk>(case: &mut Case<'_, D>) -> Vec<u8> {
+    let model = *case.chance.of(&[Model::Sc, Model::Tso]);
+    let found = match case.page.verdict_under(model) {
+        Some(Verdict::Order(list)) => Some(list.iter().map(|&x| x as u8).collect()),
+        _ => None,
+    };
+    let operations = case.page.trace().map_or(vec![], |trace| trace.operations().into_iter().map(|x| x as u8).collect());
+    let chance = &mut case.chance;
+    let mut list: Vec<u8> = match found {
+        Some(list) if chance.percent(85) => list,
+        _ => operations,
+    };
+    match chance.below(10) {
+        0..=3 => {}
+        4..=7 => (0..chance.between(1, 2)).for_each(|_| damage(chance, &mut list)),
+        8 => chance.shuffle(&mut list),
+        _ => {
+            let length = *chance.of(&[0, 1, 2, 4, 63, 64, 65, 128, 300]);
+            list = chance.bytes(length).into_iter().map(|byte| if chance.percent(70) { byte % 64 } else { byte }).collect();
+        }
+    }
+    list
+}
+
+/// Two change places, which may be neighbours; one goes, comes twice, comes in, or is another number.
+fn damage(chance: &mut Chance, list: &mut Vec<u8>) {
+    let (length, any) = (list.len(), chance.draw() as u8);
+    let number = if chance.percent(70) { any % 66 } else { any };
+    if length < 2 {
+        list.push(number);
+        return;
+    }
+    let (here, there) = (chance.below(length), chance.below(length));
+    match chance.below(8) {
+        0 | 1 => list.swap(here, there),
+        2 | 3 => list.swap(here, (here + 1) % length),
+        4 => drop(list.remove(here)),
+        5 => list[here] = list[there],
+        6 => list.insert(here, number),
+        _ => list[here] = number,
+    }
+}

@@ -1,0 +1,343 @@
+//! That the comparison finds what it is there to find: desks that are wrong in one way each, and one that is right.
+
+use entries::case::compared;
+use entries::desk::Desk;
+use second::desk::{self, head_of, place_of, Page, DONE, HEAD, VERDICT};
+use second::families::FAMILIES;
+use second::session::{self, Session};
+use second::trace::Model;
+
+const STEPS: u64 = 20_000;
+
+/// The second program's own answers, but for one fault. `RIGHT` has none.
+struct Faulty(&'static str);
+
+const RIGHT: &str = "none";
+
+const FAULTS: [&str; 42] = [
+    "report: a letter too far",
+    "report: short memory written",
+    "report: length of one line",
+    "number: 8 told as 7",
+    "number: any number past a bound is 3",
+    "line: counted from 0",
+    "start: the text's own",
+    "start: an empty line has none",
+    "end: with the feed",
+    "verdict: 128 bytes are enough",
+    "verdict: what lies behind is wiped",
+    "verdict: unused places stay",
+    "verdict: the model first",
+    "verdict: no rules",
+    "verdict: some other order",
+    "verdict: every trace has an order",
+    "verdict: any model is SC",
+    "judge: yes to all",
+    "judge: repeats",
+    "judge: no model",
+    "open: one byte less is enough",
+    "open: refused before there is room",
+    "open: refused, and memory stays",
+    "open: what lies behind is wiped",
+    "open: without a source",
+    "open: a circle refused",
+    "suppose: a seventeenth pair",
+    "suppose: equal before a fence",
+    "suppose: the table left alone",
+    "suppose: its own edge only",
+    "suppose: a held pair left out",
+    "suppose: low bytes of numbers",
+    "suppose: refused while contradicted",
+    "take back: all pairs",
+    "take back: ignored",
+    "ask: backwards",
+    "ask: contradicted holds nothing",
+    "session: any table",
+    "session: any byte for contradicted",
+    "session: unused pairs are not looked at",
+    "session: pairs in order only",
+    "session: the text is not looked at",
+];
+
+impl Faulty {
+    fn is(&self, fault: &str) -> bool {
+        self.0 == fault
+    }
+
+    fn page<'a>(&self, text: &'a [u8]) -> Page<'a> {
+        Page::new(text, STEPS)
+    }
+
+    /// The bytes as a desk with a fault in its looking at them would see them; None where it refuses them.
+    fn seen(&self, bytes: &[u8]) -> Option<Vec<u8>> {
+        let mut seen = bytes.to_vec();
+        if seen.len() < HEAD {
+            return None;
+        }
+        if self.is("session: any byte for contradicted") {
+            seen[34] = seen[34].min(1);
+        }
+        if self.is("session: unused pairs are not looked at") && seen[1] <= 16 {
+            let used = 2 + 2 * usize::from(seen[1]);
+            seen[used..34].fill(0);
+        }
+        if self.is("session: the text is not looked at") {
+            let end = seen.iter().rposition(|&byte| byte == b'\n').map_or(HEAD, |place| (place + 1).max(HEAD));
+            seen.truncate(end);
+        }
+        if self.is("session: any table") {
+            let made = made_anew(&seen)?;
+            seen[34..HEAD].copy_from_slice(&head_of(&made)[34..]);
+        }
+        if self.is("session: pairs in order only") {
+            let pairs: Vec<_> = seen[2..][..2 * usize::from(seen[1].min(16))].chunks(2).map(<[u8]>::to_vec).collect();
+            if pairs.windows(2).any(|two| two[0] > two[1]) {
+                return None;
+            }
+        }
+        Some(seen)
+    }
+}
+
+/// The session that some bytes' model, pairs and text make, whatever their table says.
+fn made_anew(bytes: &[u8]) -> Option<Session> {
+    let mut wiped = bytes.to_vec();
+    wiped[34..HEAD].fill(0);
+    let parts = desk::taken(&wiped)?;
+    let fresh = session::open(&parts.trace, parts.model).ok()?;
+    parts.pairs.iter().try_fold(fresh, |session, &(x, y)| session::suppose(&session, x, y).ok())
+}
+
+impl Desk for Faulty {
+    fn report(&self, text: &[u8], out: &mut [u8]) -> usize {
+        let (page, room) = (self.page(text), out.len());
+        let length = page.report(out);
+        if self.is("report: a letter too far") && length < room {
+            out[length] = 0;
+        }
+        if self.is("report: short memory written") && length == 0 {
+            out.copy_from_slice(&page.output().as_bytes()[..room]);
+        }
+        let first_line = out.iter().take(length).position(|&byte| byte == b'\n').map_or(0, |place| place + 1);
+        if self.is("report: length of one line") {
+            first_line
+        } else {
+            length
+        }
+    }
+
+    fn number(&self, text: &[u8]) -> u8 {
+        match self.page(text).number() {
+            8 if self.is("number: 8 told as 7") => 7,
+            4 if self.is("number: any number past a bound is 3") => 3,
+            number => number,
+        }
+    }
+
+    fn line(&self, text: &[u8]) -> usize {
+        let line = self.page(text).line();
+        if self.is("line: counted from 0") {
+            line.saturating_sub(1)
+        } else {
+            line
+        }
+    }
+
+    fn start(&self, text: &[u8]) -> usize {
+        let page = self.page(text);
+        let empty_line = self.is("start: an empty line has none") && page.start() == page.end();
+        if empty_line || self.is("start: the text's own") {
+            0
+        } else {
+            page.start()
+        }
+    }
+
+    fn end(&self, text: &[u8]) -> usize {
+        let end = self.page(text).end();
+        if self.is("end: with the feed") && end > 0 && text.get(end) == Some(&b'\n') {
+            end + 1
+        } else {
+            end
+        }
+    }
+
+    fn verdict(&self, text: &[u8], model: u8, out: &mut [u8]) -> u8 {
+        let (page, before) = (self.page(text), out.to_vec());
+        if self.is("verdict: 128 bytes are enough") && out.len() == VERDICT - 1 {
+            return page.verdict(model, &mut [0; VERDICT]).unwrap_or(20);
+        }
+        let any_model = if self.is("verdict: any model is SC") && model != 2 { 1 } else { model };
+        // What is not known here is not known there: the comparison then takes either answer.
+        let Some(answer) = page.verdict(any_model, out) else {
+            out[..VERDICT].fill(0);
+            return 20;
+        };
+        if answer == 17 {
+            return answer;
+        }
+        if self.is("verdict: what lies behind is wiped") {
+            out[VERDICT..].fill(0);
+        }
+        if self.is("verdict: unused places stay") && answer == 18 {
+            let named = usize::from(out[0]);
+            out[1 + named..VERDICT].copy_from_slice(&before[1 + named..VERDICT]);
+        }
+        if self.is("verdict: no rules") {
+            out[65..VERDICT].fill(0);
+        }
+        if self.is("verdict: some other order") && answer == 18 {
+            let (Some(trace), Some(kind)) = (page.trace(), Model::numbered(model.into())) else { return answer };
+            let last = last_order(trace.operations(), |list| second::orders::judge(trace, kind, list));
+            last.iter().enumerate().for_each(|(place, &x)| out[1 + place] = x as u8);
+        }
+        match answer {
+            1..=8 if self.is("verdict: the model first") && Model::numbered(model.into()).is_none() => 9,
+            20 if self.is("verdict: every trace has an order") => 18,
+            answer => answer,
+        }
+    }
+
+    fn judge(&self, text: &[u8], model: u8, list: &[u8]) -> bool {
+        let page = self.page(text);
+        let mut seen: Vec<u8> = Vec::new();
+        if self.is("judge: repeats") {
+            list.iter().for_each(|x| {
+                if !seen.contains(x) {
+                    seen.push(*x)
+                }
+            });
+        } else {
+            seen = list.to_vec();
+        }
+        let model = if self.is("judge: no model") && model != 1 { 2 } else { model };
+        self.is("judge: yes to all") || page.judge(model, &seen)
+    }
+
+    fn open(&self, text: &[u8], model: u8, session: &mut [u8]) -> u8 {
+        let (page, before, needed) = (self.page(text), session.to_vec(), HEAD + text.len());
+        if self.is("open: one byte less is enough") && session.len() + 1 == needed {
+            let mut wide = vec![0; needed];
+            return page.open(model, &mut wide).0;
+        }
+        if self.is("open: refused before there is room") && page.number() != DONE {
+            return page.number();
+        }
+        let answer = page.open(model, session).0;
+        if self.is("open: refused, and memory stays") && answer != DONE {
+            session.copy_from_slice(&before);
+        }
+        if self.is("open: what lies behind is wiped") && answer == DONE {
+            session[needed..].fill(0);
+        }
+        match answer {
+            11 if self.is("open: without a source") => DONE,
+            DONE if self.is("open: a circle refused") && session[34] == 1 => 11,
+            answer => answer,
+        }
+    }
+
+    fn suppose(&self, session: &mut [u8], x: usize, y: usize) -> u8 {
+        let Some(mut seen) = self.seen(session) else { return 12 };
+        let (x, y) = if self.is("suppose: low bytes of numbers") { (x & 255, y & 255) } else { (x, y) };
+        let answer = desk::suppose(&mut seen, x, y);
+        if answer == 13 && self.is("suppose: equal before a fence") && x == y {
+            return 14;
+        }
+        if answer == 15 && self.is("suppose: a seventeenth pair") {
+            return DONE;
+        }
+        if answer != DONE {
+            return answer;
+        }
+        if self.is("suppose: refused while contradicted") && session[34] == 1 {
+            return 14;
+        }
+        let held = session[place_of((x, y))] == 1;
+        if self.is("suppose: a held pair left out") && held {
+            return DONE;
+        }
+        if self.is("suppose: the table left alone") {
+            seen[34..HEAD].copy_from_slice(&session[34..HEAD]);
+        }
+        if self.is("suppose: its own edge only") && seen[34] == 0 {
+            seen[34..HEAD].copy_from_slice(&session[34..HEAD]);
+            seen[place_of((x, y))] = 1;
+        }
+        session[..HEAD].copy_from_slice(&seen[..HEAD]);
+        answer
+    }
+
+    fn take_back(&self, session: &mut [u8]) -> u8 {
+        let Some(mut seen) = self.seen(session) else { return 12 };
+        let answer = desk::take_back(&mut seen);
+        while answer == DONE && self.is("take back: all pairs") && desk::take_back(&mut seen) == DONE {}
+        if answer == DONE && !self.is("take back: ignored") {
+            session[..HEAD].copy_from_slice(&seen[..HEAD]);
+        }
+        answer
+    }
+
+    fn ask(&self, session: &[u8], x: usize, y: usize) -> u8 {
+        let Some(seen) = self.seen(session) else { return 12 };
+        match if self.is("ask: backwards") { desk::ask(&seen, y, x) } else { desk::ask(&seen, x, y) } {
+            23 if self.is("ask: contradicted holds nothing") => 22,
+            answer => answer,
+        }
+    }
+}
+
+/// The last valid order in dictionary order of a few operations; of many the one with two neighbours changed, if that is valid.
+fn last_order(operations: Vec<usize>, valid: impl Fn(&[usize]) -> bool) -> Vec<usize> {
+    let mut found = operations.clone();
+    let mut list = operations;
+    for _ in 0..5_000 {
+        if valid(&list) {
+            found = list.clone();
+        }
+        if !second::orders::next_permutation(&mut list) {
+            break;
+        }
+    }
+    found
+}
+
+/// The first difference among so many cases of each family.
+fn first_difference(desk: &Faulty, cases: u64) -> Option<String> {
+    let all = (0..cases).flat_map(|case| FAMILIES.iter().map(move |family| (family, case)));
+    all.into_iter().find_map(|(family, case)| {
+        let (counts, differences) = compared(desk, family, 1, case, STEPS);
+        assert_eq!(counts.failed() > 0, !differences.is_empty(), "what differs is both told and counted");
+        differences.into_iter().next()
+    })
+}
+
+#[test]
+fn the_right_answers_pass() {
+    assert_eq!(first_difference(&Faulty(RIGHT), 60), None);
+}
+
+#[test]
+fn every_fault_is_found() {
+    let missed: Vec<&str> = FAULTS.into_iter().filter(|fault| first_difference(&Faulty(fault), 400).is_none()).collect();
+    assert!(missed.is_empty(), "not found: {missed:?}");
+}
+
+/// The text, the call, both answers and the calls before it.
+#[test]
+fn a_difference_is_told_with_its_text_and_calls() {
+    let told = first_difference(&Faulty("take back: ignored"), 400).expect("found");
+    for word in [
+        "DIFFERENCE: family",
+        "take_back: wanted 0, got 0\n",
+        "bytes differ from those wanted, at 1: ",
+        "calls so far:\n",
+        "    open under",
+        "    suppose ",
+        "text (",
+    ] {
+        assert!(told.contains(word), "no {word:?} in\n{told}");
+    }
+    let told = first_difference(&Faulty("number: 8 told as 7"), 400).expect("found");
+    assert!(told.contains("number: wanted 8, got 7\ncalls so far:\ntext ("), "{told}");
+}

@@ -1,0 +1,245 @@
+//! The entries of the library in bytes, worked out by hand from the document and from the form of the bytes.
+
+use second::chance::Chance;
+use second::desk::{ask, head_of, place_of, suppose, take_back, taken, told, Page, DONE, HEAD, VERDICT};
+use second::families::{family, text, FAMILIES};
+use second::session::{self, Answer, Talk};
+use second::stated::KNOT;
+use second::trace::text_of;
+use second::verdict::MOST_STEPS;
+use std::collections::BTreeSet;
+
+const BUFFERS: &str = "0: M[0] := 1\n0: M[1] == 0\n1: M[1] := 1\n1: M[0] == 0\n";
+
+/// What lent memory holds beforehand, so that bytes that stay can be told.
+const BEFORE: u8 = 77;
+
+fn page(text: &str) -> Page<'_> {
+    Page::new(text.as_bytes(), MOST_STEPS)
+}
+
+/// The answer, the operations, the rules, and whether all other bytes are as they should be.
+fn verdict_in(text: &str, model: u8, room: usize) -> (u8, Vec<u8>, Vec<u8>, bool) {
+    let mut lent = vec![BEFORE; room];
+    let answer = page(text).verdict(model, &mut lent).expect("known");
+    let (front, rest) = lent.split_at(VERDICT);
+    let named = usize::from(front[0]);
+    let (operations, rules) = front[1..].split_at(64);
+    let rules_named = if answer == 19 { named } else { 0 };
+    let unused = operations[named..].iter().chain(&rules[rules_named..]).all(|&byte| byte == 0);
+    let stays = rest.iter().all(|&byte| byte == BEFORE);
+    (answer, operations[..named].to_vec(), rules[..rules_named].to_vec(), unused && stays)
+}
+
+#[test]
+fn a_verdict_in_bytes() {
+    assert_eq!(VERDICT, 129);
+    for room in [129, 130, 200] {
+        assert_eq!(verdict_in(BUFFERS, 1, room), (19, vec![0, 1, 2, 3], vec![1, 4, 1, 4], true));
+        assert_eq!(verdict_in(BUFFERS, 2, room), (18, vec![1, 2, 3, 0], vec![], true));
+        assert_eq!(verdict_in(KNOT, 2, room), (20, vec![], vec![], true));
+        assert_eq!(verdict_in("0: M[0] := 1\n0: sync\n0: M[0] == 2\n", 1, room), (11, vec![2], vec![], true));
+        assert_eq!(verdict_in("", 2, room), (18, vec![], vec![], true));
+        assert_eq!(verdict_in(BUFFERS, 0, room), (9, vec![], vec![], true));
+        assert_eq!(verdict_in(BUFFERS, 3, room), (9, vec![], vec![], true));
+        assert_eq!(verdict_in("0: syn\n", 3, room), (3, vec![], vec![], true), "a refused text is told before a bad model");
+    }
+    for room in [0, 1, 128] {
+        let mut lent = vec![BEFORE; room];
+        assert_eq!(page("0: syn\n").verdict(3, &mut lent), Some(17));
+        assert_eq!(lent, vec![BEFORE; room]);
+    }
+}
+
+#[test]
+fn a_report_in_bytes() {
+    let wanted = b"SC: no order, circle 0 1 2 3 by 1 4 1 4\nTSO: order 1 2 3 0\n";
+    for (room, length) in [(wanted.len() - 1, 0), (wanted.len(), wanted.len()), (1116, wanted.len()), (0, 0)] {
+        let mut lent = vec![BEFORE; room];
+        assert_eq!(page(BUFFERS).report(&mut lent), length);
+        assert_eq!(lent[..length], wanted[..length]);
+        assert!(lent[length..].iter().all(|&byte| byte == BEFORE));
+    }
+}
+
+#[test]
+fn where_the_bad_line_lies() {
+    let place = |text: &str| {
+        let page = page(text);
+        (page.number(), page.line(), page.start(), page.end())
+    };
+    assert_eq!(place(""), (0, 0, 0, 0));
+    assert_eq!(place(BUFFERS), (0, 0, 0, 0));
+    assert_eq!(place("0: M[0] := 1\n0: M[1] = 0\n"), (3, 2, 13, 24));
+    assert_eq!(place("0: M[0] := 1\n0: M[1] == 0"), (3, 2, 13, 25), "no ending line feed");
+    assert_eq!(place("0: sync\n\n0: sync\n"), (3, 2, 8, 8), "an empty line lies somewhere too");
+    assert_eq!(place("\n"), (3, 1, 0, 0));
+    assert_eq!(place(&"\n".repeat(8_193)), (1, 0, 0, 0));
+    assert_eq!(place(&"8".repeat(81)), (2, 1, 0, 81));
+}
+
+#[test]
+fn lists_judged() {
+    let judged = |text: &str, model, list: &[u8]| page(text).judge(model, list);
+    assert!(judged(BUFFERS, 2, &[1, 2, 3, 0]));
+    assert!(!judged(BUFFERS, 1, &[1, 2, 3, 0]));
+    assert!(!judged(BUFFERS, 3, &[1, 2, 3, 0]));
+    assert!(!judged(BUFFERS, 2, &[1, 2, 3, 0, 0]));
+    assert!(!judged(BUFFERS, 2, &[1, 2, 3, 255]));
+    assert!(judged("", 1, &[]));
+    assert!(!judged("\n", 1, &[]));
+}
+
+/// A session on the store buffers under TSO, as it is opened.
+fn opened() -> Vec<u8> {
+    let mut lent = vec![BEFORE; HEAD + BUFFERS.len()];
+    assert_eq!(page(BUFFERS).open(2, &mut lent).0, 0);
+    lent
+}
+
+/// Model, count, the pairs that stand, contradicted, what is held.
+type Told = (u8, u8, Vec<(u8, u8)>, u8, Vec<(usize, usize)>);
+
+/// All of a head, byte for byte by its places; whatever lies elsewhere and is not 0 fails.
+fn told_head(bytes: &[u8]) -> Told {
+    let count = usize::from(bytes[1]);
+    let pairs = (0..count).map(|i| (bytes[2 + 2 * i], bytes[3 + 2 * i])).collect();
+    assert!(bytes[2 + 2 * count..34].iter().all(|&byte| byte == 0));
+    assert!(bytes[35..4131].iter().all(|&byte| byte <= 1));
+    let held = (0..4096).filter(|i| bytes[35 + i] == 1).map(|i| (i / 64, i % 64)).collect();
+    (bytes[0], bytes[1], pairs, bytes[34], held)
+}
+
+#[test]
+fn a_session_in_bytes() {
+    assert_eq!((HEAD, place_of((0, 0)), place_of((1, 2)), place_of((63, 63))), (4131, 35, 101, 4130));
+    let mut lent = opened();
+    let fresh = lent.clone();
+    assert_eq!(&lent[4131..], BUFFERS.as_bytes());
+    assert_eq!(told_head(&lent), (2, 0, vec![], 0, vec![(1, 2), (3, 0)]));
+    assert_eq!(ask(&lent, 3, 2), 22);
+    assert_eq!(suppose(&mut lent, 0, 1), 0);
+    let held = vec![(0, 1), (0, 2), (1, 2), (3, 0), (3, 1), (3, 2)];
+    assert_eq!(told_head(&lent), (2, 1, vec![(0, 1)], 0, held));
+    assert_eq!(ask(&lent, 3, 2), 21);
+    let first = lent.clone();
+    assert_eq!(suppose(&mut lent, 2, 3), 0);
+    assert_eq!(told_head(&lent), (2, 2, vec![(0, 1), (2, 3)], 1, vec![]));
+    assert_eq!(ask(&lent, 3, 2), 23);
+    assert_eq!(take_back(&mut lent), 0);
+    assert_eq!(lent, first);
+    assert_eq!(take_back(&mut lent), 0);
+    assert_eq!(lent, fresh);
+    assert_eq!(
+        [take_back(&mut lent), suppose(&mut lent, 0, 4), suppose(&mut lent, 1, 1), ask(&lent, 256, 1), ask(&lent, 2, 2)],
+        [16, 13, 14, 13, 14]
+    );
+    for _ in 0..16 {
+        assert_eq!(suppose(&mut lent, 1, 2), 0);
+    }
+    assert_eq!(suppose(&mut lent, 1, 2), 15);
+    assert_eq!(told_head(&lent), (2, 16, vec![(1, 2); 16], 0, vec![(1, 2), (3, 0)]));
+}
+
+#[test]
+fn memory_and_openings() {
+    let nothing: Vec<u8> = std::iter::once(1).chain(std::iter::repeat(0)).take(HEAD).collect();
+    for (text, model, answer) in [("0: syn\n", 1, 3), ("0: syn\n", 9, 3), (BUFFERS, 0, 9), ("0: M[0] == 5\n", 2, 11)] {
+        let mut lent = vec![BEFORE; HEAD + text.len() + 9];
+        assert_eq!(page(text).open(model, &mut lent).0, answer);
+        assert_eq!(lent[..HEAD], nothing);
+        assert!(lent[HEAD..].iter().all(|&byte| byte == BEFORE), "the rest stays");
+        assert_eq!([ask(&lent[..HEAD], 0, 1), suppose(&mut lent[..HEAD], 0, 1), take_back(&mut lent[..HEAD])], [13, 13, 16]);
+        assert_eq!(page(text).open(model, &mut lent[..HEAD + text.len() - 1]).0, 17);
+    }
+    let mut lent = vec![BEFORE; HEAD + BUFFERS.len() + 3];
+    assert_eq!(page(BUFFERS).open(2, &mut lent).0, 0);
+    assert_eq!(lent, [opened(), vec![BEFORE; 3]].concat());
+    assert_eq!(ask(&lent, 0, 1), 12, "with what lies behind it is another text");
+}
+
+#[test]
+fn any_other_byte_is_no_session() {
+    let mut lent = opened();
+    assert_eq!(suppose(&mut lent, 0, 1), 0);
+    let mut sessions = BTreeSet::new();
+    for place in 0..lent.len() {
+        for byte in [0, 1, 2, 3, b'1', b'3', b'7', 64, 255, lent[place] ^ 1, lent[place] ^ 128] {
+            let mut other = lent.clone();
+            other[place] = byte;
+            if other != lent && ask(&other, 3, 2) != 12 {
+                sessions.insert((place - HEAD, byte));
+            }
+        }
+        assert_eq!(ask(&lent[..place], 3, 2), 12, "cut off at {place}");
+    }
+    // Nothing in front of the text may be another byte. In the text each record may be some further thread's, as TSO keeps no pair of this trace;
+    // record 2 also thread 0's, for 0 before 2 and 1 before 2 are held already; and the two stores may write other values, which nobody reads.
+    let threads = [0, 13, 26, 39].into_iter().flat_map(|place| [(place, b'3'), (place, b'7')]);
+    let values = [11, 37].into_iter().flat_map(|place| [(place, b'3'), (place, b'7')]);
+    assert_eq!(sessions, threads.chain(values).chain([(26, b'0')]).collect());
+}
+
+#[test]
+fn bytes_that_are_taken_are_laid_down_the_same() {
+    let mut chance = Chance::new(3);
+    let mut taken_apart = 0;
+    for case in 0..3_000 {
+        let family = chance.of(&FAMILIES);
+        let text = text(family, 21, case);
+        let mut lent = vec![0; HEAD + text.len()];
+        if Page::new(&text, 1).open(chance.between(1, 2) as u8, &mut lent).0 != DONE {
+            continue;
+        }
+        for _ in 0..chance.below(4) {
+            let place = if chance.percent(50) { chance.below(40) } else { chance.below(lent.len()) };
+            lent[place] = chance.below(3) as u8;
+        }
+        if let Some(session) = taken(&lent) {
+            taken_apart += 1;
+            assert_eq!([&head_of(&session)[..], &text_of(session.trace.records())].concat(), lent);
+        }
+    }
+    assert!(taken_apart > 500, "{taken_apart}");
+}
+
+/// A talk answers as the plain functions do, which make everything anew.
+#[test]
+fn a_talk_and_the_plain_functions_agree() {
+    let mut chance = Chance::new(19);
+    let mut answers = BTreeSet::new();
+    for case in 0..400 {
+        let name = *chance.of(&["dense", "weak", "stated", "middle"]);
+        let text = text(family(name).expect("a family"), 5, case);
+        let page = Page::new(&text, 1);
+        let trace = page.trace().expect("good");
+        let model = chance.between(1, 2) as u64;
+        let (Ok(mut talk), Ok(mut plain)) = (Talk::open(trace, model), session::open(trace, model)) else { continue };
+        let supposes = *chance.of(&[40, 90]);
+        for _ in 0..22 {
+            let (x, y) = (chance.below(trace.count + 1), chance.below(trace.count + 1));
+            let (wanted, got) = if chance.percent(supposes) {
+                (moved(&mut plain, |session| session::suppose(session, x, y)), talk.suppose(x, y).err().unwrap_or(DONE))
+            } else if chance.percent(50) {
+                (moved(&mut plain, session::take_back), talk.take_back().err().unwrap_or(DONE))
+            } else {
+                (session::ask(&plain, x, y).map_or_else(|(number, _)| number, told), talk.ask(x, y).map_or_else(|number| number, told))
+            };
+            assert_eq!(got, wanted);
+            assert_eq!(talk.session(), &plain);
+            answers.insert(got);
+        }
+    }
+    assert_eq!(answers, [0, 13, 14, 15, 16, 21, 22, 23].into());
+    assert_eq!([Answer::Held, Answer::NotHeld, Answer::Contradicted].map(told), [21, 22, 23]);
+}
+
+fn moved(session: &mut session::Session, change: impl Fn(&session::Session) -> Result<session::Session, (u8, session::Session)>) -> u8 {
+    match change(session) {
+        Ok(next) => {
+            *session = next;
+            DONE
+        }
+        Err((number, _)) => number,
+    }
+}
