@@ -1,6 +1,7 @@
 -- Laws of the entries.
 pub mod Part
 pub mod Spelling
+pub mod Heard
 pub mod Laying
 pub mod Keeping
 pub mod Acting

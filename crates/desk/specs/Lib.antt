@@ -3,6 +3,7 @@ pub mod Text
 pub mod Part
 pub mod Answers
 pub mod Verdict
+pub mod Heard
 pub mod Judged
 pub mod Head
 pub mod Kept
