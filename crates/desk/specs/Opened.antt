@@ -2,9 +2,9 @@
 --
 --   roomy text b        == the lent bytes have room for a head and the text
 --   openNumber text m   == what is wrong with the text, or with opening a session on its trace; 0 where it is opened
---   openSession text m  == the session, or that of the empty trace under model 1
---   openAnswer text m b == the answer
---   openBytes text m b  == the bytes after it
+--   openSession text m  == the session that is opened; that of the empty trace under model 1 where none is
+--   openAnswer text m b == what comes back for the bytes that are lent
+--   openBytes text m b  == what they hold then: head and text, or the head alone, and all else as it was
 use mathlib.Core.Bool.{Bool, cond}
 use mathlib.Core.List.{List, _++_}
 use Prim.Native.Nat.{ℕ, _+_}
