@@ -9,6 +9,10 @@
 #include <stddef.h>
 #include <stdint.h>
 
+#ifdef __cplusplus
+extern "C" {
+#endif
+
 /* The models. */
 #define WHEELOTTER_SC 1
 #define WHEELOTTER_TSO 2
@@ -58,8 +62,8 @@ size_t wheelotter_line(const uint8_t *text, size_t text_len);
 size_t wheelotter_start(const uint8_t *text, size_t text_len);
 size_t wheelotter_end(const uint8_t *text, size_t text_len);
 
-/* A verdict in bytes: how many operations it names; from WHEELOTTER_OPERATIONS on the operations; from WHEELOTTER_RULES on the rules of a circle, each
- * of the edge from the operation in the same place to the next. Unused places are 0. */
+/* A verdict in bytes: how many operations it names; from WHEELOTTER_OPERATIONS on the operations; from WHEELOTTER_RULES on the rules of a
+ * circle, each of the edge from the operation in the same place to the next. Unused places are 0. */
 #define WHEELOTTER_VERDICT 129
 #define WHEELOTTER_OPERATIONS 1
 #define WHEELOTTER_RULES 65
@@ -83,22 +87,28 @@ bool wheelotter_judge(const uint8_t *text, size_t text_len, uint8_t model, const
  *   34           1 where contradicted
  *   35 to 4130   byte 35 + 64 * x + y is 1 where x before y is held; all 0 while contradicted
  *   4131 on      the text, to the end of the slice
- * Two sessions are equal exactly when their bytes are. They may be copied, kept and sent; bytes that are not such a session, made by opening and
- * supposing, get WHEELOTTER_NO_SESSION from every call and stay as they are. */
+ * Two sessions are equal exactly when their bytes are. They may be copied, kept and sent; bytes that are not such a session, made by
+ * opening and supposing, get WHEELOTTER_NO_SESSION from every call and stay as they are. */
 #define WHEELOTTER_HEAD 4131
 
-/* Opens a session on a text under a model, in the first WHEELOTTER_HEAD + text_len bytes of session; the rest stays. Hand on just these bytes. Gives
- * back WHEELOTTER_DONE; or 1 to 8, WHEELOTTER_NO_MODEL or WHEELOTTER_NO_SOURCE (wheelotter_verdict tells whose), and then the first WHEELOTTER_HEAD
- * bytes are the session of the empty text under model 1; or WHEELOTTER_NO_ROOM, and session stays as it was. */
+/* Opens a session on a text under a model, in the first WHEELOTTER_HEAD + text_len bytes of session; the rest stays. Hand on just these
+ * bytes. Gives back WHEELOTTER_DONE; or 1 to 8, WHEELOTTER_NO_MODEL or WHEELOTTER_NO_SOURCE (wheelotter_verdict tells whose), and then the
+ * first WHEELOTTER_HEAD bytes are the session of the empty text under model 1; or WHEELOTTER_NO_ROOM, and session stays as it was. */
 uint8_t wheelotter_open(const uint8_t *text, size_t text_len, uint8_t model, uint8_t *session, size_t session_len);
 
-/* Supposes that record x came before record y: WHEELOTTER_DONE, or WHEELOTTER_NO_SESSION to WHEELOTTER_MANY_PAIRS, and the session stays as it was. */
+/* Supposes that record x came before record y: WHEELOTTER_DONE, or WHEELOTTER_NO_SESSION to WHEELOTTER_MANY_PAIRS, and the session stays
+ * as it was. */
 uint8_t wheelotter_suppose(uint8_t *session, size_t session_len, size_t x, size_t y);
 
 /* Takes the latest pair back: WHEELOTTER_DONE, or WHEELOTTER_NO_SESSION or WHEELOTTER_NO_PAIR, and the session stays as it was. */
 uint8_t wheelotter_take_back(uint8_t *session, size_t session_len);
 
-/* Asks whether x before y is held: WHEELOTTER_HELD, WHEELOTTER_NOT_HELD, WHEELOTTER_CONTRADICTED, or WHEELOTTER_NO_SESSION to WHEELOTTER_SAME_TWICE. */
+/* Asks whether x before y is held: WHEELOTTER_HELD, WHEELOTTER_NOT_HELD, WHEELOTTER_CONTRADICTED, or WHEELOTTER_NO_SESSION to
+ * WHEELOTTER_SAME_TWICE. */
 uint8_t wheelotter_ask(const uint8_t *session, size_t session_len, size_t x, size_t y);
+
+#ifdef __cplusplus
+}
+#endif
 
 #endif

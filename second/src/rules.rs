@@ -176,50 +176,38 @@ pub fn chains(edges: &Edges) -> Pairs {
     Pairs::from_iter(all)
 }
 
-/// The shortest circle; written from its lowest number; of several the first in dictionary order.
+/// The shortest circle; written from its lowest number; of several the first in dictionary order. Just so it is looked for: one length after the
+/// other, one start after the other, and from each start every list of higher numbers in dictionary order. The first that closes is the one.
 ///
-/// Let k be the shortest length and s the lowest operation on any circle of that length. Every circle of length k through s is written
-/// from s, as none of its operations is below s. So the first in dictionary order begins with s, and goes on, place by place, with the
-/// lowest operation from which s is still reached in just the steps that are left. (A closed walk of the shortest length names no
-/// operation twice, or a shorter one would be inside it.)
+/// An edge lies on a circle only where a chain leads back from its end to its beginning: other edges are left out, or there would be too many lists.
 pub fn first_shortest_circle(edges: &Edges) -> Option<Vec<usize>> {
-    let followers = followers(edges);
-    let mut best: Option<(usize, Vec<Marks>)> = None;
-    for &(s, _) in &followers {
-        // A later start counts only where it comes back sooner.
-        let most = best.as_ref().map_or(MOST_RECORDS, |(_, steps)| steps.len() - 1);
-        if let Some(steps) = returning(&followers, s, most) {
-            best = Some((s, steps));
-        }
-    }
-    let (start, steps) = best?;
-    let mut list = vec![start];
-    for left in (1..steps.len()).rev() {
-        let here = list[list.len() - 1];
-        let next = edges.range((here, 0)..=(here, usize::MAX)).map(|(&(_, y), _)| y).find(|&y| steps[left][y])?;
-        list.push(next);
-    }
-    Some(list)
+    let back = chains(edges);
+    let on_circles: Edges = edges.iter().filter(|((x, y), _)| back.contains(&(*y, *x))).map(|(&pair, &rule)| (pair, rule)).collect();
+    let followers = followers(&on_circles);
+    let mut ends: [&[usize]; MOST_RECORDS] = [&[]; MOST_RECORDS];
+    followers.iter().for_each(|(x, next)| ends[*x] = next);
+    (1..=followers.len()).find_map(|length| {
+        followers.iter().find_map(|(start, _)| {
+            let mut list = vec![*start];
+            closes(&ends, &mut list, length).then_some(list)
+        })
+    })
 }
 
-/// Entry n: the operations from which some walk of exactly n edges ends in s; one entry for each n below the length of the shortest walk
-/// from s to s. None where that walk would have more than `most` edges.
-fn returning(followers: &Followers, s: usize, most: usize) -> Option<Vec<Marks>> {
-    let mut steps = vec![[false; MOST_RECORDS]];
-    steps[0][s] = true;
-    while steps.len() <= most {
-        let after = &steps[steps.len() - 1];
-        let mut before: Marks = [false; MOST_RECORDS];
-        for (x, ends) in followers {
-            before[*x] = ends.iter().any(|&y| after[y]);
-        }
-        if before[s] {
-            return Some(steps);
-        }
-        if !before.contains(&true) {
-            return None;
-        }
-        steps.push(before);
+/// Makes the list longer, in dictionary order, until it has this length and an edge leads from its last to its first; false where that cannot be.
+fn closes(ends: &[&[usize]; MOST_RECORDS], list: &mut Vec<usize>, length: usize) -> bool {
+    let (first, last) = (list[0], list[list.len() - 1]);
+    if list.len() == length {
+        return ends[last].contains(&first);
     }
-    None
+    for &next in ends[last] {
+        if next > first && !list.contains(&next) {
+            list.push(next);
+            if closes(ends, list, length) {
+                return true;
+            }
+            list.pop();
+        }
+    }
+    false
 }
