@@ -2,7 +2,9 @@
 
 use crate::families::{family, Family, FAMILIES};
 use crate::verdict::MOST_STEPS;
+use std::process::ExitCode;
 use std::sync::atomic::{AtomicU64, Ordering};
+use std::thread;
 use std::time::{Duration, Instant};
 
 pub struct Plan {
@@ -76,8 +78,30 @@ impl Plan {
         Some((self.families[(number % count) as usize], number / count))
     }
 
+    /// Every case, on as many threads as were asked for.
+    pub fn each(&self, compare: impl Fn(&'static Family, u64) + Sync) {
+        thread::scope(|scope| {
+            for _ in 0..self.threads {
+                scope.spawn(|| {
+                    while let Some((family, case)) = self.next() {
+                        compare(family, case);
+                    }
+                });
+            }
+        });
+    }
+
     pub fn elapsed(&self) -> Duration {
         self.begun.elapsed()
+    }
+}
+
+/// Good only where something passed and nothing failed: what never answers in time has not passed anything.
+pub fn ended(passed: u64, failed: u64) -> ExitCode {
+    if failed == 0 && passed > 0 {
+        ExitCode::SUCCESS
+    } else {
+        ExitCode::FAILURE
     }
 }
 

@@ -7,11 +7,10 @@
 use entries::call::ENTRIES;
 use entries::case::{compared, Counts, ANSWERS};
 use entries::desk::Proved;
-use second::plan::Plan;
+use second::plan::{ended, Plan};
 use std::collections::BTreeMap;
 use std::process::ExitCode;
 use std::sync::Mutex;
-use std::thread;
 
 /// Past so many, differences are counted and no longer printed.
 const MOST_PRINTED: u64 = 50;
@@ -28,29 +27,22 @@ fn main() -> ExitCode {
         return ExitCode::from(2);
     };
     let tally = Mutex::new(Tally::default());
-    thread::scope(|scope| {
-        for _ in 0..plan.threads {
-            scope.spawn(|| work(&plan, &tally));
-        }
+    plan.each(|family, case| {
+        let (counts, differences) = compared(&Proved, family, plan.seed, case, plan.steps);
+        tally.lock().expect("no worker panicked").note(family.name, &counts, &differences);
     });
     let tally = tally.into_inner().expect("no worker panicked");
     print(&plan, &tally.families);
     let all = sum(&tally.families);
-    if all.failed() == 0 && all.passed() > 0 {
-        ExitCode::SUCCESS
-    } else {
-        ExitCode::FAILURE
-    }
+    ended(all.passed(), all.failed())
 }
 
-fn work(plan: &Plan, tally: &Mutex<Tally>) {
-    while let Some((family, case)) = plan.next() {
-        let (counts, differences) = compared(&Proved, family, plan.seed, case, plan.steps);
-        let mut tally = tally.lock().expect("no worker panicked");
-        tally.families.entry(family.name).or_default().add(&counts);
+impl Tally {
+    fn note(&mut self, family: &'static str, counts: &Counts, differences: &[String]) {
+        self.families.entry(family).or_default().add(counts);
         for difference in differences {
-            tally.printed += 1;
-            if tally.printed <= MOST_PRINTED {
+            self.printed += 1;
+            if self.printed <= MOST_PRINTED {
                 println!("{difference}");
             }
         }

@@ -7,7 +7,7 @@
 use second::bench::{self, NOT_KNOWN};
 use second::families::{text, Family};
 use second::orders;
-use second::plan::{shown, Plan};
+use second::plan::{ended, shown, Plan};
 use second::reader;
 use second::trace::Model;
 use std::collections::BTreeMap;
@@ -26,28 +26,15 @@ fn main() -> ExitCode {
         return ExitCode::from(2);
     };
     let tally = Mutex::new(Tally::default());
-    thread::scope(|scope| {
-        for _ in 0..plan.threads {
-            scope.spawn(|| work(&plan, &tally));
-        }
+    plan.each(|family, case| {
+        let text = text(family, plan.seed, case);
+        let wanted = bench::output(&text, plan.steps);
+        let outcome = if plan.program.is_empty() { alone(&wanted) } else { compared(&plan, &text, &wanted) };
+        tally.lock().expect("no worker panicked").note(&plan, family, case, &text, &wanted, outcome);
     });
     let tally = tally.into_inner().expect("no worker panicked");
     tally.print(&plan);
-    // A program that never answers in time has not passed anything.
-    if tally.failed() == 0 && tally.passed() > 0 {
-        ExitCode::SUCCESS
-    } else {
-        ExitCode::FAILURE
-    }
-}
-
-fn work(plan: &Plan, tally: &Mutex<Tally>) {
-    while let Some((family, case)) = plan.next() {
-        let text = text(family, plan.seed, case);
-        let wanted = bench::output(&text, plan.steps);
-        let outcome = if plan.program.is_empty() { alone(&wanted) } else { compared(plan, &text, &wanted) };
-        tally.lock().expect("no worker panicked").note(plan, family, case, &text, &wanted, outcome);
-    }
+    ended(tally.passed(), tally.failed())
 }
 
 /// What came of one case. A case that is skipped counts neither as passed nor as failed.
