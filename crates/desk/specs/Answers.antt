@@ -3,6 +3,7 @@
 --   NO-ROOM                        == the lent buffer is too short
 --   ORDER, CIRCLE, NONE-LEFT       == a verdict
 --   HELD, NOT-HELD, CONTRADICTED   == what a session says when it is asked
+--   NO-SOURCE                      == document 01's number of a missing source
 --   outcomeNumber o                == the answer to a verdict of this outcome: a missing source is document 01's 11
 use Prim.Native.Nat.{ℕ}
 use Rattle.verdict.specs.Told.{refusedBy}
@@ -30,7 +31,6 @@ NOT-HELD = 22
 abbrev pub CONTRADICTED : ℕ
 CONTRADICTED = 23
 
--- document 01's number of a missing source
 abbrev pub NO-SOURCE : ℕ
 NO-SOURCE = 11
 

@@ -1,11 +1,12 @@
 -- A verdict in bytes.
 --
---   VERDICT            == how many bytes it has: how many operations it tells, their places, the places of the rules
---   lacking o          == the record that lacks a source; 0 for any other outcome
---   spelled v          == the verdict as it is told: a record that lacks a source is its one operation
---   bytesOf v          == the bytes of a verdict that is spelled
---   verdictNumber text m == what is wrong with the text, or else the verdict's outcome, in numbers
---   verdictBytes text m  == the bytes beside it, all 0 where the text is turned back
+--   VERDICT                     == how many bytes it has: how many operations it tells, their places, the places of the rules
+--   lacking o                   == the record that lacks a source; 0 for any other outcome
+--   spelled v                   == the verdict as it is told: a record that lacks a source is its one operation
+--   spelledAs o v               == the same, by its outcome
+--   bytesOf v                   == the bytes of a verdict that is spelled
+--   verdictNumber text m        == what is wrong with the text, or else the verdict's outcome, in numbers
+--   verdictBytes text m         == the bytes beside it, all 0 where the text is turned back
 --   verdictAnswer text m before == what comes back for a buffer that is lent
 --   verdictBuffer text m before == what the buffer holds then: the bytes at its front, or all as it was where it is too short
 use mathlib.Core.Bool.{cond}
