@@ -2,7 +2,7 @@
 --
 --   Adding e New m n t              == t is e with those pairs of New whose measure m is below n
 --   adding-none, adding-more, adding-same, added == before the first step, a step, a step that adds nothing, past the last step
---   join-none, join-mark, join-skip, joined      == the steps of what row k gives to row x, number by number
+--   join-none, join-word, joined                 == the steps of what row k gives to row x, word by word
 --   pass-none, pass-join, pass-skip, passed      == the steps of what leads through k, row by row
 --   Stage e k t                     == t holds the chains of e through numbers below k
 --   stage-none, stage-more          == before the first number, and one number more
@@ -10,23 +10,24 @@
 --   chained-one                     == no second list holds the chains
 use mathlib.Core.Path.{_≡_, refl, sym, _∙_, subst}
 use mathlib.Core.Logic.{_≢_, _⊎_, inl, inr, _↔_}
-use mathlib.Core.Bool.{false, So, false≢true}
+use mathlib.Core.Bool.{false, So, false≢true, _||_, _&&_}
 use mathlib.Core.List.{List}
-use Prim.Native.Nat.{ℕ, _+_, _<_, _≤_}
+use Prim.Native.Nat.{ℕ, _+_, _*_, _/_, _%_, _<_, _≤_}
 use native.Mathlib.Numerals.{add-one}
 use native.Mathlib.Omega.{arith}
-use lib.ListN.{length}
+use lib.Dec.{eqb}
+use lib.ListN.{length, getD}
+use Rattle.laws.specs.Bits.{bitOf}
 use Rattle.laws.specs.Relation.{Rel}
-use Rattle.laws.proofs.Tests.{test-one, and-iff, or-iff, same-iff, eq?}
+use Rattle.laws.proofs.Tests.{test-one, and-iff, or-iff, same-iff, so-eq, eq?}
 use Rattle.laws.proofs.Via.{Via, via-zero, via-more, chain-iff-via, cell}
 use Rattle.trace.specs.Bounds.{RECORDS}
-use Rattle.rows.specs.Bounds.{CELLS}
-use Rattle.rows.specs.Rows.{bit, Edges, Words}
-use Rattle.rows.specs.Put.{markOf}
+use Rattle.rows.specs.Bounds.{WIDTH, WORDS, CELLS}
+use Rattle.rows.specs.Rows.{place, bit, Edges, Words}
 use Rattle.rows.specs.Added.{Added, Row, Through}
 use Rattle.rows.specs.Chained.{Chained}
-use Rattle.rows.proofs.Rows.{bit-bounds, place-in}
-use Rattle.rows.proofs.Pair.{mark-iff, mark-long, mark-words}
+use Rattle.rows.proofs.Rows.{row-full, bit-at, bit-bounds}
+use Rattle.rows.proofs.Or.{orOf, or-long, or-words, or-bits}
 use Rattle.rows.proofs.Whole.{rows-one}
 
 -- Pairs are added step by step --------------------------------------------------------------------------------------------------------------
@@ -70,35 +71,63 @@ module _ (e : List ℕ) (New : Rel) (m : ℕ → ℕ → ℕ) where
       );
     }
 
--- What row k gives to row x, number by number ------------------------------------------------------------------------------------------------
+-- What row k gives to row x, word by word ----------------------------------------------------------------------------------------------------
 
 abbrev pub Joining : List ℕ → ℕ → ℕ → ℕ → List ℕ → Type 0
-Joining e x k y t = Adding e (Row e x k) (λ i j. j) y t
+Joining e x k i t = Adding e (Row e x k) (λ _ y. y / WIDTH) i t
+
+module _ (t : List ℕ) (x k i : ℕ) where
+  -- word i of row x takes over word i of row k
+  abbrev pub joinOf : List ℕ
+  joinOf = orOf t (x * WORDS + i) (getD t (k * WORDS + i) 0)
+
+  module _ (hx : x < RECORDS) (hk : k < RECORDS) (hi : i < WORDS) (l : length t ≡ CELLS) (a y : ℕ) where
+    -- of records, a bit is in the word that has grown or it is as before
+    join-in : a < RECORDS → y < RECORDS → So (bit joinOf a y) ↔ (Edges t a y ⊎ ((y / WIDTH ≡ i) × Row t x k a y))
+    join-in ha hy =
+        let grown = or-bits t (x * WORDS + i) (getD t (k * WORDS + i) 0) (omega arith) (place a y) (y % WIDTH) in
+        let tests = or-iff (same-iff {a = bitOf (getD t (place a y) 0) (y % WIDTH)}) (and-iff (so-eq {m = place a y} {n = x * WORDS + i}) (same-iff {a = bitOf (getD t (k * WORDS + i) 0) (y % WIDTH)})) in
+        rw (bit-at joinOf a y ha hy, bit-at t a y ha hy, bit-at t k y hk hy, grown) (
+          λ h. elim (tests .0 h) [
+            | inl g ↦ inl g
+            | inr q ↦
+                let e : y / WIDTH ≡ i = omega (arith, q .0, row-full) in
+                inr (e, (omega (arith, q .0, row-full), rw e (q .1)))
+          ],
+          λ s. tests .1 (elim s [
+            | inl g ↦ inl g
+            | inr q ↦ inr (omega (arith, q .0, q .1 .0), rw (sym (q .0)) (q .1 .1))
+          ]),
+        )
+
+    join-iff : So (bit joinOf a y) ↔ (Edges t a y ⊎ ((y / WIDTH ≡ i) × Row t x k a y))
+    join-iff = (
+      λ h. let b = bit-bounds joinOf a y h in join-in (b .0) (b .1) .0 h,
+      λ s.
+          let b : (a < RECORDS) × (y < RECORDS) = elim s [ inl g ↦ bit-bounds t a y g | inr q ↦ (omega (arith, q .1 .0), bit-bounds t k y (q .1 .1) .1) ] in
+          join-in (b .0) (b .1) .1 s,
+    )
 
 pub join-none : (e : List ℕ) (x k : ℕ) → Joining e x k 0 e
-join-none e x k = adding-none e (Row e x k) (λ i j. j)
+join-none e x k = adding-none e (Row e x k) (λ _ y. y / WIDTH)
 
-module _ (e t : List ℕ) (x k y : ℕ) (now : Joining e x k y t) where
+module _ (e t : List ℕ) (x k i : ℕ) (now : Joining e x k i t) where
   -- row k is not changed by what it gives
-  join-row : (j : ℕ) → So (bit t k j) ↔ Edges e k j
-  join-row j = (λ h. elim (now .pairs k j .0 h) [ inl r ↦ r | inr q ↦ q .1 .1 ], λ r. now .pairs k j .1 (inl r))
+  join-row : (y : ℕ) → So (bit t k y) ↔ Edges e k y
+  join-row y = (λ h. elim (now .pairs k y .0 h) [ inl r ↦ r | inr q ↦ q .1 .1 ], λ r. now .pairs k y .1 (inl r))
 
-  pub join-mark : x < RECORDS → y < RECORDS → length t ≡ CELLS → So (bit t k y) → Joining e x k (y + 1) (markOf t x y)
-  join-mark hx hy l has =
-      adding-more e (Row e x k) (λ i j. j) y t now (markOf t x y) (mark-long t x y) (mark-words t x y)
-      (λ i j.
-      let pair = mark-iff t x y hx hy (place-in hx hy (omega arith)) i j in (
-        λ h. elim (pair .0 h) [ inl g ↦ inl g | inr q ↦ inr (q .1, (q .0, subst (Edges e k) (sym (q .1)) (join-row y .0 has))) ],
-        λ s. pair .1 (elim s [ inl g ↦ inl g | inr q ↦ inr (q .1 .0, q .0) ]),
+  pub join-word : x < RECORDS → k < RECORDS → i < WORDS → length t ≡ CELLS → Joining e x k (i + 1) (joinOf t x k i)
+  join-word hx hk hi l =
+      adding-more e (Row e x k) (λ _ y. y / WIDTH) i t now (joinOf t x k i) (or-long t (x * WORDS + i) _)
+      (λ words. or-words t (x * WORDS + i) _ (words (k * WORDS + i)) words)
+      (λ a y.
+      let given = join-iff t x k i hx hk hi l a y in (
+        λ h. elim (given .0 h) [ inl g ↦ inl g | inr q ↦ inr (q .0, (q .1 .0, join-row y .0 (q .1 .1))) ],
+        λ s. given .1 (elim s [ inl g ↦ inl g | inr q ↦ inr (q .0, (q .1 .0, join-row y .1 (q .1 .1))) ]),
       ))
 
-  pub join-skip : bit t k y ≡ false → Joining e x k (y + 1) t
-  join-skip off =
-      adding-same e (Row e x k) (λ i j. j) y t now
-      (λ i j p q. false≢true (sym off ∙ join-row y .1 (subst (Edges e k) p (q .1))))
-
-  pub joined : RECORDS ≤ y → Added e (Row e x k) t
-  joined h = added e (Row e x k) (λ i j. j) y t now (λ i j q. omega (arith, bit-bounds e k j (q .1) .1))
+  pub joined : WORDS ≤ i → Added e (Row e x k) t
+  joined h = added e (Row e x k) (λ _ y. y / WIDTH) i t now (λ _ y q. omega (arith, row-full, bit-bounds e k y (q .1) .1))
 
 -- What leads through k, row by row -----------------------------------------------------------------------------------------------------------
 

@@ -1,4 +1,5 @@
 pub mod Rows
+pub mod Or
 pub mod Pair
 pub mod Whole
 pub mod Closing

@@ -5,7 +5,7 @@
 --   mark-long, put-long   == as many words as before
 --   mark-words, put-words == words stay words
 --   put-in, put-left, put-right, put-past == within the records the pair is marked; elsewhere nothing changes
-use mathlib.Core.Path.{_≡_, refl}
+use mathlib.Core.Path.{_≡_, refl, _∙_}
 use mathlib.Core.Logic.{_⊎_, _↔_, inl, inr}
 use mathlib.Core.Bool.{Bool, true, false, So, cond, _||_, _&&_, or-false}
 use mathlib.Core.List.{List}
@@ -25,34 +25,22 @@ use Rattle.trace.specs.Bounds.{RECORDS}
 use Rattle.rows.specs.Bounds.{WIDTH, CELLS}
 use Rattle.rows.specs.Rows.{place, bit, Edges, Words}
 use Rattle.rows.specs.Put.{markOf, putOf}
+use Rattle.rows.proofs.Or.{or-long, or-words, or-bits}
 use Rattle.rows.proofs.Rows.{bit-at, bit-left, bit-right, place-in}
 
 module _ (rows : List ℕ) (x y : ℕ) where
-  -- the word of the pair, with its bit
-  abbrev word : ℕ
-  word = bitOr (getD rows (place x y) 0) (2 ^ (y % WIDTH))
-
   pub mark-long : length (markOf rows x y) ≡ length rows
   unfolding markOf
-  mark-long = length-set rows (place x y) _
+  mark-long = or-long rows (place x y) (2 ^ (y % WIDTH))
 
   pub mark-words : Words rows → Words (markOf rows x y)
   unfolding markOf
-  mark-words w i = elim (eq? i (place x y)) [
-    | inl e ↦ rw e (elim (decLt (place x y) (length rows)) [
-      | yes l ↦ rw (getD-set-same rows (place x y) word 0 l) (or-lt WIDTH (getD rows (place x y) 0) (2 ^ (y % WIDTH)) (w (place x y)) (pow-lt {i = y % WIDTH} {j = WIDTH} (omega arith)))
-      | no l ↦ rw (set-out rows (place x y) word (omega arith)) (w (place x y))
-    ])
-    | inr d ↦ rw (getD-set-other rows (place x y) i word 0 d) (w i)
-  ]
+  mark-words = or-words rows (place x y) (2 ^ (y % WIDTH)) (pow-lt {i = y % WIDTH} {j = WIDTH} (omega arith))
 
   -- the words, bit by bit
   mark-word : place x y < length rows → (i j : ℕ) → bitOf (getD (markOf rows x y) i 0) j ≡ (bitOf (getD rows i 0) j || (eqb i (place x y) && eqb j (y % WIDTH)))
   unfolding markOf
-  mark-word l i j = elim (eq? i (place x y)) [
-    | inl e ↦ rw (e, getD-set-same rows (place x y) word 0 l, bitOf-or, bitOf-power, so-eq {m = place x y} {n = place x y} .1 refl) refl
-    | inr d ↦ rw (getD-set-other rows (place x y) i word 0 d, off (λ t. d (so-eq .0 t)), or-false) refl
-  ]
+  mark-word l i j = or-bits rows (place x y) (2 ^ (y % WIDTH)) l i j ∙ rw bitOf-power refl
 
   module _ (hx : x < RECORDS) (hy : y < RECORDS) where
     pub put-in : putOf rows x y ≡ markOf rows x y

@@ -172,17 +172,18 @@ pub fn reflexive(rows: &[u64]) -> bool
     false
 }
 
-// Adds to row x the pairs that row k has, bit by bit.
+// Adds to row x the pairs that row k has, a word at a time.
 fn join(rows: &mut [u64], x: usize, k: usize)
     requires { ⌜ (x < RECORDS) × (k < RECORDS) × (length (now rows) ≡ CELLS) ⌝ }
     ensures { λ r. ⌜ Added (now (rows .entry)) (Row (now (rows .entry)) x k) (now (rows .exit)) ⌝ }
 {
-    let mut y: usize = 0;
-    while y < trace::RECORDS {
-        if has(rows, k, y) {
-            mark(rows, x, y);
-        }
-        y += 1;
+    let mut i: usize = 0;
+    while i < WORDS {
+        let to = x * WORDS + i;
+        let p = rows[to];
+        let q = rows[k * WORDS + i];
+        rows[to] = p | q;
+        i += 1;
     }
 }
 
