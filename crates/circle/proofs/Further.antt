@@ -1,9 +1,8 @@
 -- Walks that are made an edge longer, turn by turn.
 --
---   RowTurn W m x y            == what the turn of y adds: the pair x, y, where row m of W has y
---   RowsTurn E W x m           == what the turn of m adds: where an edge from x to m and then a walk leads
---   AllTurn E W x              == what the turn of x adds: where an edge from x and then a walk leads
---   row-all, rows-all, all-all == all turns together
+--   RowsTurn E W x m  == what the turn of m adds: where an edge from x to m and then a walk leads
+--   AllTurn E W x     == what the turn of x adds: where an edge from x and then a walk leads
+--   rows-all, all-all == all turns together
 use mathlib.Core.Path.{_≡_, refl, sym, subst}
 use mathlib.Core.Logic.{_↔_}
 use mathlib.Core.List.{List}
@@ -15,20 +14,11 @@ use Rattle.rows.proofs.Rows.{bit-bounds}
 use Rattle.circle.specs.Added.{Through}
 use Rattle.circle.proofs.Added.{Some}
 
-abbrev pub RowTurn : List ℕ → ℕ → ℕ → ℕ → Rel
-RowTurn W m x y i j = ((i ≡ x) × (j ≡ y)) × Edges W m y
-
 abbrev pub RowsTurn : List ℕ → List ℕ → ℕ → ℕ → Rel
 RowsTurn E W x m i j = ((i ≡ x) × Edges W m j) × Edges E x m
 
 abbrev pub AllTurn : List ℕ → List ℕ → ℕ → Rel
 AllTurn E W x i j = (i ≡ x) × Through (Edges E) (Edges W) x j
-
-pub row-all : (W : List ℕ) (m x i j : ℕ) → Some RECORDS (RowTurn W m x) i j ↔ ((i ≡ x) × Edges W m j)
-row-all W m x i j = (
-  λ s. (s .2 .0 .0, subst (Edges W m) (sym (s .2 .0 .1)) (s .2 .1)),
-  λ e. (j, bit-bounds W m j (e .1) .1, ((e .0, refl), e .1)),
-)
 
 pub rows-all : (E W : List ℕ) (x i j : ℕ) → Some RECORDS (RowsTurn E W x) i j ↔ ((i ≡ x) × Through (Edges E) (Edges W) x j)
 rows-all E W x i j = (

@@ -10,16 +10,16 @@
 --   chained-one                     == no second list holds the chains
 use mathlib.Core.Path.{_≡_, refl, sym, _∙_, subst}
 use mathlib.Core.Logic.{_≢_, _⊎_, inl, inr, _↔_}
-use mathlib.Core.Bool.{false, So, false≢true, _||_, _&&_}
+use mathlib.Core.Bool.{Bool, false, So, false≢true}
 use mathlib.Core.List.{List}
-use Prim.Native.Nat.{ℕ, _+_, _*_, _/_, _%_, _<_, _≤_}
+use Prim.Native.Nat.{ℕ, zero, suc, _+_, _*_, _/_, _%_, _<_, _≤_}
 use native.Mathlib.Numerals.{add-one}
 use native.Mathlib.Omega.{arith}
-use lib.Dec.{eqb}
 use lib.ListN.{length, getD}
+use lib.Seq.{set-out}
 use Rattle.laws.specs.Bits.{bitOf}
 use Rattle.laws.specs.Relation.{Rel}
-use Rattle.laws.proofs.Tests.{test-one, and-iff, or-iff, same-iff, so-eq, eq?}
+use Rattle.laws.proofs.Tests.{test-one, and-iff, or-iff, same-iff, so-eq, so-lt, eq?}
 use Rattle.laws.proofs.Via.{Via, via-zero, via-more, chain-iff-via, cell}
 use Rattle.trace.specs.Bounds.{RECORDS}
 use Rattle.rows.specs.Bounds.{WIDTH, WORDS, CELLS}
@@ -28,6 +28,9 @@ use Rattle.rows.specs.Added.{Added, Row, Through}
 use Rattle.rows.specs.Chained.{Chained}
 use Rattle.rows.proofs.Rows.{row-full, bit-at, bit-bounds}
 use Rattle.rows.proofs.Or.{orOf, or-long, or-words, or-bits}
+use Rattle.rows.proofs.Against.{bit-word, word-small}
+use Rattle.rows.specs.Within.{wordOf}
+use Rattle.rows.specs.AddRow.{takenOver, addRowOf}
 use Rattle.rows.proofs.Whole.{rows-one}
 
 -- Pairs are added step by step --------------------------------------------------------------------------------------------------------------
@@ -76,37 +79,32 @@ module _ (e : List ℕ) (New : Rel) (m : ℕ → ℕ → ℕ) where
 abbrev pub Joining : List ℕ → ℕ → ℕ → ℕ → List ℕ → Type 0
 Joining e x k i t = Adding e (Row e x k) (λ _ y. y / WIDTH) i t
 
-module _ (t : List ℕ) (x k i : ℕ) where
-  -- word i of row x takes over word i of row k
-  abbrev pub joinOf : List ℕ
-  joinOf = orOf t (x * WORDS + i) (getD t (k * WORDS + i) 0)
+-- word i of row x takes over a word q, which has the bits of what is given
+module _ (t : List ℕ) (x i q : ℕ) (given : ℕ → Bool) (same : (y : ℕ) → y < RECORDS → y / WIDTH ≡ i → given y ≡ bitOf q (y % WIDTH)) (below : (y : ℕ) → So (given y) → y < RECORDS)
+    (hx : x < RECORDS) (hi : i < WORDS) (l : length t ≡ CELLS) where
+  abbrev grown : List ℕ
+  grown = orOf t (x * WORDS + i) q
 
-  module _ (hx : x < RECORDS) (hk : k < RECORDS) (hi : i < WORDS) (l : length t ≡ CELLS) (a y : ℕ) where
-    -- of records, a bit is in the word that has grown or it is as before
-    join-in : a < RECORDS → y < RECORDS → So (bit joinOf a y) ↔ (Edges t a y ⊎ ((y / WIDTH ≡ i) × Row t x k a y))
-    join-in ha hy =
-        let grown = or-bits t (x * WORDS + i) (getD t (k * WORDS + i) 0) (omega arith) (place a y) (y % WIDTH) in
-        let tests = or-iff (same-iff {a = bitOf (getD t (place a y) 0) (y % WIDTH)}) (and-iff (so-eq {m = place a y} {n = x * WORDS + i}) (same-iff {a = bitOf (getD t (k * WORDS + i) 0) (y % WIDTH)})) in
-        rw (bit-at joinOf a y ha hy, bit-at t a y ha hy, bit-at t k y hk hy, grown) (
-          λ h. elim (tests .0 h) [
-            | inl g ↦ inl g
-            | inr q ↦
-                let e : y / WIDTH ≡ i = omega (arith, q .0, row-full) in
-                inr (e, (omega (arith, q .0, row-full), rw e (q .1)))
-          ],
-          λ s. tests .1 (elim s [
-            | inl g ↦ inl g
-            | inr q ↦ inr (omega (arith, q .0, q .1 .0), rw (sym (q .0)) (q .1 .1))
-          ]),
-        )
+  -- of records, a bit is in the word that has grown or it is as before
+  grown-in : (a y : ℕ) → a < RECORDS → y < RECORDS → So (bit grown a y) ↔ (Edges t a y ⊎ ((y / WIDTH ≡ i) × ((a ≡ x) × So (given y))))
+  grown-in a y ha hy =
+      let word = or-bits t (x * WORDS + i) q (omega arith) (place a y) (y % WIDTH) in
+      let tests = or-iff (same-iff {a = bitOf (getD t (place a y) 0) (y % WIDTH)}) (and-iff (so-eq {m = place a y} {n = x * WORDS + i}) (same-iff {a = bitOf q (y % WIDTH)})) in
+      rw (bit-at grown a y ha hy, bit-at t a y ha hy, word) (
+        λ h. elim (tests .0 h) [
+          | inl g ↦ inl g
+          | inr p ↦ let e : y / WIDTH ≡ i = omega (arith, p .0, row-full) in inr (e, (omega (arith, p .0, row-full), same y hy e ∙ p .1))
+        ],
+        λ s. tests .1 (elim s [ inl g ↦ inl g | inr p ↦ inr (omega (arith, p .0, p .1 .0), sym (same y hy (p .0)) ∙ p .1 .1) ]),
+      )
 
-    join-iff : So (bit joinOf a y) ↔ (Edges t a y ⊎ ((y / WIDTH ≡ i) × Row t x k a y))
-    join-iff = (
-      λ h. let b = bit-bounds joinOf a y h in join-in (b .0) (b .1) .0 h,
-      λ s.
-          let b : (a < RECORDS) × (y < RECORDS) = elim s [ inl g ↦ bit-bounds t a y g | inr q ↦ (omega (arith, q .1 .0), bit-bounds t k y (q .1 .1) .1) ] in
-          join-in (b .0) (b .1) .1 s,
-    )
+  pub grown-iff : (a y : ℕ) → So (bit grown a y) ↔ (Edges t a y ⊎ ((y / WIDTH ≡ i) × ((a ≡ x) × So (given y))))
+  grown-iff a y = (
+    λ h. let b = bit-bounds grown a y h in grown-in a y (b .0) (b .1) .0 h,
+    λ s.
+        let b : (a < RECORDS) × (y < RECORDS) = elim s [ inl g ↦ bit-bounds t a y g | inr p ↦ (omega (arith, p .1 .0), below y (p .1 .1)) ] in
+        grown-in a y (b .0) (b .1) .1 s,
+  )
 
 pub join-none : (e : List ℕ) (x k : ℕ) → Joining e x k 0 e
 join-none e x k = adding-none e (Row e x k) (λ _ y. y / WIDTH)
@@ -116,15 +114,18 @@ module _ (e t : List ℕ) (x k i : ℕ) (now : Joining e x k i t) where
   join-row : (y : ℕ) → So (bit t k y) ↔ Edges e k y
   join-row y = (λ h. elim (now .pairs k y .0 h) [ inl r ↦ r | inr q ↦ q .1 .1 ], λ r. now .pairs k y .1 (inl r))
 
-  pub join-word : x < RECORDS → k < RECORDS → i < WORDS → length t ≡ CELLS → Joining e x k (i + 1) (joinOf t x k i)
+  pub join-word : x < RECORDS → k < RECORDS → i < WORDS → length t ≡ CELLS → Joining e x k (i + 1) (orOf t (x * WORDS + i) (getD t (k * WORDS + i) 0))
   join-word hx hk hi l =
-      adding-more e (Row e x k) (λ _ y. y / WIDTH) i t now (joinOf t x k i) (or-long t (x * WORDS + i) _)
-      (λ words. or-words t (x * WORDS + i) _ (words (k * WORDS + i)) words)
+      adding-more e (Row e x k) (λ _ y. y / WIDTH) i t now (orOf t (x * WORDS + i) q) (or-long t (x * WORDS + i) q)
+      (λ words. or-words t (x * WORDS + i) q (words (k * WORDS + i)) words)
       (λ a y.
-      let given = join-iff t x k i hx hk hi l a y in (
-        λ h. elim (given .0 h) [ inl g ↦ inl g | inr q ↦ inr (q .0, (q .1 .0, join-row y .0 (q .1 .1))) ],
-        λ s. given .1 (elim s [ inl g ↦ inl g | inr q ↦ inr (q .0, (q .1 .0, join-row y .1 (q .1 .1))) ]),
+      let given = grown-iff t x i q (bit t k) (λ y h e. bit-at t k y hk h ∙ rw e refl) (λ y h. bit-bounds t k y h .1) hx hi l a y in (
+        λ h. elim (given .0 h) [ inl g ↦ inl g | inr p ↦ inr (p .0, (p .1 .0, join-row y .0 (p .1 .1))) ],
+        λ s. given .1 (elim s [ inl g ↦ inl g | inr p ↦ inr (p .0, (p .1 .0, join-row y .1 (p .1 .1))) ]),
       ))
+    where
+      q : ℕ
+      q = getD t (k * WORDS + i) 0
 
   pub joined : WORDS ≤ i → Added e (Row e x k) t
   joined h = added e (Row e x k) (λ _ y. y / WIDTH) i t now (λ _ y q. omega (arith, row-full, bit-bounds e k y (q .1) .1))
@@ -202,3 +203,33 @@ chained-one e a b p q = elim (eq? (length e) CELLS) [
   | inl l ↦ rows-one a b (p .long ∙ l) (q .long ∙ l) (p .words) (q .words) (λ x y. test-one (p .chains l x y) (q .chains l x y))
   | inr d ↦ p .other d ∙ sym (q .other d)
 ]
+
+-- A row of another relation -----------------------------------------------------------------------------------------------------------------
+
+module _ (from : List ℕ) (words : Words from) (m : ℕ) (e : List ℕ) (x : ℕ) (hx : x < RECORDS) (full : length e ≡ CELLS) where
+  abbrev Given : Rel
+  Given i j = (i ≡ x) × Edges from m j
+
+  taken : (n : ℕ) → n ≤ WORDS → Adding e Given (λ _ y. y / WIDTH) n (takenOver from m e x n)
+  unfolding takenOver
+  taken zero h = adding-none e Given (λ _ y. y / WIDTH)
+  taken (suc i) h =
+      let t : List ℕ = takenOver from m e x i in
+      let now = taken i (omega arith) in
+      let q : ℕ = wordOf from m i in
+      let more = adding-more e Given (λ _ y. y / WIDTH) i t now (orOf t (x * WORDS + i) q) (or-long t (x * WORDS + i) q) (or-words t (x * WORDS + i) q (word-small from words m i))
+      (grown-iff t x i q (bit from m) (λ y h e. bit-word from m y h ∙ rw e refl) (λ y h. bit-bounds from m y h .1) hx (omega arith) (now .long ∙ full)) in
+      rw add-one at more
+
+  pub row-added : Added e Given (addRowOf from m e x)
+  unfolding addRowOf
+  row-added = rw (so-lt .1 hx) (added e Given (λ _ y. y / WIDTH) WORDS (takenOver from m e x WORDS) (taken WORDS (omega arith)) (λ i j p. omega (arith, row-full, bit-bounds from m j (p .1) .1)))
+
+-- the steps of the loop: a word is taken over, or it lies past the end
+module _ (from : List ℕ) (m : ℕ) (e : List ℕ) (x i : ℕ) (t : List ℕ) (now : t ≡ takenOver from m e x i) where
+  pub taken-word : (q : ℕ) → q ≡ wordOf from m i → orOf t (x * WORDS + i) q ≡ takenOver from m e x (i + 1)
+  unfolding takenOver
+  taken-word q p = rw (add-one, now, p) refl
+
+  pub taken-past : length t ≤ x * WORDS + i → t ≡ takenOver from m e x (i + 1)
+  taken-past h = sym (set-out t (x * WORDS + i) _ h) ∙ taken-word (wordOf from m i) refl

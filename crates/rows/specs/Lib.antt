@@ -7,3 +7,4 @@ pub mod Copy
 pub mod Added
 pub mod Chained
 pub mod Within
+pub mod AddRow

@@ -16,13 +16,7 @@ fn add_row(walks: &[u64], m: usize, next: &mut [u64], x: usize)
     requires { ⌜ (x < RECORDS) × (length (now next) ≡ CELLS) ⌝ }
     ensures { λ r. ⌜ Added (now (next .entry)) (λ i j. (i ≡ x) × Edges (now (walks .entry)) m j) (now (next .exit)) ⌝ }
 {
-    let mut y: usize = 0;
-    while y < trace::RECORDS {
-        if rows::test(walks, m, y) {
-            rows::put(next, x, y);
-        }
-        y += 1;
-    }
+    rows::add_row(walks, m, next, x);
 }
 
 // Adds to row x of `next` where an edge from x and then a walk leads.
