@@ -3,7 +3,7 @@
 --   padded-take             == an array that is 0 past its used places is made of these
 --   told-model, told-form   == a question that is turned back
 --   told-says               == what the definitions say of the trace, laid into the arrays
---   told-source, told-circle, told-order, told-none == the four outcomes, each from what the parts promise
+--   told-source, told-order, told-circle, told-none == the four outcomes, each from what the parts promise
 use mathlib.Core.Path.{_≡_, refl, sym, ap, _∙_, subst}
 use mathlib.Core.Bool.{Bool, true, false, cond, So}
 use mathlib.Core.List.{List, _++_}
@@ -35,6 +35,7 @@ use Rattle.orders.specs.MissingOf.{record?, missingOf}
 use Rattle.orders.specs.declared.sources.Found.{Found}
 use Rattle.orders.specs.declared.sources.Found.the-variants.{At}
 use Rattle.orders.proofs.MissingOf.{missing-lowest}
+use Rattle.orders.proofs.Says.{order-says}
 use Rattle.orders.proofs.Sought.{verdict-only}
 use Rattle.search.specs.FirstOrder.{found?, FirstOrder}
 use Rattle.search.specs.declared.Order as first
@@ -105,7 +106,7 @@ made-order : {a b : ℕ} {os ps : List ℕ} → a ≡ b → os ≡ ps
     → _≡_ {A = Verdict} (record { outcome = Order; len = a; operations = os; rules = replicate RECORDS 0 }) (record { outcome = Order; len = b; operations = ps; rules = replicate RECORDS 0 })
 made-order p q = λ i. record { outcome = Order; len = p i; operations = q i; rules = replicate RECORDS 0 }
 
-module _ (t : Trace) (m : ℕ) (h : Reaches t m) (c : ring.Circle) (p : CircleOf t m c) where
+module _ (t : Trace) (m : ℕ) (h : Reaches t m) where
   -- there is something to answer, and no source is missing
   asked : So (answered m t)
   asked = and-iff (same-iff {a = wellFormed t}) (same-iff {a = modelled m}) .1 (h .well, h .model)
@@ -113,35 +114,35 @@ module _ (t : Trace) (m : ℕ) (h : Reaches t m) (c : ring.Circle) (p : CircleOf
   sourced : Sourced (frameOf t)
   sourced = subst (λ (a : Found). Lowest (Missing (frameOf t)) (record? a)) (h .sourced) (missing-lowest t (h .well))
 
-  pub told-circle : 0 < c .len → Told t m (record { outcome = Circle; len = c .len; operations = c .operations; rules = c .rules })
-  told-circle l =
-      let n = c .len in
-      let full : n ≤ length (c .operations) = omega (arith, p .fits, p .long .0) in
-      let s = subst (Circled (frameOf t) (keptOf m t)) (ruled-some n (c .operations) (c .rules) l) (p .circle asked) in
-      record {
-        is =
-            sym (made (length-take-le n (c .operations) full)
-            (padded-take n (c .operations) (p .fits) (p .long .0) (λ i g. p .rest i g .0))
-            (padded-take n (c .rules) (p .fits) (p .long .1) (λ i g. p .rest i g .1)))
-            ∙ told-says t m (h .model) (h .well) (said.circle (take n (c .operations)) (take n (c .rules))) (sourced, s);
-        fits = p .fits;
-      }
+  sought : (o : first.Order) → FirstOrder t m o → (b : Bool) → o .found ≡ b → Least (Valid (frameOf t) (keptOf m t)) (found? b (take (o .len) (o .operations)))
+  sought o q b e = subst (λ (b : Bool). Least (Valid (frameOf t) (keptOf m t)) (found? b (take (o .len) (o .operations)))) e (q .first asked)
 
-  module _ (z : c .len ≡ 0) (o : first.Order) (q : FirstOrder t m o) where
-    -- no circle
-    clear : Circled (frameOf t) (keptOf m t) none
-    clear = subst (Circled (frameOf t) (keptOf m t)) (ruled-none (c .len) (c .operations) (c .rules) z) (p .circle asked)
+  -- where there is an order, nothing else can be said
+  pub told-order : (o : first.Order) → FirstOrder t m o → o .found ≡ true → Told t m (record { outcome = Order; len = o .len; operations = o .operations; rules = replicate RECORDS 0 })
+  told-order o q e = record {
+    is =
+        sym (made-order (length-take-le (o .len) (o .operations) (omega (arith, q .fits, q .long))) (padded-take (o .len) (o .operations) (q .fits) (q .long) (q .rest)))
+        ∙ told-says t m (h .model) (h .well) (said.order (take (o .len) (o .operations))) (order-says (frameOf t) (keptOf m t) (good t (h .well)) (take (o .len) (o .operations)) .1 (sought o q true e));
+    fits = q .fits;
+  }
 
-    sought : (b : Bool) → o .found ≡ b → Least (Valid (frameOf t) (keptOf m t)) (found? b (take (o .len) (o .operations)))
-    sought b e = subst (λ (b : Bool). Least (Valid (frameOf t) (keptOf m t)) (found? b (take (o .len) (o .operations)))) e (q .first asked)
+  module _ (c : ring.Circle) (p : CircleOf t m c) where
+    pub told-circle : 0 < c .len → Told t m (record { outcome = Circle; len = c .len; operations = c .operations; rules = c .rules })
+    told-circle l =
+        let n = c .len in
+        let full : n ≤ length (c .operations) = omega (arith, p .fits, p .long .0) in
+        let s = subst (Circled (frameOf t) (keptOf m t)) (ruled-some n (c .operations) (c .rules) l) (p .circle asked) in
+        record {
+          is =
+              sym (made (length-take-le n (c .operations) full)
+              (padded-take n (c .operations) (p .fits) (p .long .0) (λ i g. p .rest i g .0))
+              (padded-take n (c .rules) (p .fits) (p .long .1) (λ i g. p .rest i g .1)))
+              ∙ told-says t m (h .model) (h .well) (said.circle (take n (c .operations)) (take n (c .rules))) (sourced, s);
+          fits = p .fits;
+        }
 
-    pub told-order : o .found ≡ true → Told t m (record { outcome = Order; len = o .len; operations = o .operations; rules = replicate RECORDS 0 })
-    told-order e = record {
-      is =
-          sym (made-order (length-take-le (o .len) (o .operations) (omega (arith, q .fits, q .long))) (padded-take (o .len) (o .operations) (q .fits) (q .long) (q .rest)))
-          ∙ told-says t m (h .model) (h .well) (said.order (take (o .len) (o .operations))) (sourced, clear, sought true e);
-      fits = q .fits;
-    }
-
-    pub told-none : o .found ≡ false → Told t m (bare NoneLeft)
-    told-none e = record { is = told-says t m (h .model) (h .well) said.noneLeft (sourced, clear, sought false e); fits = omega arith }
+    -- no order and no circle
+    pub told-none : (o : first.Order) → FirstOrder t m o → o .found ≡ false → c .len ≡ 0 → Told t m (bare NoneLeft)
+    told-none o q e z =
+        let clear = subst (Circled (frameOf t) (keptOf m t)) (ruled-none (c .len) (c .operations) (c .rules) z) (p .circle asked) in
+        record { is = told-says t m (h .model) (h .well) said.noneLeft (sourced, clear, sought o q false e); fits = omega arith }

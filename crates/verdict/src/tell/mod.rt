@@ -1,4 +1,4 @@
-// The verdict, its parts looked for in document 01's order.
+// The verdict in document 01's order.
 ghost use Rattle.verdict.specs.Told.{Told, Reaches, bare};
 ghost use mathlib.Core.Path.{_≡_};
 use crate::Outcome;
@@ -24,11 +24,22 @@ fn bare(outcome: Outcome) -> Verdict
     }
 }
 
-// A circle or an order where there is one, of a trace that lacks no source.
-fn circle_or_order(t: Trace, model: u8) -> Verdict
+// An order or a circle where there is one, of a trace that lacks no source. Where there is an order there is no circle, so it is looked for
+// first: a good trace is then closed once.
+fn order_or_circle(t: Trace, model: u8) -> Verdict
     requires { ⌜ Reaches t model ⌝ }
     ensures { λ r. ⌜ Told t model r ⌝ }
 {
+    let first = first_order(t, model);
+    if first.found {
+        let operations = first.operations;
+        return Verdict {
+            outcome: Outcome::Order,
+            len: first.len,
+            operations,
+            rules: [0; RECORDS],
+        };
+    }
     let circle = circle_of(t, model);
     let len = circle.len;
     if 0 < len {
@@ -39,16 +50,6 @@ fn circle_or_order(t: Trace, model: u8) -> Verdict
             len,
             operations,
             rules,
-        };
-    }
-    let first = first_order(t, model);
-    if first.found {
-        let operations = first.operations;
-        return Verdict {
-            outcome: Outcome::Order,
-            len: first.len,
-            operations,
-            rules: [0; RECORDS],
         };
     }
     bare(Outcome::NoneLeft)
@@ -67,6 +68,6 @@ pub fn verdict_of(t: Trace, model: u8) -> Verdict
     }
     match missing(t) {
         Found::At(x) => bare(Outcome::NoSource(x)),
-        Found::Nothing => circle_or_order(t, model),
+        Found::Nothing => order_or_circle(t, model),
     }
 }

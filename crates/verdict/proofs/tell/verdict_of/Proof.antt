@@ -42,8 +42,8 @@ bare-requires-3 c κs = search needs
 enum-told : tie.Need-enum-told
 enum-told c = search needs
 
-circle-or-order-requires : tie.Need-circle-or-order-requires
-circle-or-order-requires c κs = let m = c .before .before in
+order-or-circle-requires : tie.Need-order-or-circle-requires
+order-or-circle-requires c κs = let m = c .before .before in
     let w = m .before .before in
     let s = w .before .before .before in
     record { model = sym (w .before .before .modelled .ensures) ∙ not-false _ (w .before .if1 .left); well = sym (w .well-formed .ensures) ∙ not-false _ (m .before .if2 .left); sourced = sym (m .missing .ensures) ∙ c .enum-told .given .1 }
@@ -72,6 +72,6 @@ verdict-of-spec =
     enum-known-x
     bare-requires-3
     enum-told
-    circle-or-order-requires
+    order-or-circle-requires
     returns-3
     returns-4)
