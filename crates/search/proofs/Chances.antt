@@ -4,7 +4,7 @@
 --   still-iff, still-is              == which writers are still to come
 --   lacks                            == what a set lacks stands nowhere in its list
 --   ready-iff                        == the test of the tables is readiness after any list with that set
---   stop-of                          == so is the test for the stop
+--   stop-of                          == so is the test for the two stops by exchange
 use mathlib.Core.Path.{_≡_, refl, sym, _∙_}
 use mathlib.Core.Logic.{inl, inr, _↔_}
 use mathlib.Core.Bool.{Bool, true, false, So, not, _&&_, false≢true}
@@ -25,7 +25,7 @@ use Rattle.rules.proofs.SourceOf.{source-of-is, source-of-has}
 use Rattle.orders.specs.Ready.{Ready}
 use Rattle.orders.specs.Stop.{Stop, unread, covered}
 use Rattle.search.specs.Laid.{Tables, Led, Laid}
-use Rattle.search.specs.Chances.{Holds, waits, Readied, Unread, still, Covered, Stops}
+use Rattle.search.specs.Chances.{Holds, waits, Readied, Unread, still, Covered, Enough}
 
 module _ (writers sources placed : List ℕ) (c L : ℕ) where
   pub waits-apart : bit writers L c ≡ false → waits writers sources placed c L ≡ false
@@ -147,6 +147,6 @@ module _ (f : Frame) (K : Table) (T : Tables) (laid : Laid f K T) (small : T .n 
       ])
     ]
 
-    pub stop-of : Stops (T .n) (T .writers) (T .leaders) (T .sources) placed failed y → Stop f (Led (T .before)) p F
+    pub stop-of : Enough (T .n) (T .writers) (T .leaders) (T .sources) placed failed y → Stop f (Led (T .before)) p F
     stop-of (inl u) = stop-unread u
     stop-of (inr k) = stop-covered k

@@ -1,6 +1,7 @@
 -- Laws of the search, for the proofs of its functions.
 pub mod Sets
 pub mod Chances
+pub mod Refuting
 pub mod Memory
 pub mod Seeking
 pub mod Laying

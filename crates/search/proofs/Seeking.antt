@@ -1,5 +1,6 @@
 -- The steps of the search below the first k places of a list.
 --
+--   unfound      == an answer that there is none, told by what it cost
 --   sought-full  == all places are taken: the list is its own answer
 --   sought-dead  == the set is dead
 --   trying-none, trying-skip, trying-next == the loop: before the first number; one that is not ready; one that failed
@@ -9,10 +10,11 @@ use mathlib.Core.Path.{_≡_, refl, sym, ap, ap₂, _∙_, subst}
 use mathlib.Core.Logic.{inl, inr}
 use mathlib.Core.Bool.{Bool, true, false, So, false≢true}
 use mathlib.Core.List.{List, [], _∷_, _++_}
-use mathlib.Core.Option.{some}
+use mathlib.Core.Option.{none, some}
 use Prim.Native.Nat.{ℕ, _+_, _<_, _≤_}
 use native.Mathlib.Numerals.{add-one}
 use native.Mathlib.Omega.{arith}
+use lib.Dec.{eqb}
 use lib.ListN.{length, getD, set, take, drop}
 use lib.Seq.{length-take-le, take-suc-set, take-take, take-at, drop-cons, getD-take, getD-at, drop-length}
 use Rattle.laws.specs.Relation.{Table}
@@ -20,6 +22,7 @@ use Rattle.laws.specs.Dict.{Answer}
 use Rattle.laws.specs.Search.{Tried}
 use Rattle.laws.proofs.Search.{tried-none, tried-next, tried-some, tried-all, full-some}
 use Rattle.laws.proofs.Steps.{steps-join}
+use Rattle.laws.proofs.Tests.{off, so-eq}
 use Rattle.trace.specs.Frame.{Frame}
 use Rattle.trace.specs.Order.{Valid}
 use Rattle.rows.specs.Bounds.{WORDS}
@@ -36,7 +39,12 @@ use Rattle.search.specs.Memory.{Has, Noted, Begun, Dead}
 use Rattle.search.specs.Seeking.{follows, Room, Sought, Trying}
 use Rattle.search.proofs.Sets.{more-holds}
 use Rattle.search.proofs.Chances.{ready-iff, stop-of}
+use Rattle.search.proofs.Refuting.{refuted-none}
 use Rattle.search.proofs.Memory.{dead-has, dead-noted}
+
+-- what the search cost is never 0 where it failed
+pub unfound : {T : Tables} {list : List ℕ} {k : ℕ} {placed dead list′ dead′ : List ℕ} (r : ℕ) → 0 < r → Sought T list k placed dead list′ dead′ false → Sought T list k placed dead list′ dead′ (eqb r 0)
+unfound {T} {list} {k} {placed} {dead} {list′} {dead′} r h s = subst (λ (b : Bool). Sought T list k placed dead list′ dead′ b) (sym (off {b = eqb r 0} (λ t. let e : r ≡ 0 = so-eq .0 t in omega arith))) s
 
 -- one place more is taken
 pub wrote : (o : List ℕ) (d x : ℕ) → d < length o → take (d + 1) (set o d x) ≡ take d o ++ (x ∷ [])
@@ -163,12 +171,18 @@ module _ (T : Tables) (list : List ℕ) (k : ℕ) (placed dead : List ℕ) (room
               (rw add-one (tried-next (Valid f K) p y (now .tried f K laid b d .0) a′), failed-now f K laid b d e failed′ w, m);
         }
 
-        pub stopped : Stops (T .n) (T .writers) (T .leaders) (T .sources) placed failed′ y → (dead‴ : List ℕ) → Noted dead″ placed dead‴ → Sought T list k placed dead list″ dead‴ false
+        -- enough has failed, or the set is refuted
+        stop : (f : Frame) (K : Table) → Laid f K T → Begun f (T .before) p placed → Dead f K (T .before) dead → Stops (T .n) (T .before) (T .writers) (T .leaders) (T .sources) placed failed′ y → Answer (Valid f K) p none
+        stop f K laid b d (inl s) =
+            stop-none f (laid .good) K (Led (T .before)) (laid .guide) (laid .sourced) p _ (failed-now f K laid b d e failed′ w)
+            (stop-of f K T laid (room .records) placed p (b .holds) failed′ y (w .has y .1 (inr refl)) s)
+        stop f K laid b d (inr r) = refuted-none f K T laid placed p (b .holds) r
+
+        pub stopped : Stops (T .n) (T .before) (T .writers) (T .leaders) (T .sources) placed failed′ y → (dead‴ : List ℕ) → Noted dead″ placed dead‴ → Sought T list k placed dead list″ dead‴ false
         stopped s dead‴ n = record {
           kept = stands;
           right = λ f K laid b d.
-              let a = stop-none f (laid .good) K (Led (T .before)) (laid .guide) (laid .sourced) p _ (failed-now f K laid b d e failed′ w)
-              (stop-of f K T laid (room .records) placed p (b .holds) failed′ y (w .has y .1 (inr refl)) s) in
+              let a = stop f K laid b d s in
               (a, dead-noted f K T laid p placed dead″ b (answer f K laid b d .1) dead‴ a n);
         }
 

@@ -7,7 +7,8 @@
 --   Unread .. y     == everybody who reads from y is placed
 --   still .. y z    == z is a writer of y's address, other than y, that is neither placed nor failed
 --   Covered .. y    == each such writer has one before it that is not placed
---   Stops .. y      == the loop may stop after y
+--   Enough .. y     == one of the two: any valid order could go on with one that failed
+--   Stops .. y      == the loop may stop after y: enough has failed, or nothing can go on
 use mathlib.Core.Path.{_≡_}
 use mathlib.Core.Logic.{_⊎_, _↔_}
 use mathlib.Core.Bool.{Bool, false, So, not, _&&_}
@@ -19,6 +20,7 @@ use Rattle.laws.specs.Tests.{any}
 use Rattle.rows.specs.Bounds.{WORDS}
 use Rattle.rows.specs.Rows.{bit}
 use Rattle.rows.specs.Within.{Within}
+use Rattle.search.specs.Refuting.{Refuted}
 
 abbrev pub Holds : List ℕ → List ℕ → Type 0
 Holds set p = (x : ℕ) → So (bit set 0 x) ↔ (0 < count x p)
@@ -45,5 +47,8 @@ still writers placed failed y z = bit writers y z && not (bit placed 0 z) && not
 abbrev pub Covered : ℕ → List ℕ → List ℕ → List ℕ → List ℕ → ℕ → Type 0
 Covered n writers leaders placed failed y = (z : ℕ) → z < n → So (still writers placed failed y z) → Within leaders z placed 0 → ⊥
 
-abbrev pub Stops : ℕ → List ℕ → List ℕ → List ℕ → List ℕ → List ℕ → ℕ → Type 0
-Stops n writers leaders sources placed failed y = Unread n sources placed y ⊎ Covered n writers leaders placed failed y
+abbrev pub Enough : ℕ → List ℕ → List ℕ → List ℕ → List ℕ → List ℕ → ℕ → Type 0
+Enough n writers leaders sources placed failed y = Unread n sources placed y ⊎ Covered n writers leaders placed failed y
+
+abbrev pub Stops : ℕ → List ℕ → List ℕ → List ℕ → List ℕ → List ℕ → List ℕ → ℕ → Type 0
+Stops n before writers leaders sources placed failed y = Enough n writers leaders sources placed failed y ⊎ Refuted n before writers sources placed

@@ -2,6 +2,7 @@
 pub mod Bounds
 pub mod Laid
 pub mod Laying
+pub mod Refuting
 pub mod Chances
 pub mod Memory
 pub mod Seeking

@@ -1,5 +1,6 @@
 // The first valid order of a trace, by a recursive search over placed operations: what it looks at, the search, and the entry.
 pub mod first;
+mod refute;
 mod seek;
 mod tables;
 

@@ -76,6 +76,7 @@ fn look(t: Trace, held: &[u64], operations: &[u64], total: usize, list: &mut [u8
         &placed,
         &mut dead,
     )
+        == 0
 }
 
 // The first valid order in dictionary order. For a trace that is not well formed, or a model that does not exist, none.

@@ -4,6 +4,7 @@ ghost use mathlib.Core.Path.{_≡_};
 ghost use mathlib.Core.Bool.{So, false};
 ghost use mathlib.Core.Logic.{_↔_};
 ghost use Prim.Native.Nat.{_*_, _<_, _≤_};
+ghost use lib.Dec.{eqb};
 ghost use lib.ListN.{length};
 ghost use Rattle.laws.specs.Tests.{any};
 ghost use Rattle.trace.specs.Bounds.{RECORDS};
@@ -13,6 +14,7 @@ ghost use Rattle.search.specs.Laid.{tables};
 ghost use Rattle.search.specs.Chances.{More, waits, Readied, Unread, Covered, Stops};
 ghost use Rattle.search.specs.Memory.{Has, Noted};
 ghost use Rattle.search.specs.Seeking.{Room, Sought};
+use crate::refute::refuted;
 use trace::RECORDS;
 
 // How many sets the memory has room for.
@@ -20,6 +22,9 @@ const SLOTS: usize = 4093;
 
 // The words of the memory.
 pub(crate) const MEMORY: usize = SLOTS * rows::WORDS;
+
+// From how many placements on a search that found nothing has cost as much as asking whether its set is refuted.
+const PATIENCE: usize = 64;
 
 // Whether nobody waits at the address of c: a reader of it, other than c, whose source is placed while it is not.
 fn quiet(n: usize, writers: &[u64], sources: &[usize], placed: &[u64], c: usize) -> bool
@@ -104,23 +109,44 @@ fn covered(
     true
 }
 
-// Whether the loop may stop after y, which was ready and failed.
+// What two searches that found nothing cost together, and one placement; past PATIENCE nobody counts.
+fn more(a: usize, b: usize) -> usize
+    ensures { λ r. ⌜ 0 < r ⌝ }
+{
+    if a < PATIENCE {
+        if b < PATIENCE {
+            return a + b + 1;
+        }
+    }
+    PATIENCE
+}
+
+// Whether the loop may stop after y, which was ready and failed. What the set itself refutes is asked only where
+// the search below y cost as much as asking does.
 fn stops(
     n: usize,
+    before: &[u64],
     writers: &[u64],
     leaders: &[u64],
     sources: &[usize],
     placed: &[u64],
     failed: &[u64],
     y: usize,
+    below: usize,
 ) -> bool
     requires { ⌜ n ≤ length (now sources) ⌝ }
-    ensures { λ r. ⌜ (So r → Stops n (now (writers .entry)) (now (leaders .entry)) (now (sources .entry)) (now (placed .entry)) (now (failed .entry)) y) ⌝ }
+    ensures { λ r. ⌜ (So r → Stops n (now (before .entry)) (now (writers .entry)) (now (leaders .entry)) (now (sources .entry)) (now (placed .entry)) (now (failed .entry)) y) ⌝ }
 {
     if unread(n, sources, placed, y) {
         return true;
     }
-    covered(n, writers, leaders, placed, failed, y)
+    if covered(n, writers, leaders, placed, failed, y) {
+        return true;
+    }
+    if below < PATIENCE {
+        return false;
+    }
+    refuted(n, before, writers, sources, placed)
 }
 
 // Makes `next` the set with y in it.
@@ -165,7 +191,8 @@ fn note(dead: &mut [u64], set: &[u64])
     rows::copy(set, &mut dead[from..to]);
 }
 
-// Looks for the first valid order that begins with the first k places of the list, whose set is `placed`. Below a dead set there is none.
+// Looks for the first valid order that begins with the first k places of the list, whose set is `placed`: 0 where it is found, and otherwise what the search
+// cost, which only says when to ask more. Below a dead set there is none.
 pub(crate) fn find(
     n: usize,
     total: usize,
@@ -178,24 +205,25 @@ pub(crate) fn find(
     k: usize,
     placed: &[u64],
     dead: &mut [u64],
-) -> bool
+) -> usize
     requires { ⌜ Room (tables n total (now operations) (now before) (now writers) (now leaders) (now sources)) k (now list) (now placed) (now dead) ⌝ }
-    ensures { λ r. ⌜ Sought (tables n total (now (operations .entry)) (now (before .entry)) (now (writers .entry)) (now (leaders .entry)) (now (sources .entry))) (now (list .entry)) k (now (placed .entry)) (now (dead .entry)) (now (list .exit)) (now (dead .exit)) r ⌝ }
+    ensures { λ r. ⌜ Sought (tables n total (now (operations .entry)) (now (before .entry)) (now (writers .entry)) (now (leaders .entry)) (now (sources .entry))) (now (list .entry)) k (now (placed .entry)) (now (dead .entry)) (now (list .exit)) (now (dead .exit)) (eqb r 0) ⌝ }
 {
     if k == total {
-        return true;
+        return 0;
     }
     if (0 < k) & known(dead, placed) {
-        return false;
+        return 1;
     }
     let mut failed = [0u64; rows::WORDS];
     let mut y: usize = 0;
+    let mut cost: usize = 1;
     while y < n {
         if ready(n, operations, before, writers, sources, placed, y) {
             list[k] = y as u8;
             let mut next = [0u64; rows::WORDS];
             join(placed, y, &mut next);
-            if find(
+            let below = find(
                 n,
                 total,
                 operations,
@@ -207,17 +235,29 @@ pub(crate) fn find(
                 k + 1,
                 &next,
                 dead,
-            ) {
-                return true;
+            );
+            if below == 0 {
+                return 0;
             }
+            cost = more(cost, below);
             rows::put(&mut failed, 0, y);
-            if stops(n, writers, leaders, sources, placed, &failed, y) {
+            if stops(
+                n,
+                before,
+                writers,
+                leaders,
+                sources,
+                placed,
+                &failed,
+                y,
+                below,
+            ) {
                 note(dead, placed);
-                return false;
+                return cost;
             }
         }
         y += 1;
     }
     note(dead, placed);
-    false
+    cost
 }

@@ -1,0 +1,119 @@
+-- `search::refute::refuted`: what a round draws ranks no more than what is held; a circle ends it.
+use mathlib.Core.Path.{_≡_, sym, _∙_}
+use mathlib.Core.Bool.{false≢true}
+use Prim.Native.Nat.{_-_}
+use native.Mathlib.Omega.{arith}
+use borrow.Author.Needs.{needs}
+use lib.ListN.{length}
+use Rattle.rows.specs.Bounds.{CELLS}
+use Rattle.rows.proofs.Whole.{empty-long}
+use Rattle.search.specs.Refuting.{Ranking}
+use Rattle.search.proofs.Refuting.{Follows, follows-copy, follows-more, follows-none, grown-chains}
+use Rattle.search.proofs.refute.refuted.Statement.{statement}
+use Rattle.search.proofs.refute.refuted.Tie as tie
+
+abbrev Inv-loop : tie.InvT-loop
+Inv-loop n before writers sources placed led₀ was₀ round₀ led was round = Follows (Ranking n writers sources placed) before led × (length was ≡ CELLS)
+
+abbrev μ-loop : tie.MeasureT-loop
+μ-loop n before writers sources placed led₀ was₀ round₀ led was round = n - round
+
+slice-aggregate-copy : tie.Need-slice-aggregate-copy Inv-loop μ-loop
+slice-aggregate-copy c = search needs
+
+copy-requires : tie.Need-copy-requires Inv-loop μ-loop
+copy-requires c κs = search needs
+
+loop-holds : tie.Need-loop-holds Inv-loop μ-loop
+loop-holds c = (follows-copy _ _ _ (c .before .copy .ensures), empty-long CELLS)
+
+slice-aggregate-copy-2 : tie.Need-slice-aggregate-copy-2 Inv-loop μ-loop
+slice-aggregate-copy-2 c = search needs
+
+slice-aggregate-copy-3 : tie.Need-slice-aggregate-copy-3 Inv-loop μ-loop
+slice-aggregate-copy-3 c = search needs
+
+copy-requires-2 : tie.Need-copy-requires-2 Inv-loop μ-loop
+copy-requires-2 c κs = search needs
+
+slice-aggregate-settle : tie.Need-slice-aggregate-settle Inv-loop μ-loop
+slice-aggregate-settle c = search needs
+
+settle-requires : tie.Need-settle-requires Inv-loop μ-loop
+settle-requires c κs = let l = c .before .before .before .before .before .before in
+    (l .before .before .before .before .before .before .before .before .pre, l .loop .inv .0 .long)
+
+slice-aggregate-equal : tie.Need-slice-aggregate-equal Inv-loop μ-loop
+slice-aggregate-equal c = search needs
+
+slice-aggregate-equal-2 : tie.Need-slice-aggregate-equal-2 Inv-loop μ-loop
+slice-aggregate-equal-2 c = search needs
+
+equal-requires : tie.Need-equal-requires Inv-loop μ-loop
+equal-requires c κs = search needs
+
+returns : tie.Need-returns Inv-loop μ-loop
+returns c = λ t. absurd (false≢true t)
+
+slice-aggregate-chains : tie.Need-slice-aggregate-chains Inv-loop μ-loop
+slice-aggregate-chains c = search needs
+
+chains-requires : tie.Need-chains-requires Inv-loop μ-loop
+chains-requires c κs = search needs
+
+slice-aggregate-reflexive : tie.Need-slice-aggregate-reflexive Inv-loop μ-loop
+slice-aggregate-reflexive c = search needs
+
+reflexive-requires : tie.Need-reflexive-requires Inv-loop μ-loop
+reflexive-requires c κs = search needs
+
+returns-2 : tie.Need-returns-2 Inv-loop μ-loop
+returns-2 c = let h = c .before .before .before .before in
+    let g = h .before .before .before .before .before .before .before in
+    let l = g .before .before .before .before .before .before .before in
+    let f = follows-more _ _ (l .loop .inv .0) (g .settle .ensures) in
+    λ _. follows-none _ _ (follows-more _ _ f (grown-chains _ _ _ (f .long) (h .chains .ensures))) (sym (c .before .reflexive .ensures) ∙ c .if2 .taken)
+
+add-round : tie.Need-add-round Inv-loop μ-loop
+add-round c = search needs
+
+loop-less : tie.Need-loop-less Inv-loop μ-loop
+loop-less c = search needs
+
+loop-again : tie.Need-loop-again Inv-loop μ-loop
+loop-again c = let h = c .before .before .before .before in
+    let g = h .before .before .before .before .before .before .before in
+    let l = g .before .before .before .before .before .before .before in
+    let f = follows-more _ _ (l .loop .inv .0) (g .settle .ensures) in
+    (follows-more _ _ f (grown-chains _ _ _ (f .long) (h .chains .ensures)), g .before .before .before .copy2 .kept .1 .0 ∙ l .loop .inv .1)
+
+returns-3 : tie.Need-returns-3 Inv-loop μ-loop
+returns-3 c = λ t. absurd (false≢true t)
+
+pub refuted-spec : {M : Type 1} → statement M
+refuted-spec =
+    tie.close
+    (tie.spec
+    Inv-loop
+    μ-loop
+    slice-aggregate-copy
+    copy-requires
+    loop-holds
+    slice-aggregate-copy-2
+    slice-aggregate-copy-3
+    copy-requires-2
+    slice-aggregate-settle
+    settle-requires
+    slice-aggregate-equal
+    slice-aggregate-equal-2
+    equal-requires
+    returns
+    slice-aggregate-chains
+    chains-requires
+    slice-aggregate-reflexive
+    reflexive-requires
+    returns-2
+    add-round
+    loop-less
+    loop-again
+    returns-3)

@@ -1,0 +1,87 @@
+// The third stop: with all that is placed before all that is not, rules 6 and 7 close a circle. Of the trace only the tables are looked at, and
+// where no circle is found nothing is promised: how often it is asked, and how many rounds it goes, is a matter of time alone.
+ghost use mathlib.Core.Path.{_≡_};
+ghost use mathlib.Core.Bool.{So};
+ghost use Prim.Native.Nat.{_≤_};
+ghost use lib.ListN.{length};
+ghost use Rattle.rows.specs.Bounds.{CELLS};
+ghost use Rattle.search.specs.Refuting.{Grown, Obeys, Settling, Ranking, Refuted};
+use trace::RECORDS;
+
+// Draws what z, a writer of a load's address other than the load's source, gives by rules 6 and 7: row y takes what is before y.
+fn settle_by(placed: &[u64], source: usize, load: usize, z: usize, led: &mut [u64])
+    requires { ⌜ length (now led) ≡ CELLS ⌝ }
+    ensures { λ r. ⌜ Grown (Obeys (now (placed .entry)) source load z) (now (led .entry)) (now (led .exit)) ⌝ }
+{
+    let early = rows::test(led, load, z);
+    let late = rows::test(led, z, source);
+    let split = rows::test(placed, 0, source) & !rows::test(placed, 0, z);
+    rows::put_if(led, early, source, z);
+    rows::put_if(led, late | split, z, load);
+}
+
+// Draws what every record gives one load with a source.
+fn settle_for(
+    n: usize,
+    writers: &[u64],
+    placed: &[u64],
+    source: usize,
+    load: usize,
+    led: &mut [u64],
+)
+    requires { ⌜ length (now led) ≡ CELLS ⌝ }
+    ensures { λ r. ⌜ Grown (Settling (now (writers .entry)) (now (placed .entry)) source load) (now (led .entry)) (now (led .exit)) ⌝ }
+{
+    let mut z: usize = 0;
+    while z < n {
+        if rows::test(writers, load, z) & (z != source) {
+            settle_by(placed, source, load, z, led);
+        }
+        z += 1;
+    }
+}
+
+// Draws what every record gives every load that is not placed.
+fn settle(n: usize, writers: &[u64], sources: &[usize], placed: &[u64], led: &mut [u64])
+    requires { ⌜ (n ≤ length (now sources)) × (length (now led) ≡ CELLS) ⌝ }
+    ensures { λ r. ⌜ Grown (Ranking n (now (writers .entry)) (now (sources .entry)) (now (placed .entry))) (now (led .entry)) (now (led .exit)) ⌝ }
+{
+    let mut load: usize = 0;
+    while load < n {
+        let source = sources[load];
+        if (source < RECORDS) & !rows::test(placed, 0, load) {
+            settle_for(n, writers, placed, source, load, led);
+        }
+        load += 1;
+    }
+}
+
+// Whether no list with this set can go on to a valid order, as far as the rules show it.
+pub(crate) fn refuted(
+    n: usize,
+    before: &[u64],
+    writers: &[u64],
+    sources: &[usize],
+    placed: &[u64],
+) -> bool
+    requires { ⌜ n ≤ length (now sources) ⌝ }
+    ensures { λ r. ⌜ (So r → Refuted n (now (before .entry)) (now (writers .entry)) (now (sources .entry)) (now (placed .entry))) ⌝ }
+{
+    let mut led = [0u64; rows::CELLS];
+    let mut was = [0u64; rows::CELLS];
+    rows::copy(before, &mut led);
+    let mut round: usize = 0;
+    while round < n {
+        rows::copy(&led, &mut was);
+        settle(n, writers, sources, placed, &mut led);
+        if rows::equal(&led, &was) {
+            return false;
+        }
+        rows::chains(&mut led);
+        if rows::reflexive(&led) {
+            return true;
+        }
+        round += 1;
+    }
+    false
+}
