@@ -1,3 +1,4 @@
+// Document 01's form of a reader of lines, kept for its own sake: no other crate calls it, as the reader walks by place.
 // A text read line by line: a struct holds the lent text and a place in it. The work is done by functions on the text and the place; those
 // over the struct only take it apart and put it together.
 ghost use mathlib.Core.Path.{_≡_};
