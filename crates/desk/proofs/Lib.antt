@@ -1,5 +1,4 @@
 -- Laws of the entries.
-pub mod Part
 pub mod Spelling
 pub mod Laying
 pub mod Keeping

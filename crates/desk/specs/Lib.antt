@@ -1,6 +1,5 @@
 -- What the entries answer, in numbers.
 pub mod Text
-pub mod Part
 pub mod Answers
 pub mod Verdict
 pub mod Heard

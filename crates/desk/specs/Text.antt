@@ -1,9 +1,7 @@
 -- What is wrong with a text, in numbers.
 --
---   numberIn a      == document 01's number in a reader's answer; 0 for a good text
---   lineIn a        == the line in it, counted from 1; 0 where no line is to blame
---   numberOf text   == the number of a text
---   lineOf text     == the line that it is turned back for
+--   numberIn a    == document 01's number in a reader's answer; 0 for a good text
+--   numberOf text == the number of a text
 use mathlib.Core.List.{List}
 use Prim.Native.Nat.{ℕ}
 use Rattle.reader.specs.Answer as answer
@@ -15,12 +13,5 @@ abbrev pub numberIn : Answer → ℕ
 numberIn Good = 0
 numberIn (Refused reason line) = answer.numberOf reason
 
-abbrev pub lineIn : Answer → ℕ
-lineIn Good = 0
-lineIn (Refused reason line) = line
-
 abbrev pub numberOf : List ℕ → ℕ
 numberOf text = numberIn (readText text .answer)
-
-abbrev pub lineOf : List ℕ → ℕ
-lineOf text = lineIn (readText text .answer)

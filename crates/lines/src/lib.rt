@@ -1,7 +1,9 @@
+// Document 01's form of a reader of lines, kept for its own sake: no other crate calls it, as the reader walks by place.
 // A text read line by line: a struct holds the lent text and a place in it. The work is done by functions on the text and the place; those
 // over the struct only take it apart and put it together.
 ghost use mathlib.Core.Path.{_≡_};
-ghost use Rattle.text.specs.Lines.{lineAt, nextAt};
+ghost use Rattle.text.specs.Lines.{nextAt};
+ghost use Rattle.text.specs.Part.{LineOf};
 use text::Cursor;
 
 // The lent text, and where the next line starts.
@@ -10,9 +12,9 @@ pub struct Reader<'a> {
     pub at: usize,
 }
 
-// The line at a place, without its line feed: a part of the caller's own text. At or past the end the empty part.
+// The line at a place, without its line feed: the caller's own text from there on. At or past the end the empty part at the end.
 pub fn line_at<'a>(text: &'a [u8], at: usize) -> &'a [u8]
-    ensures { λ r. ⌜ now r ≡ lineAt (now (text .entry)) at ⌝ }
+    ensures { λ r. ⌜ LineOf (text .entry) at r ⌝ }
 {
     Cursor { at }.line(text)
 }
@@ -33,7 +35,7 @@ pub fn new<'a>(text: &'a [u8]) -> Reader<'a>
 
 // The line at the reader's place.
 pub fn line<'a>(r: Reader<'a>) -> &'a [u8]
-    ensures { λ s. ⌜ now s ≡ lineAt (now (r .entry .text)) (r .entry .at) ⌝ }
+    ensures { λ s. ⌜ LineOf (r .entry .text) (r .entry .at) s ⌝ }
 {
     line_at(r.text, r.at)
 }

@@ -2,6 +2,7 @@ pub mod Chosen
 pub mod Bounded
 pub mod Steps
 pub mod Walks
+pub mod Part
 pub mod Rendering
 pub mod Cases
 pub mod RoundTrip

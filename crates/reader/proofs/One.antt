@@ -1,10 +1,11 @@
 -- No second answer meets the contract of a public function. Each contract is an equation, so each theorem is a line.
 --
 --   FUNCTION-settles == the contract settles what the function gives back
---   FUNCTION-shows   == the contract settles which bytes the part of the text holds that it hands back
+--   FUNCTION-shows   == the contract settles the part of the text that it hands back: where it lies and its bytes
 use mathlib.Core.Path.{_∙_, sym}
-use denote.Ref.{now}
 use Rattle.laws.specs.Settles.{Settles, Shows}
+use Rattle.text.specs.Part.{laid}
+use Rattle.text.proofs.Part.{part-one}
 use Rattle.reader.proofs.forms.form.Reads as form
 use Rattle.reader.proofs.forms.form.Kinds as form-kinds
 use Rattle.reader.proofs.turns.number.Reads as number
@@ -48,5 +49,5 @@ turned-settles κs a x y s t p q = p ∙ sym q
 pub read-settles : Settles 1 read-kinds.ps read-kinds.r read.Post
 read-settles κs a x y s t p q = p ∙ sym q
 
-pub bad-line-shows : Shows 1 bad-line-kinds.ps bad-line-kinds.r (λ κs x. now x) bad-line.Post
-bad-line-shows κs a x y s t p q = p ∙ sym q
+pub bad-line-shows : Shows 1 bad-line-kinds.ps bad-line-kinds.r (λ κs x. laid x) bad-line.Post
+bad-line-shows κs a x y s t p q = part-one (a .0) p q

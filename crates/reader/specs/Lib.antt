@@ -1,7 +1,8 @@
--- What a text says. Form and Behind have the notation; Answer, Read and Cases what comes back for any text whatever.
+-- What a text says. Form and Behind have the notation; Answer, Read, Part and Cases what comes back for any text whatever.
 pub mod Bounds
 pub mod Form
 pub mod Behind
 pub mod Answer
 pub mod Read
+pub mod Part
 pub mod Cases

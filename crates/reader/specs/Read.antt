@@ -3,8 +3,8 @@
 --   refusal reason n       == the answer to a refused text: the empty trace beside it
 --   readLines n t ls       == the lines ls, the first of which is line n, behind the trace t
 --   readText text          == what `read` answers
---   badLines t ls          == the first bad one of the lines, behind the trace t; the empty part where all are good
---   badLineOf text         == what `bad_line` answers
+--   badLines t ls          == the bytes of the first bad one of the lines, behind the trace t; none where all are good
+--   badLineOf text         == the bytes of the line that a text is turned back for; none where no line is to blame
 --   renderTrace t          == the text of a trace
 use mathlib.Core.Bool.{cond}
 use mathlib.Core.List.{List, [], _∷_, _++_}

@@ -1,13 +1,14 @@
 // Text to trace: any text whatever gets the trace that it writes, or the number of what is wrong with it and the line.
 ghost use mathlib.Core.Path.{_≡_};
 ghost use Rattle.trace.specs.Trace.{empty};
-ghost use Rattle.text.specs.Lines.{lines, lineAt};
-ghost use Rattle.reader.specs.Read.{readLines, badLines, readText, badLineOf};
+ghost use Rattle.text.specs.Lines.{lines};
+ghost use Rattle.text.specs.Part.{PartOf};
+ghost use Rattle.reader.specs.Read.{readLines, readText};
+ghost use Rattle.reader.specs.Part.{lineIn, lineStart, lineEnd, startOf, endOf};
 
 pub mod forms;
 pub mod turns;
 
-use text::Cursor;
 use text::walk::line_end;
 use trace::Op;
 use trace::RECORDS;
@@ -81,15 +82,16 @@ pub struct Reading {
     pub trace: Trace,
 }
 
-// A reading, and where the line stands that it is about; the end of the text, or past it, where it is about none.
+// A reading, and where the line starts and ends, before its feed, that it is about; both 0 where it is about none.
 struct Stand {
     reading: Reading,
-    at: usize,
+    start: usize,
+    end: usize,
 }
 
 // Reads line by line from the top, up to the first bad line.
 fn walked(text: &[u8]) -> Stand
-    ensures { λ r. ⌜ (r .reading ≡ readLines 1 empty (lines (now (text .entry)))) × (lineAt (now (text .entry)) (r .at) ≡ badLines empty (lines (now (text .entry)))) ⌝ }
+    ensures { λ r. ⌜ (r .reading ≡ readLines 1 empty (lines (now (text .entry)))) × (r .start ≡ lineStart (now (text .entry)) (lineIn (r .reading .answer))) × (r .end ≡ lineEnd (now (text .entry)) (lineIn (r .reading .answer))) ⌝ }
 {
     let mut trace = empty();
     let mut at: usize = 0;
@@ -109,7 +111,11 @@ fn walked(text: &[u8]) -> Stand
                 let answer = Answer::Refused { reason, line };
                 let trace = empty();
                 let reading = Reading { answer, trace };
-                return Stand { reading, at };
+                return Stand {
+                    reading,
+                    start: at,
+                    end,
+                };
             }
         }
         at = end + 1;
@@ -117,7 +123,11 @@ fn walked(text: &[u8]) -> Stand
     }
     let answer = Answer::Good;
     let reading = Reading { answer, trace };
-    Stand { reading, at }
+    Stand {
+        reading,
+        start: 0,
+        end: 0,
+    }
 }
 
 // The trace that a text writes, or why it is turned back.
@@ -135,13 +145,17 @@ pub fn read(text: &[u8]) -> Reading
     walked(text).reading
 }
 
-// The line that `read` turns back, without its line feed: a part of the lent text, empty where no line is to blame.
+// The line that `read` turns back, without its line feed: the lent text's own part, from where that line starts; where no line is to blame, beside
+// number 1 and for a good text, the empty part at the top of the text.
 pub fn bad_line<'a>(text: &'a [u8]) -> &'a [u8]
-    ensures { λ r. ⌜ now r ≡ badLineOf (now (text .entry)) ⌝ }
+    ensures { λ r. ⌜ PartOf (text .entry) (startOf (now (text .entry))) (endOf (now (text .entry))) r ⌝ }
 {
     if TEXT < text.len() {
-        return &text[..0];
+        let top: usize = 0;
+        return &text[top..top];
     }
-    let at = walked(text).at;
-    Cursor { at }.line(text)
+    let stand = walked(text);
+    let start = stand.start;
+    let end = stand.end;
+    &text[start..end]
 }

@@ -1,4 +1,5 @@
 pub mod Lines
+pub mod Part
 pub mod Classes
 pub mod Numbers
 pub mod Fits

@@ -2,7 +2,7 @@
 --
 --   end-here, end-on, end-last == where the line ends: at a feed, further on, at the end of the text
 --   end-within                 == the end is a place in the text
---   line-none, line-empty      == past the end the line is empty
+--   line-none                  == past the end the line is empty
 --   line-part                  == the line is the part from its start to its end
 --   lines-on, lines-over       == the lines from a place on
 use mathlib.Core.Path.{_≡_, refl, sym, ap, _∙_}
@@ -17,7 +17,7 @@ use lib.Dec.{eqb, ltb, leb·suc-suc}
 use lib.ListN.{length, take, drop, getD, drop-of-length-le, length-drop}
 use mathlib.Core.Logic.{inl, inr}
 use Rattle.laws.proofs.Tests.{test}
-use lib.Seq.{drop-cons, drop-drop, drop-length, take-nil}
+use lib.Seq.{drop-cons, drop-drop}
 use Rattle.text.specs.Bounds.{FEED}
 use Rattle.text.specs.Lines.{ahead, lines, lineLen, endAt, lineAt}
 
@@ -49,9 +49,6 @@ module _ (t : List ℕ) (i : ℕ) where
   pub line-none : length t ≤ i → lineAt t i ≡ []
   unfolding lineLen
   line-none h = rw (drop-of-length-le t h)
-
-  pub line-empty : length t ≤ i → take (length t - length t) (drop (length t) t) ≡ lineAt t i
-  line-empty h = rw (drop-length t) (take-nil (length t - length t) ∙ sym (line-none h))
 
   pub line-part : (r : ℕ) → r ≡ endAt t i → take (r - i) (drop i t) ≡ lineAt t i
   line-part r e = ap (λ (n : ℕ). take n (drop i t)) (let f : r - i ≡ lineLen (drop i t) = omega arith in f)

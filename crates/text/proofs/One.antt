@@ -1,11 +1,13 @@
 -- No second answer meets the contract of a public function. Each contract is an equation, so each theorem is a line.
 --
 --   FUNCTION-settles == the contract settles what the function gives back
---   FUNCTION-shows   == the contract settles which bytes the part of the text holds that it hands back
+--   FUNCTION-shows   == the contract settles the part of the text that it hands back: where it lies and its bytes
 --   FUNCTION-leaves  == the contract settles what the lent buffer holds
 use mathlib.Core.Path.{_∙_, sym}
 use denote.Ref.{now}
 use Rattle.laws.specs.Settles.{Settles, Shows, Leaves}
+use Rattle.text.specs.Part.{laid}
+use Rattle.text.proofs.Part.{part-one}
 use Rattle.text.proofs.Cursor.new.Reads as cursor-new
 use Rattle.text.proofs.Cursor.new.Kinds as cursor-new-kinds
 use Rattle.text.proofs.Cursor.next.Reads as cursor-next
@@ -51,8 +53,8 @@ number-at-settles κs a x y s t p q = p ∙ sym q
 pub fit-settles : Settles 2 fit-kinds.ps fit-kinds.r fit.Post
 fit-settles κs a x y s t p q = p ∙ sym q
 
-pub cursor-line-shows : Shows 1 cursor-line-kinds.ps cursor-line-kinds.r (λ κs x. now x) cursor-line.Post
-cursor-line-shows κs a x y s t p q = p ∙ sym q
+pub cursor-line-shows : Shows 1 cursor-line-kinds.ps cursor-line-kinds.r (λ κs x. laid x) cursor-line.Post
+cursor-line-shows κs a x y s t p q = part-one (a .1 .0) p q
 
 pub put-settles : Settles 2 put-kinds.ps put-kinds.r put.Post
 put-settles κs a x y s t p q = p .0 ∙ sym (q .0)

@@ -1,8 +1,8 @@
 // What is said of a text: the whole answer, and what is wrong with it.
 ghost use mathlib.Core.Path.{_≡_};
 ghost use Rattle.report.specs.Wrote.{Reported};
-ghost use Rattle.desk.specs.Text.{numberIn, lineIn, numberOf, lineOf};
-ghost use Rattle.desk.specs.Part.{passed, startOf, endOf};
+ghost use Rattle.reader.specs.Part.{lineIn, lineOf, passed, startOf, endOf};
+ghost use Rattle.desk.specs.Text.{numberIn, numberOf};
 use reader::Answer;
 use reader::read;
 use reader::turns::number;

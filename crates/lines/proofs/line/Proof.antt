@@ -25,7 +25,6 @@ use denote.RattleType.{RattleType, owns}
 use denote.Laws.{Is, shows}
 use denote.Plain.{uint-makes}
 use denote.Builtin.{u8, usize}
-use denote.Ref.{now}
 use denote.Signature.{namedLft}
 use denote.Slice.{sliceVal, ShrSlice, shr-slice-lawful}
 use denote.Steps.{owned, peeks, heard, nothing}
@@ -41,7 +40,7 @@ use denote.Triple.Table.{entered, cited}
 use denote.Triple.Walked.{says, Stays, stay-none, walkOf, goes-none, Walks, ends-at, walked, walk-meets}
 use denote.Exit.{yes}
 use denote.Triple.Clauses.{ensured, lasts}
-use Rattle.text.specs.Lines.{lineAt}
+use Rattle.text.specs.Part.{LineOf}
 use Rattle.lines.specs.declared.Reader.{Reader}
 use Rattle.lines.proofs.Reader as T
 use Rattle.lines.proofs.Reader.Laws as T′
@@ -79,7 +78,7 @@ module _ {M : Type 1} (𝓤 : URA M) (H : Heap 𝓤) (A : Atoms 𝓤) (W : Given
   R = ShrSlice (named 0) κ u8
 
   abbrev Found : R .Denot → Type 0
-  Found r = now r ≡ lineAt (now (d .text)) (d .at)
+  Found r = LineOf (d .text) (d .at) r
 
   abbrev Post : Val → SProp 𝓤
   Post = walkOf 𝓤 H A line.ended stayed (line.clauses 𝓤 H A mem run) .post (((κ, tt), (q, tt), tt, (d, tt), (mach ∷ [], tt)), tt)

@@ -1,7 +1,7 @@
 -- `reader::walked`: what the lines from here on say behind the trace so far is what all lines say.
 use mathlib.Core.Path.{_≡_, refl, sym, ap, _∙_}
 use mathlib.Core.List.{List, _∷_}
-use Prim.Native.Nat.{ℕ, _+_, _≤_, _-_}
+use Prim.Native.Nat.{ℕ, _+_, _≤_, _<_, _-_}
 use native.Mathlib.Omega.{arith}
 use lib.Dec.{ltb}
 use mathlib.Core.Logic.{⊎-elim}
@@ -13,16 +13,18 @@ use Rattle.trace.proofs.Places.{pushed-room}
 use Rattle.text.specs.Lines.{Line, lines, lineAt, endAt}
 use Rattle.trace.specs.declared.Trace.{Trace}
 use Rattle.reader.specs.Answer.{turned}
-use Rattle.reader.specs.Read.{readLines, badLines}
+use Rattle.reader.specs.Part.{passed, lineStart, lineEnd}
+use Rattle.reader.specs.Read.{readLines}
 use Rattle.reader.specs.declared.Answer.the-variants.{Refused}
-use Rattle.text.proofs.Lines.{lines-on, lines-over, line-none, line-part, end-within}
-use Rattle.reader.proofs.Walks.{read-taken, bad-taken, read-refused, bad-refused}
+use Rattle.text.proofs.Lines.{lines-on, lines-over, line-part, end-within}
+use Rattle.reader.proofs.Walks.{read-taken, read-refused}
+use Rattle.reader.proofs.Part.{start-on, end-told}
 use borrow.Author.Needs.{needs}
 use Rattle.reader.proofs.walked.Statement.{statement}
 use Rattle.reader.proofs.walked.Tie as tie
 
 abbrev Inv-loop : tie.InvT-loop
-Inv-loop text trace₀ at₀ line₀ trace at line = (line ≤ at + 1) × (readLines line trace (lines (drop at text)) ≡ readLines 1 empty (lines text)) × (badLines trace (lines (drop at text)) ≡ badLines empty (lines text))
+Inv-loop text trace₀ at₀ line₀ trace at line = (line ≤ at + 1) × (0 < line) × (at < length text → at ≡ lineStart text line) × (readLines line trace (lines (drop at text)) ≡ readLines 1 empty (lines text))
 
 abbrev μ-loop : tie.MeasureT-loop
 μ-loop text trace₀ at₀ line₀ trace at line = length text - at
@@ -31,7 +33,8 @@ empty-requires : tie.Need-empty-requires Inv-loop μ-loop
 empty-requires c κs = search needs
 
 loop-holds : tie.Need-loop-holds Inv-loop μ-loop
-loop-holds c = let e = c .empty .ensures in (omega arith, rw e refl, rw e refl)
+unfolding passed
+loop-holds c = let e = c .empty .ensures in (omega arith, omega arith, λ _. refl, rw e refl)
 
 line-end-requires : tie.Need-line-end-requires Inv-loop μ-loop
 line-end-requires c κs = search needs
@@ -93,14 +96,11 @@ unfolding here behind
 whole-read c =
     let l = c .before .before in
     let t = l .before .before .before .args .text .now in
-    ap (readLines (l .loop .line) (l .loop .trace)) (sym (lines-on t (l .loop .at) (omega arith))) ∙ l .loop .inv .1
+    ap (readLines (l .loop .line) (l .loop .trace)) (sym (lines-on t (l .loop .at) (omega arith))) ∙ l .loop .inv .3
 
-whole-bad : (c : tie.After-line-end Inv-loop μ-loop) → badLines (c .before .before .loop .trace) (here c ∷ behind c) ≡ badLines empty (lines (c .before .before .before .before .before .args .text .now))
-unfolding here behind
-whole-bad c =
-    let l = c .before .before in
-    let t = l .before .before .before .args .text .now in
-    ap (badLines (l .loop .trace)) (sym (lines-on t (l .loop .at) (omega arith))) ∙ l .loop .inv .2
+-- the line starts where its number says
+starts : (c : tie.After-line-end Inv-loop μ-loop) → c .before .before .loop .at ≡ lineStart (c .before .before .before .before .before .args .text .now) (c .before .before .loop .line)
+starts c = let l = c .before .before in l .loop .inv .2 (omega arith)
 
 returns : tie.Need-returns Inv-loop μ-loop
 unfolding here
@@ -111,7 +111,8 @@ returns c =
     let l = e .before .before in
     let q = sym (said u) ∙ r .reason .given .1 in (
       ap (λ (t : Trace). record { answer = Refused (r .reason .given .0 .0) (l .loop .line); trace = t }) (c .empty2 .ensures) ∙ sym (read-refused (l .loop .trace) (here e) (behind e) (r .reason .given .0 .0) q (l .loop .line)) ∙ whole-read e,
-      sym (bad-refused (l .loop .trace) (here e) (behind e) (r .reason .given .0 .0) q) ∙ whole-bad e,
+      starts e,
+      end-told (l .before .before .before .args .text .now) (l .loop .line) (l .loop .at) (e .line-end .result) (l .loop .inv .1) (starts e) (e .line-end .ensures),
     )
 
 add-at : tie.Need-add-at Inv-loop μ-loop
@@ -144,18 +145,20 @@ loop-again c =
     let q = sym (said u) ∙ o .1 in
     let same : lines (drop (e .line-end .result + 1) t) ≡ behind e = ap (λ (n : ℕ). lines (drop (n + 1) t)) (e .line-end .ensures) in (
       omega (arith, e .line-end .ensures),
+      omega arith,
+      start-on t (l .loop .line) (l .loop .at) (e .line-end .result) (l .loop .inv .1) (starts e) (e .line-end .ensures),
       rw (grown c, same) (sym (read-taken (l .loop .trace) (here e) (behind e) (o .0 .0) q (l .loop .line)) ∙ whole-read e),
-      rw (grown c, same) (sym (bad-taken (l .loop .trace) (here e) (behind e) (o .0 .0) q) ∙ whole-bad e),
     )
 
 returns-2 : tie.Need-returns-2 Inv-loop μ-loop
-unfolding readLines badLines
+unfolding readLines passed lineEnd
 returns-2 c =
     let l = c .before in
     let t = l .before .before .before .args .text .now in
     let o = lines-over t (l .loop .at) (omega arith) in (
-      ap (readLines (l .loop .line) (l .loop .trace)) (sym o) ∙ l .loop .inv .1,
-      line-none t (l .loop .at) (omega arith) ∙ ap (badLines (l .loop .trace)) (sym o) ∙ l .loop .inv .2,
+      ap (readLines (l .loop .line) (l .loop .trace)) (sym o) ∙ l .loop .inv .3,
+      refl,
+      refl,
     )
 
 pub walked-spec : {M : Type 1} → statement M

@@ -1,6 +1,7 @@
 // Lines of a lent text: a cursor gives one line at a time, as a part of the caller's own text.
 ghost use mathlib.Core.Path.{_≡_};
-ghost use Rattle.text.specs.Lines.{endAt, lineAt, nextAt};
+ghost use Rattle.text.specs.Lines.{endAt, nextAt};
+ghost use Rattle.text.specs.Part.{LineOf};
 use crate::Cursor;
 
 const FEED: u8 = 0x0A;
@@ -27,14 +28,14 @@ impl Cursor {
         Self { at: 0 }
     }
 
-    // The line at the cursor, without its line feed; at or past the end the empty part.
+    // The line at the cursor, without its line feed: the text's own part that starts there; at or past the end the empty part at the end.
     pub fn line<'a>(self, text: &'a [u8]) -> &'a [u8]
-        ensures { λ r. ⌜ now r ≡ lineAt (now (text .entry)) (self .at) ⌝ }
+        ensures { λ r. ⌜ LineOf (text .entry) (self .at) r ⌝ }
     {
         let at = self.at;
         if text.len() <= at {
             let n = text.len();
-            return &text[n..];
+            return &text[n..n];
         }
         let e = line_end(text, at);
         &text[at..e]

@@ -5,7 +5,7 @@ use native.Mathlib.Numerals.{add-one}
 use native.Mathlib.Omega.{arith}
 use Rattle.text.specs.Lines.{nextAt}
 use Rattle.text.specs.declared.Cursor.{Cursor}
-use Rattle.desk.specs.Part.{passed}
+use Rattle.reader.specs.Part.{passed}
 use borrow.Author.Needs.{needs}
 use Rattle.desk.proofs.texts.passed.Statement.{statement}
 use Rattle.desk.proofs.texts.passed.Tie as tie

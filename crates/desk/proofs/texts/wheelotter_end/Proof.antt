@@ -2,7 +2,7 @@
 use mathlib.Core.Path.{sym, ap, _∙_}
 use native.Mathlib.Omega.{arith}
 use Rattle.text.specs.Lines.{endAt}
-use Rattle.desk.proofs.Part.{start-line, end-none, end-line}
+use Rattle.reader.proofs.Part.{start-line, end-none, end-line}
 use borrow.Author.Needs.{needs}
 use Rattle.desk.proofs.texts.wheelotter_end.Statement.{statement}
 use Rattle.desk.proofs.texts.wheelotter_end.Tie as tie

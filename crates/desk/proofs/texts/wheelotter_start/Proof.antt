@@ -1,7 +1,7 @@
 -- `desk::texts::wheelotter_start`: the place behind the lines before the bad one.
 use mathlib.Core.Path.{sym, _∙_}
 use native.Mathlib.Omega.{arith}
-use Rattle.desk.proofs.Part.{start-none, start-line}
+use Rattle.reader.proofs.Part.{start-none, start-line}
 use borrow.Author.Needs.{needs}
 use Rattle.desk.proofs.texts.wheelotter_start.Statement.{statement}
 use Rattle.desk.proofs.texts.wheelotter_start.Tie as tie

@@ -1,6 +1,9 @@
 -- `text::Cursor::line`: the part from the line's start to its end, or the empty one.
+use mathlib.Core.Path.{refl, sym}
 use native.Mathlib.Omega.{arith}
-use Rattle.text.proofs.Lines.{line-empty, line-part, end-within}
+use lib.ListN.{length}
+use Rattle.text.proofs.Lines.{end-last, end-within}
+use Rattle.text.proofs.Part.{start-here, start-end}
 use borrow.Author.Needs.{needs}
 use Rattle.text.proofs.Cursor.line.Statement.{statement}
 use Rattle.text.proofs.Cursor.line.Tie as tie
@@ -15,7 +18,10 @@ part-result-end : tie.Need-part-result-end
 part-result-end c = search needs
 
 returns : tie.Need-returns
-returns c = let a = c .before .before .before .args in line-empty (a .text .now) (a .self .at) (c .before .if1 .taken)
+returns c =
+    let a = c .before .before .before .args in
+    let t = a .text .now in
+    rw (start-end t (a .self .at) (c .before .if1 .taken), end-last t (length t) (omega arith)) (record { block = refl; place = omega arith; bytes = refl })
 
 line-end-requires : tie.Need-line-end-requires
 line-end-requires c κs = search needs
@@ -30,7 +36,10 @@ part-result-end-2 : tie.Need-part-result-end-2
 part-result-end-2 c = let a = c .before .before .before .args in omega (arith, end-within (a .text .now) (a .self .at) (omega arith))
 
 returns-2 : tie.Need-returns-2
-returns-2 c = let a = c .before .before .before .before .args in line-part (a .text .now) (a .self .at) (c .before .line-end .result) (c .before .line-end .ensures)
+returns-2 c =
+    let b = c .before .before .before in
+    let a = b .before .args in
+    rw (start-here (a .text .now) (a .self .at) (omega arith), sym (c .before .line-end .ensures)) (record { block = refl; place = omega arith; bytes = refl })
 
 pub line-spec : {M : Type 1} → statement M
 line-spec =

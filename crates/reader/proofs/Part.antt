@@ -1,7 +1,10 @@
 -- The part of a text from the start to the end of its bad line is the bad line.
 --
+--   line-long, line-told == the line of a text that is too long, and of one that is not
+--   start-on, end-told   == where the next line starts, and where a line ends, from where it starts
 --   start-none, start-line, end-none, end-line == both by the line's number
 --   start-end, end-text == the part stands in the text
+--   start-told, end-same == both by the line in a reading
 --   part-bad            == its bytes are those of the line that the reader turns back; none where no line is to blame
 use mathlib.Core.Path.{_≡_, refl, sym, ap, _∙_}
 use mathlib.Core.Logic.{inl, inr}
@@ -19,14 +22,14 @@ use Rattle.trace.specs.declared.Op.{Op}
 use Rattle.trace.specs.declared.Trace.{Trace}
 use Rattle.text.specs.Lines.{Line, lines, lineAt, endAt, nextAt}
 use Rattle.text.proofs.Lines.{end-within, line-part, lines-on, lines-over}
 use Rattle.reader.specs.Answer.{turned}
 use Rattle.reader.specs.Bounds.{TEXT}
 use Rattle.reader.specs.Read.{readLines, readText, badLines, badLineOf}
 use Rattle.reader.specs.declared.Turn.{Turn}
 use Rattle.reader.specs.declared.Turn.the-variants.{Taken, Refused}
 use Rattle.reader.proofs.Walks.{read-taken, bad-taken, read-refused, bad-refused}
-use Rattle.desk.specs.Text.{lineIn, lineOf}
-use Rattle.desk.specs.Part.{passed, startOf, endOf}
+use Rattle.reader.specs.declared.Reading.{Reading}
+use Rattle.reader.specs.Part.{lineIn, lineOf, passed, lineStart, lineEnd, startOf, endOf}
 
 module _ (text : List ℕ) where
   -- the line behind the one at a place
@@ -86,6 +89,26 @@ module _ (text : List ℕ) where
     | inr e ↦ rw e (walk (lines text) empty 0 refl)
   ]
 
+  pub line-long : TEXT < length text → lineOf text ≡ 0
+  unfolding readText
+  line-long h = rw (lt-ltb TEXT (length text) h)
+
+  pub line-told : length text ≤ TEXT → (r : Reading) → r ≡ readLines 1 empty (lines text) → lineIn (r .answer) ≡ lineOf text
+  unfolding readText
+  line-told h r e = rw (le-ltb TEXT (length text) h) (ap (λ (r : Reading). lineIn (r .answer)) e)
+
+  -- a line that is not the last: the next one starts behind its feed
+  pub start-on : (n at end : ℕ) → 0 < n → at ≡ lineStart text n → end ≡ endAt text at → end + 1 < length text → end + 1 ≡ lineStart text (n + 1)
+  unfolding passed nextAt
+  start-on n at end h s e l =
+      let m : suc (n - 1) ≡ n + 1 - 1 = omega arith in
+      let g : end + 1 ≡ nextAt text at = rw (lt-leb (length text) at (omega arith), sym e, lt-ltb end (length text) (omega arith)) in
+      g ∙ ap (nextAt text) s ∙ ap (passed text) m
+
+  pub end-told : (n at end : ℕ) → 0 < n → at ≡ lineStart text n → end ≡ endAt text at → end ≡ lineEnd text n
+  unfolding lineEnd
+  end-told n at end h s e = rw (ne-eqb n 0 (λ z. omega arith)) (e ∙ ap (endAt text) s)
+
   pub start-none : lineOf text ≡ 0 → startOf text ≡ 0
   unfolding startOf passed
   start-none e = rw e
@@ -95,11 +118,11 @@ module _ (text : List ℕ) where
   start-line n e = rw e
 
   pub end-none : lineOf text ≡ 0 → endOf text ≡ 0
-  unfolding endOf
+  unfolding endOf lineEnd
   end-none e = rw (eq-eqb (lineOf text) 0 e)
 
   pub end-line : 0 < lineOf text → endOf text ≡ endAt text (startOf text)
-  unfolding endOf
+  unfolding endOf lineEnd startOf
   end-line h = rw (ne-eqb (lineOf text) 0 (λ e. omega arith))
 
   pub start-end : startOf text ≤ endOf text
@@ -114,6 +137,14 @@ module _ (text : List ℕ) where
     | yes h ↦ omega (arith, end-line h, end-within text (startOf text) (passed-in (lineOf text - 1)))
     | no h ↦ omega (arith, end-none (omega arith))
   ]
+
+  pub start-told : (n : ℕ) → n ≡ lineOf text → lineStart text n ≡ startOf text
+  unfolding startOf
+  start-told n e = ap (lineStart text) e
+
+  pub end-same : (n : ℕ) → n ≡ lineOf text → lineEnd text n ≡ endOf text
+  unfolding endOf
+  end-same n e = ap (lineEnd text) e
 
   pub part-bad : take (endOf text - startOf text) (drop (startOf text) text) ≡ badLineOf text
   part-bad = elim (decLt 0 (lineOf text)) [
