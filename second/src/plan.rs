@@ -96,6 +96,18 @@ impl Plan {
     }
 }
 
+/// Of so many cases of a family one may be skipped.
+const SHARE: u64 = 50;
+
+/// How many skipped cases of a family are failures: none while they are a small share, all of them past it. What nobody looks at is not good.
+pub fn missed(skipped: u64, compared: u64) -> u64 {
+    if skipped * SHARE > skipped + compared {
+        skipped
+    } else {
+        0
+    }
+}
+
 /// Good only where something passed and nothing failed: what never answers in time has not passed anything.
 pub fn ended(passed: u64, failed: u64) -> ExitCode {
     if failed == 0 && passed > 0 {

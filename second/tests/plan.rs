@@ -1,7 +1,7 @@
 //! What the comparisons are told by words, and which cases they then draw.
 
 use second::families::FAMILIES;
-use second::plan::{shown, Plan};
+use second::plan::{missed, shown, Plan};
 use std::time::Duration;
 
 fn plan(words: &str) -> Option<Plan> {
@@ -27,6 +27,12 @@ fn cases_go_round_the_families() {
     let drawn: Vec<(&str, u64)> = std::iter::from_fn(|| told.next().map(|(family, case)| (family.name, case))).collect();
     assert_eq!(drawn, [("knot", 0), ("sc", 0), ("knot", 1), ("sc", 1), ("knot", 2)]);
     assert!(plan("--seconds 0").expect("of the form").next().is_none(), "the time is up");
+}
+
+#[test]
+fn few_may_be_skipped() {
+    assert_eq!((missed(0, 0), missed(0, 10), missed(1, 49), missed(2, 200)), (0, 0, 0, 0));
+    assert_eq!((missed(1, 0), missed(1, 48), missed(3, 0), missed(5, 200)), (1, 1, 3, 5));
 }
 
 #[test]

@@ -7,7 +7,7 @@ use crate::{sessions, texts};
 use second::chance::Chance;
 use second::desk::Page;
 use second::families::{text, Family};
-use second::plan::shown;
+use second::plan::{missed, shown};
 
 /// The answers of the table, and one place more for whatever is none.
 pub const ANSWERS: usize = 25;
@@ -48,6 +48,11 @@ impl Counts {
 
     pub fn failed(&self) -> u64 {
         self.texts_failed + self.calls_failed
+    }
+
+    /// Of one family: texts whose verdict is not known, where they are too many.
+    pub fn missed(&self) -> u64 {
+        missed(self.not_known, self.texts + self.texts_failed)
     }
 }
 

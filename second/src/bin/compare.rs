@@ -7,7 +7,7 @@
 use second::bench::{self, NOT_KNOWN};
 use second::families::{text, Family};
 use second::orders;
-use second::plan::{ended, shown, Plan};
+use second::plan::{ended, missed, shown, Plan};
 use second::reader;
 use second::trace::Model;
 use std::collections::BTreeMap;
@@ -37,7 +37,7 @@ fn main() -> ExitCode {
     ended(tally.passed(), tally.failed())
 }
 
-/// What came of one case. A case that is skipped counts neither as passed nor as failed.
+/// What came of one case. A case that is skipped counts neither as passed nor as failed, as long as few of its family are.
 enum Outcome {
     Passed,
     /// This package does not know one of the lines; whatever could be compared was right.
@@ -146,6 +146,16 @@ struct Counts {
     kinds: BTreeMap<String, u64>,
 }
 
+impl Counts {
+    fn skipped(&self) -> u64 {
+        self.not_known + self.too_slow
+    }
+
+    fn missed(&self) -> u64 {
+        missed(self.skipped(), self.passed + self.failed)
+    }
+}
+
 #[derive(Default)]
 struct Tally {
     families: BTreeMap<&'static str, Counts>,
@@ -180,7 +190,7 @@ impl Tally {
     }
 
     fn failed(&self) -> u64 {
-        self.families.values().map(|counts| counts.failed).sum()
+        self.families.values().map(|counts| counts.failed + counts.missed()).sum()
     }
 
     fn print(&self, plan: &Plan) {
@@ -192,15 +202,18 @@ impl Tally {
                 "{name:12} {} passed, {} failed, {} skipped (not known {}, too slow {}); {}",
                 counts.passed,
                 counts.failed,
-                counts.not_known + counts.too_slow,
+                counts.skipped(),
                 counts.not_known,
                 counts.too_slow,
                 kinds.join(", ")
             );
+            if counts.missed() > 0 {
+                println!("FAILED: too many cases of {name} were skipped");
+            }
             not_known += counts.not_known;
             too_slow += counts.too_slow;
         }
-        let all = self.passed() + self.failed() + not_known + too_slow;
+        let all: u64 = self.families.values().map(|counts| counts.passed + counts.failed + counts.skipped()).sum();
         let rate = all as f64 / time.as_secs_f64().max(0.001);
         println!("seed {}: {all} cases in {:.1} s, {rate:.0} a second on {} threads", plan.seed, time.as_secs_f64(), plan.threads);
         println!("skipped {}: not known {not_known}, too slow {too_slow}", not_known + too_slow);
