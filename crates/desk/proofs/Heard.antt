@@ -1,18 +1,13 @@
 -- The verdict's bytes lose nothing.
 --
---   verdict-long == there are always as many
 --   verdict-says == read back, the answer and the bytes about a good text tell the verdict on its trace, as document 01 says it
 use mathlib.Core.Path.{_≡_, refl, sym, ap, ap₂, _∙_, subst}
-use mathlib.Core.Logic.{inl, inr}
 use mathlib.Core.Bool.{So, false≢true}
 use mathlib.Core.List.{List, _++_, append-assoc}
 use Prim.Native.Nat.{ℕ, suc, _*_, _-_, _≤_}
 use native.Mathlib.Omega.{arith}
-use borrow.Author.Tests.{eq-eqb}
-use lib.Dec.{eqb}
 use lib.ListN.{length, take, drop, replicate, length-append, length-replicate}
 use lib.Seq.{take-append-seam, take-at, drop-at}
-use Rattle.laws.proofs.Tests.{test, and-iff, same-iff}
 use Rattle.trace.specs.Bounds.{RECORDS}
 use Rattle.trace.specs.Meaning.{frameOf}
 use Rattle.trace.specs.WellFormed.{wellFormed}
@@ -26,13 +21,11 @@ use Rattle.orders.specs.Verdict as said
 use Rattle.orders.proofs.Accepted.{well-fits, well-kept, valid-short}
 use Rattle.reader.specs.Read.{readText}
 use Rattle.reader.proofs.RoundTrip.{read-well}
-use Rattle.verdict.specs.Told.{padded, laid, verdictOf}
-use Rattle.verdict.proofs.Laying.{told-model}
-use Rattle.verdict.proofs.Owed.{says-laid}
+use Rattle.verdict.specs.Told.{padded, laid}
 use Rattle.verdict.specs.declared.Verdict.{Verdict}
 use Rattle.desk.specs.Answers.{outcomeNumber}
 use Rattle.desk.specs.Text.{numberOf}
-use Rattle.desk.specs.Verdict.{VERDICT, spelled, bytesOf, verdictNumber, verdictBytes}
+use Rattle.desk.specs.Verdict.{VERDICT, spelled, bytesOf, Answered}
 use Rattle.desk.specs.Heard.{heard}
 
 -- the lists of a verdict have places, and a circle has a rule for each of its edges
@@ -85,27 +78,22 @@ heard-back (said.circle c rs) h = ap₂ said.circle (operations-back c (padded r
 heard-back (said.order xs) h = ap said.order (operations-back xs (replicate RECORDS 0))
 heard-back said.noneLeft h = refl
 
-module _ (text : List ℕ) (m : ℕ) where
+module _ (text : List ℕ) (m : ℕ) (before after : List ℕ) (r : ℕ) (h : Answered text m before after r) (l : VERDICT ≤ length before) (z : numberOf text ≡ 0) where
   -- the trace that the text writes
   abbrev trace : Trace
   trace = readText text .trace
 
-  told : So (modelled m) → (v : said.Verdict) × said.Says (frameOf trace) (keptOf m trace) v × (verdictOf m trace ≡ laid v)
-  told k = says-laid m trace (and-iff (same-iff {a = wellFormed trace}) (same-iff {a = modelled m}) .1 (read-well text, k))
+  -- the verdict on it, with its bytes and all behind them
+  module _ (k : So (modelled m)) where
+    said-of : (v : said.Verdict) × said.Says (frameOf trace) (keptOf m trace) v × (length (bytesOf (spelled (laid v))) ≡ VERDICT) × (r ≡ outcomeNumber (laid v .outcome)) × (after ≡ bytesOf (spelled (laid v)) ++ drop VERDICT before)
+    said-of =
+        let (w, t, e, f) = h .told l z in
+        let (v, s, q) = t .says k (read-well text) in
+        (v, s, bytes-long v (says-fits m trace (read-well text) v s), e ∙ ap (λ (w : Verdict). outcomeNumber (w .outcome)) q, f ∙ ap (λ (w : Verdict). bytesOf (spelled w) ++ drop VERDICT before) q)
 
-  pub verdict-long : length (verdictBytes text m) ≡ VERDICT
-  unfolding verdictBytes spelled bytesOf
-  verdict-long = elim (test (eqb (numberOf text) 0)) [
-    | inr e ↦ rw e refl
-    | inl e ↦ elim (test (modelled m)) [
-      | inl k ↦ let (v, s, q) = told k in rw (e, q) (bytes-long v (says-fits m trace (read-well text) v s))
-      | inr k ↦ rw (e, sym (told-model trace m k .is)) refl
-    ]
-  ]
-
-  pub verdict-says : numberOf text ≡ 0 → So (modelled m) → said.Says (frameOf trace) (keptOf m trace) (heard (verdictNumber text m) (verdictBytes text m))
-  unfolding verdictNumber verdictBytes
-  verdict-says z k =
-      let (v, s, q) = told k in
-      let same : heard (verdictNumber text m) (verdictBytes text m) ≡ v = rw (eq-eqb (numberOf text) 0 z, q) (heard-back v (says-fits m trace (read-well text) v s)) in
-      subst (said.Says (frameOf trace) (keptOf m trace)) (sym same) s
+    pub verdict-says : said.Says (frameOf trace) (keptOf m trace) (heard r (take VERDICT after))
+    verdict-says =
+        let (v, s, n, e, f) = said-of in
+        let front = ap (take VERDICT) f ∙ take-at (bytesOf (spelled (laid v))) (drop VERDICT before) VERDICT n in
+        let same : heard r (take VERDICT after) ≡ v = ap₂ heard e front ∙ heard-back v (says-fits m trace (read-well text) v s) in
+        subst (said.Says (frameOf trace) (keptOf m trace)) (sym same) s

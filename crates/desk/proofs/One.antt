@@ -7,6 +7,7 @@ use denote.Ref.{now}
 use Rattle.laws.specs.Settles.{Settles, Leaves}
 use Rattle.laws.proofs.Tests.{test-one}
 use Rattle.report.proofs.One.{reported-one}
+use Rattle.desk.proofs.Spelling.{answered-one}
 use Rattle.desk.proofs.texts.wheelotter_report.Reads as report
 use Rattle.desk.proofs.texts.wheelotter_report.Kinds as report-kinds
 use Rattle.desk.proofs.texts.wheelotter_number.Reads as number
@@ -49,10 +50,10 @@ pub end-settles : Settles 1 end-kinds.ps end-kinds.r end.Post
 end-settles κs a x y s t p q = p ∙ sym q
 
 pub verdict-settles : Settles 2 verdict-kinds.ps verdict-kinds.r verdict.Post
-verdict-settles κs a x y s t p q = p .0 ∙ sym (q .0)
+verdict-settles κs a x y s t p q = answered-one (now (a .0)) (a .1 .0) (now (a .1 .1 .0)) (now (s .1 .1 .0)) (now (t .1 .1 .0)) x y p q .0
 
 pub verdict-leaves : Leaves 2 verdict-kinds.ps verdict-kinds.r (λ κs s. now (s .1 .1 .0)) verdict.Post
-verdict-leaves κs a x y s t p q = p .1 ∙ sym (q .1)
+verdict-leaves κs a x y s t p q = answered-one (now (a .0)) (a .1 .0) (now (a .1 .1 .0)) (now (s .1 .1 .0)) (now (t .1 .1 .0)) x y p q .1
 
 pub judge-settles : Settles 2 judge-kinds.ps judge-kinds.r judge.Post
 judge-settles κs a x y s t p q = test-one p q

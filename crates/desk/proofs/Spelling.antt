@@ -4,15 +4,16 @@
 --   source-below             == a record that lacks a source is one of the trace
 --   laid-down                == a count, operations and rules put one behind the other
 --   told-short, told-refused, told-good == what is answered and left in the buffer: too short, for a refused text, for a good one
-use mathlib.Core.Path.{_≡_, sym, ap, _∙_}
+--   answered-one             == no second answer, and no second state of the buffer
+use mathlib.Core.Path.{_≡_, refl, sym, ap, _∙_}
 use mathlib.Core.Logic.{inl, inr}
 use mathlib.Core.Bool.{So}
 use mathlib.Core.List.{List, [], _∷_, _++_}
 use Prim.Native.Nat.{ℕ, _+_, _≤_, _<_}
+use native.Mathlib.Decide.{decLt}
 use native.Mathlib.Omega.{arith}
-use borrow.Author.Tests.{le-leb, lt-leb, eq-eqb, ne-eqb}
 use lib.ListN.{length, drop, set, replicate, length-append}
-use Rattle.laws.proofs.Tests.{test, and-iff, same-iff}
+use Rattle.laws.proofs.Tests.{test}
 use Rattle.trace.specs.Bounds.{RECORDS}
 use Rattle.trace.specs.WellFormed.{wellFormed}
 use Rattle.trace.specs.declared.Trace.{Trace}
@@ -24,15 +25,14 @@ use Rattle.pairs.specs.Kept.{modelled, keptOf}
 use Rattle.trace.specs.Meaning.{frameOf}
 use Rattle.orders.specs.Verdict as said
 use Rattle.orders.proofs.Accepted.{well-fits}
-use Rattle.verdict.specs.Told.{laid, verdictOf}
-use Rattle.verdict.proofs.Laying.{told-model}
-use Rattle.verdict.proofs.Owed.{says-laid}
+use Rattle.verdict.specs.Told.{laid, Told}
+use Rattle.verdict.proofs.One.{told-one}
 use Rattle.verdict.specs.declared.Outcome.{Outcome}
 use Rattle.verdict.specs.declared.Outcome.the-variants.{NoSource, Circle, Order, NoneLeft, NoModel, NotWellFormed}
 use Rattle.verdict.specs.declared.Verdict.{Verdict}
 use Rattle.desk.specs.Answers.{NO-ROOM, outcomeNumber}
 use Rattle.desk.specs.Text.{numberOf}
-use Rattle.desk.specs.Verdict.{VERDICT, lacking, spelledAs, spelled, bytesOf, verdictNumber, verdictBytes, verdictAnswer, verdictBuffer}
+use Rattle.desk.specs.Verdict.{VERDICT, lacking, spelledAs, spelled, bytesOf, Answered}
 
 pub spelled-by : (v : Verdict) (o : Outcome) → v .outcome ≡ o → spelledAs o v ≡ spelled v
 unfolding spelled
@@ -57,10 +57,10 @@ module _ (m : ℕ) (t : Trace) (w : So (wellFormed t)) where
   below (said.order xs) s = omega arith
   below said.noneLeft s = omega arith
 
-  pub source-below : lacking (verdictOf m t .outcome) < RECORDS
-  source-below = elim (test (modelled m)) [
-    | inl k ↦ let (v, s, e) = says-laid m t (and-iff (same-iff {a = wellFormed t}) (same-iff {a = modelled m}) .1 (w, k)) in rw e (below v s)
-    | inr k ↦ rw (sym (told-model t m k .is)) (omega arith)
+  pub source-below : (r : Verdict) → Told t m r → lacking (r .outcome) < RECORDS
+  source-below r h = elim (test (modelled m)) [
+    | inl k ↦ let (v, s, e) = h .says k w in rw e (below v s)
+    | inr k ↦ rw (h .nine k) (omega arith)
   ]
 
 module _ (os rs : List ℕ) (n : ℕ) (long : length os ≡ RECORDS) (long′ : length rs ≡ RECORDS) where
@@ -77,19 +77,36 @@ module _ (os rs : List ℕ) (n : ℕ) (long : length os ≡ RECORDS) (long′ : 
       ∙ ap (λ (k : ℕ). (n ∷ os ++ rs) ++ drop k out) all
 
 module _ (text : List ℕ) (m : ℕ) (before : List ℕ) where
-  pub told-short : length before < VERDICT → (NO-ROOM ≡ verdictAnswer text m before) × (before ≡ verdictBuffer text m before)
-  unfolding verdictAnswer verdictBuffer
-  told-short h = let e = lt-leb VERDICT (length before) h in (rw e, rw e)
+  pub told-short : length before < VERDICT → Answered text m before before NO-ROOM
+  told-short h = record { short = λ _. (refl, refl); wrong = λ l _. absurd (omega arith); told = λ l _. absurd (omega arith) }
 
   module _ (h : VERDICT ≤ length before) where
-    pub told-refused : 0 < numberOf text → (numberOf text ≡ verdictAnswer text m before) × (putAt (replicate VERDICT 0) before 0 ≡ verdictBuffer text m before)
-    unfolding verdictAnswer verdictBuffer verdictNumber verdictBytes
-    told-refused w =
-        let e = le-leb VERDICT (length before) h in
-        let d = ne-eqb (numberOf text) 0 (λ z. omega arith) in
-        (rw (e, d), rw (e, d) (put-front (replicate VERDICT 0) before h))
+    pub told-refused : 0 < numberOf text → Answered text m before (putAt (replicate VERDICT 0) before 0) (numberOf text)
+    told-refused w = record {
+      short = λ l. absurd (omega arith);
+      wrong = λ _ _. (refl, put-front (replicate VERDICT 0) before h);
+      told = λ _ z. absurd (omega (arith, z));
+    }
 
-    pub told-good : numberOf text ≡ 0 → (v : Verdict) → v ≡ verdictOf m (readText text .trace)
-        → (outcomeNumber (v .outcome) ≡ verdictAnswer text m before) × (bytesOf (spelled v) ++ drop VERDICT before ≡ verdictBuffer text m before)
-    unfolding verdictAnswer verdictBuffer verdictNumber verdictBytes
-    told-good z v same = let e = le-leb VERDICT (length before) h in let d = eq-eqb (numberOf text) 0 z in (rw (same, e, d), rw (same, e, d))
+    pub told-good : numberOf text ≡ 0 → (v : Verdict) → Told (readText text .trace) m v → Answered text m before (bytesOf (spelled v) ++ drop VERDICT before) (outcomeNumber (v .outcome))
+    told-good z v t = record {
+      short = λ l. absurd (omega arith);
+      wrong = λ _ w. absurd (omega (arith, z));
+      told = λ _ _. (v, t, refl, refl);
+    }
+
+pub answered-one : (text : List ℕ) (m : ℕ) (before a b : List ℕ) (r s : ℕ) → Answered text m before a r → Answered text m before b s → (r ≡ s) × (a ≡ b)
+answered-one text m before a b r s p q = elim (decLt (length before) VERDICT) [
+  | yes h ↦ both (p .short h) (q .short h)
+  | no h ↦ elim (decLt 0 (numberOf text)) [
+    | yes g ↦ both (p .wrong (omega arith) g) (q .wrong (omega arith) g)
+    | no g ↦
+        let (v, t, e, f) = p .told (omega arith) (omega arith) in
+        let (u, d, i, j) = q .told (omega arith) (omega arith) in
+        let same = told-one (readText text .trace) m v u t d in
+        both (e, f) (i ∙ ap (λ (v : Verdict). outcomeNumber (v .outcome)) (sym same), j ∙ ap (λ (v : Verdict). bytesOf (spelled v) ++ drop VERDICT before) (sym same))
+  ]
+]
+  where
+    both : {x y n : ℕ} {xs ys zs : List ℕ} → (x ≡ n) × (xs ≡ zs) → (y ≡ n) × (ys ≡ zs) → (x ≡ y) × (xs ≡ ys)
+    both (p, q) (r, s) = (p ∙ sym r, q ∙ sym s)

@@ -5,18 +5,15 @@
 --   spelled v                   == the verdict as it is told: a record that lacks a source is its one operation
 --   spelledAs o v               == the same, by its outcome
 --   bytesOf v                   == the bytes of a verdict that is spelled
---   verdictNumber text m        == what is wrong with the text, or else the verdict's outcome, in numbers
---   verdictBytes text m         == the bytes beside it, all 0 where the text is turned back
---   verdictAnswer text m before == what comes back for a buffer that is lent
---   verdictBuffer text m before == what the buffer holds then: the bytes at its front, or all as it was where it is too short
-use mathlib.Core.Bool.{cond}
+--   Answered text m before after r == what `wheelotter_verdict` promises of a buffer that is lent: too short, it stays as it was; beside what is wrong
+--                                     with the text stand zeros; and else the bytes of the verdict on its trace
+use mathlib.Core.Path.{_≡_}
 use mathlib.Core.List.{List, [], _∷_, _++_}
-use Prim.Native.Nat.{ℕ, _+_, _*_}
-use lib.Dec.{eqb, leb}
+use Prim.Native.Nat.{ℕ, _+_, _*_, _≤_, _<_}
 use lib.ListN.{length, drop, replicate}
 use Rattle.trace.specs.Bounds.{RECORDS}
 use Rattle.reader.specs.Read.{readText}
-use Rattle.verdict.specs.Told.{padded, verdictOf}
+use Rattle.verdict.specs.Told.{padded, Told}
 use Rattle.verdict.specs.declared.Outcome.{Outcome}
 use Rattle.verdict.specs.declared.Outcome.the-variants.{NoSource, Circle, Order, NoneLeft, NoModel, NotWellFormed}
 use Rattle.verdict.specs.declared.Verdict.{Verdict}
@@ -48,14 +45,8 @@ spelled v = spelledAs (v .outcome) v
 unfoldable pub bytesOf : Verdict → List ℕ
 bytesOf v = v .len ∷ v .operations ++ v .rules
 
-unfoldable pub verdictNumber : List ℕ → ℕ → ℕ
-verdictNumber text m = cond (eqb (numberOf text) 0) (outcomeNumber (verdictOf m (readText text .trace) .outcome)) (numberOf text)
-
-unfoldable pub verdictBytes : List ℕ → ℕ → List ℕ
-verdictBytes text m = cond (eqb (numberOf text) 0) (bytesOf (spelled (verdictOf m (readText text .trace)))) (replicate VERDICT 0)
-
-unfoldable pub verdictAnswer : List ℕ → ℕ → List ℕ → ℕ
-verdictAnswer text m before = cond (leb VERDICT (length before)) (verdictNumber text m) NO-ROOM
-
-unfoldable pub verdictBuffer : List ℕ → ℕ → List ℕ → List ℕ
-verdictBuffer text m before = cond (leb VERDICT (length before)) (verdictBytes text m ++ drop VERDICT before) before
+pub record Answered (text : List ℕ) (m : ℕ) (before after : List ℕ) (r : ℕ) : Type 0 where
+  pub short : length before < VERDICT → (r ≡ NO-ROOM) × (after ≡ before)
+  pub wrong : VERDICT ≤ length before → 0 < numberOf text → (r ≡ numberOf text) × (after ≡ replicate VERDICT 0 ++ drop VERDICT before)
+  pub told : VERDICT ≤ length before → numberOf text ≡ 0
+      → (v : Verdict) × Told (readText text .trace) m v × (r ≡ outcomeNumber (v .outcome)) × (after ≡ bytesOf (spelled v) ++ drop VERDICT before)

@@ -2,17 +2,17 @@
 --
 --   answer-good, answer-refused    == the lines of both models, or the line of a refusal, are the output for the text
 --   answer-says                    == a text that is read is answered: no line of it says `refused`
+--   prints-one                     == no second output
 --   reported-put                   == what comes of an answer that was written elsewhere and put into a buffer: it fits, or nothing is written
-use mathlib.Core.Path.{_≡_, sym, ap, ap₂, _∙_}
+use mathlib.Core.Path.{_≡_, refl, sym, ap, ap₂, _∙_, subst}
 use mathlib.Core.Bool.{So}
 use mathlib.Core.List.{List, _++_}
-use Prim.Native.Nat.{ℕ, _≤_}
+use Prim.Native.Nat.{ℕ}
 use native.Mathlib.Nat.{zero-add}
 use native.Mathlib.Omega.{arith}
 use lib.ListN.{length, take}
-use Rattle.laws.proofs.Tests.{and-iff, same-iff}
 use Rattle.trace.specs.Meaning.{frameOf}
-use Rattle.trace.specs.WellFormed.{wellFormed}
+use Rattle.trace.specs.declared.Trace.{Trace}
 use Rattle.pairs.specs.Kept.{SC, TSO, modelled, keptOf}
 use Rattle.orders.specs.Verdict as said
 use Rattle.text.specs.Room.{putAt, behind}
@@ -24,42 +24,47 @@ use Rattle.reader.specs.declared.Answer.the-variants.{Good, Refused}
 use Rattle.reader.specs.declared.Reading.{Reading}
 use Rattle.reader.specs.declared.Reason.{Reason}
 use Rattle.reader.proofs.RoundTrip.{read-well}
-use Rattle.verdict.specs.Told.{laid, verdictOf, Told}
-use Rattle.verdict.proofs.Owed.{says-laid}
+use Rattle.verdict.specs.Told.{laid, Told}
+use Rattle.verdict.proofs.One.{told-one}
 use Rattle.verdict.specs.declared.Verdict.{Verdict}
-use Rattle.report.specs.Bounds.{REPORT}
 use Rattle.report.specs.Words.{sc, tso}
-use Rattle.report.specs.Report.{lineOf, refusalOf, answerOf, reportOf}
-use Rattle.report.specs.Wrote.{Wrote, Reported}
+use Rattle.report.specs.Report.{lineOf, refusalOf, Answers, Prints}
+use Rattle.report.specs.Wrote.{Written, Reported}
 use Rattle.report.proofs.Wrote.{wrote-front}
 
 module _ (text : List ℕ) (r : Reading) (e : r ≡ readText text) where
-  whole : (a : Answer) → r .answer ≡ a → answerOf a (r .trace) ≡ reportOf text
-  unfolding reportOf
-  whole a q = ap (λ (a : Answer). answerOf a (r .trace)) (sym q) ∙ ap (λ (r : Reading). answerOf (r .answer) (r .trace)) e
+  whole : (a : Answer) → r .answer ≡ a → (out : List ℕ) → Answers a (r .trace) out → Prints text out
+  whole a q out p = subst (λ (r : Reading). Answers (r .answer) (r .trace) out) e (subst (λ (a : Answer). Answers a (r .trace) out) (sym q) p)
 
-  pub answer-good : r .answer ≡ Good → (a b : Verdict) → Told (r .trace) SC a → Told (r .trace) TSO b → lineOf sc a ++ lineOf tso b ≡ reportOf text
-  unfolding answerOf
-  answer-good q a b p s = ap₂ (λ (a b : Verdict). lineOf sc a ++ lineOf tso b) (p .is) (s .is) ∙ whole Good q
+  pub answer-good : r .answer ≡ Good → (a b : Verdict) → Told (r .trace) SC a → Told (r .trace) TSO b → Prints text (lineOf sc a ++ lineOf tso b)
+  answer-good q a b p s = whole Good q (lineOf sc a ++ lineOf tso b) (a, b, p, s, refl)
 
-  pub answer-refused : (reason : Reason) (n line : ℕ) → r .answer ≡ Refused reason line → n ≡ numberOf reason → refusalOf n line ≡ reportOf text
-  unfolding answerOf
-  answer-refused reason n line q p = ap (λ (n : ℕ). refusalOf n line) p ∙ whole (Refused reason line) q
+  pub answer-refused : (reason : Reason) (n line : ℕ) → r .answer ≡ Refused reason line → n ≡ numberOf reason → Prints text (refusalOf n line)
+  answer-refused reason n line q p = whole (Refused reason line) q (refusalOf n line) (ap (λ (n : ℕ). refusalOf n line) p)
 
-pub answer-says : (text : List ℕ) (m : ℕ) → So (modelled m) → let t = readText text .trace in (v : said.Verdict) × said.Says (frameOf t) (keptOf m t) v × (verdictOf m t ≡ laid v)
-answer-says text m k = says-laid m (readText text .trace) (and-iff (same-iff {a = wellFormed (readText text .trace)}) (same-iff {a = modelled m}) .1 (read-well text, k))
+pub answer-says : (text : List ℕ) (m : ℕ) → So (modelled m) → let t = readText text .trace in (r : Verdict) → Told t m r → (v : said.Verdict) × said.Says (frameOf t) (keptOf m t) v × (r ≡ laid v)
+answer-says text m k r h = h .says k (read-well text)
 
-module _ (text before : List ℕ) (n : ℕ) (blank buffer : List ℕ) (w : Wrote blank 0 (reportOf text) buffer n) (h : n ≤ REPORT) where
+-- no second output
+answers-one : (a : Answer) (t : Trace) (x y : List ℕ) → Answers a t x → Answers a t y → x ≡ y
+answers-one Good t x y (a, b, p, q, e) (c, d, r, s, f) =
+    e ∙ ap₂ (λ (a b : Verdict). lineOf sc a ++ lineOf tso b) (told-one t SC a c p r) (told-one t TSO b d q s) ∙ sym f
+answers-one (Refused reason line) t x y e f = e ∙ sym f
+
+pub prints-one : (text x y : List ℕ) → Prints text x → Prints text y → x ≡ y
+prints-one text x y = answers-one (readText text .answer) (readText text .trace) x y
+
+module _ (text before blank buffer : List ℕ) (n : ℕ) (w : Written text blank buffer n) where
   pub reported-put : (after : List ℕ) (r : ℕ) → r ≡ behind (take n buffer) before 0 → after ≡ putAt (take n buffer) before 0 → Reported text before after r
   reported-put after r e p =
-      let same = wrote-front blank (reportOf text) buffer n w .1 in
-      let e : r ≡ behind (reportOf text) before 0 = e ∙ ap (λ (x : List ℕ). behind x before 0) same in
-      let p : after ≡ putAt (reportOf text) before 0 = p ∙ ap (λ (x : List ℕ). putAt x before 0) same in
+      let out = w .out in
+      let same = wrote-front blank out buffer n (w .wrote) .1 in
+      let e : r ≡ behind out before 0 = e ∙ ap (λ (x : List ℕ). behind x before 0) same in
+      let p : after ≡ putAt out before 0 = p ∙ ap (λ (x : List ℕ). putAt x before 0) same in
       record {
-        within = omega (arith, w .ends);
-        fits = λ l. (
-          e ∙ behind-room (reportOf text) before 0 (omega arith) ∙ zero-add (length (reportOf text)),
-          p ∙ put-front (reportOf text) before l,
-        );
-        short = λ l. (e ∙ behind-none (reportOf text) before 0 (omega arith), p ∙ put-none (reportOf text) before 0 (omega arith));
+        out = out;
+        prints = w .prints;
+        within = omega (arith, w .wrote .ends, w .within);
+        fits = λ l. (e ∙ behind-room out before 0 (omega arith) ∙ zero-add (length out), p ∙ put-front out before l);
+        short = λ l. (e ∙ behind-none out before 0 (omega arith), p ∙ put-none out before 0 (omega arith));
       }

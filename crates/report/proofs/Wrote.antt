@@ -17,7 +17,6 @@ use lib.ListN.{length, take, drop, set, length-append, length-set}
 use lib.Seq.{take-paste, take-suc-set, take-length}
 use Rattle.text.specs.Room.{putAt, behind}
 use Rattle.text.proofs.Put.{put-paste, behind-room, length-put}
-use Rattle.report.specs.Report.{reportOf}
 use Rattle.report.specs.Wrote.{Wrote, Reported}
 
 module _ (before : List ℕ) (at : ℕ) where
@@ -55,9 +54,9 @@ pub wrote-front : (before bytes after : List ℕ) (r : ℕ) → Wrote before 0 b
 wrote-front before bytes after r w = (omega (arith, w .ends), w .said)
 
 pub reported-held : (text before after : List ℕ) (r : ℕ) → Reported text before after r → r ≤ length after
-reported-held text before after r p = elim (decLt (length before) (length (reportOf text))) [
+reported-held text before after r p = elim (decLt (length before) (length (p .out))) [
   | yes h ↦ let e = p .short h .0 in omega arith
   | no h ↦
       let e = p .fits (omega arith) in
-      omega (arith, e .0, ap length (e .1) ∙ length-append (reportOf text) (drop (length (reportOf text)) before))
+      omega (arith, e .0, ap length (e .1) ∙ length-append (p .out) (drop (length (p .out)) before))
 ]

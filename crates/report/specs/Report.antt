@@ -5,8 +5,9 @@
 --   saying v         == what is said of a verdict
 --   lineOf name v    == the line of a verdict under a model of this name
 --   refusalOf n line == the line of a refused text
---   answerOf a t     == the whole output for what the reader answers, with the trace beside it
---   reportOf text    == the whole output for a text
+--   Answers a t out  == out is the whole output for what the reader answers, with the trace beside it: a line for the verdict under each model
+--   Prints text out  == out is the whole output for a text
+use mathlib.Core.Path.{_≡_}
 use mathlib.Core.List.{List, [], _∷_, _++_}
 use Prim.Native.Nat.{ℕ}
 use lib.ListN.{take}
@@ -18,7 +19,7 @@ use Rattle.reader.specs.Read.{readText}
 use Rattle.reader.specs.declared.Answer.{Answer}
 use Rattle.reader.specs.declared.Answer.the-variants.{Good, Refused}
 use Rattle.pairs.specs.Kept.{SC, TSO}
-use Rattle.verdict.specs.Told.{refusedBy, verdictOf}
+use Rattle.verdict.specs.Told.{refusedBy, Told}
 use Rattle.verdict.specs.declared.Outcome.{Outcome}
 use Rattle.verdict.specs.declared.Outcome.the-variants.{NoSource, Circle, Order, NoneLeft, NoModel, NotWellFormed}
 use Rattle.verdict.specs.declared.Verdict.{Verdict}
@@ -46,9 +47,9 @@ lineOf name v = name ++ colon ++ saying v ++ (FEED ∷ [])
 abbrev pub refusalOf : ℕ → ℕ → List ℕ
 refusalOf n line = refused ++ decimal n ++ onLine ++ decimal line ++ (FEED ∷ [])
 
-unfoldable pub answerOf : Answer → Trace → List ℕ
-answerOf Good t = lineOf sc (verdictOf SC t) ++ lineOf tso (verdictOf TSO t)
-answerOf (Refused reason line) t = refusalOf (numberOf reason) line
+abbrev pub Answers : Answer → Trace → List ℕ → Type 0
+Answers Good t out = (a : Verdict) × (b : Verdict) × Told t SC a × Told t TSO b × (out ≡ lineOf sc a ++ lineOf tso b)
+Answers (Refused reason line) t out = out ≡ refusalOf (numberOf reason) line
 
-unfoldable pub reportOf : List ℕ → List ℕ
-reportOf text = answerOf (readText text .answer) (readText text .trace)
+abbrev pub Prints : List ℕ → List ℕ → Type 0
+Prints text out = Answers (readText text .answer) (readText text .trace) out

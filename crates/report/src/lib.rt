@@ -1,10 +1,8 @@
 // The text of an answer: what the program prints, made byte by byte in a lent buffer.
 ghost use mathlib.Core.Path.{_≡_};
-ghost use Prim.Native.Nat.{_≤_};
 ghost use lib.ListN.{length};
 ghost use Rattle.report.specs.Bounds.{REPORT};
-ghost use Rattle.report.specs.Report.{reportOf};
-ghost use Rattle.report.specs.Wrote.{Wrote, Reported};
+ghost use Rattle.report.specs.Wrote.{Written, Reported};
 
 mod lines;
 mod pieces;
@@ -27,7 +25,7 @@ pub const REPORT: usize = 2 * (46 + 8 * RECORDS);
 // The answer to a text, in a buffer that has room for any.
 fn written(text: &[u8], out: &mut [u8]) -> usize
     requires { ⌜ length (now out) ≡ REPORT ⌝ }
-    ensures { λ r. ⌜ Wrote (now (out .entry)) 0 (reportOf (now (text .entry))) (now (out .exit)) r × (r ≤ REPORT) ⌝ }
+    ensures { λ r. ⌜ Written (now (text .entry)) (now (out .entry)) (now (out .exit)) r ⌝ }
 {
     let reading = read(text);
     let answer = reading.answer;

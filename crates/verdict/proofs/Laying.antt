@@ -2,10 +2,10 @@
 --
 --   padded-take             == an array that is 0 past its used places is made of these
 --   told-model, told-form   == a question that is turned back
---   told-says               == what the definitions say of the trace, laid into the arrays
+--   told-says               == a verdict that `Says` allows, laid into the arrays
 --   told-source, told-order, told-circle, told-none == the four outcomes, each from what the parts promise
 use mathlib.Core.Path.{_≡_, refl, sym, ap, _∙_, subst}
-use mathlib.Core.Bool.{Bool, true, false, cond, So}
+use mathlib.Core.Bool.{Bool, true, false, So, false≢true}
 use mathlib.Core.List.{List, _++_}
 use mathlib.Core.Option.{none, some}
 use Prim.Native.Nat.{ℕ, zero, suc, _+_, _-_, _≤_, _<_}
@@ -25,21 +25,18 @@ use Rattle.pairs.specs.Kept.{modelled, keptOf}
 use Rattle.edges.specs.Answers.{answered}
 use Rattle.rules.specs.Missing.{Missing, Sourced}
 use Rattle.rules.specs.ShownCircle.{Circled}
-use Rattle.pairs.proofs.KeptPairs.{kept-joins}
 use Rattle.circle.specs.CircleOf.{ruledOf, CircleOf}
 use Rattle.circle.specs.declared.show.Circle as ring
 use Rattle.circle.proofs.ShownIn.{zeros}
 use Rattle.orders.specs.Verdict as said
-use Rattle.orders.specs.Sought.{verdict?}
 use Rattle.orders.specs.MissingOf.{record?, missingOf}
 use Rattle.orders.specs.declared.sources.Found.{Found}
 use Rattle.orders.specs.declared.sources.Found.the-variants.{At}
 use Rattle.orders.proofs.MissingOf.{missing-lowest}
 use Rattle.orders.proofs.Says.{order-says}
-use Rattle.orders.proofs.Sought.{verdict-only}
 use Rattle.search.specs.FirstOrder.{found?, FirstOrder}
 use Rattle.search.specs.declared.Order as first
-use Rattle.verdict.specs.Told.{padded, bare, laid, verdictOf, Reaches, Told}
+use Rattle.verdict.specs.Told.{padded, bare, laid, Reaches, Told}
 use Rattle.verdict.specs.declared.Outcome.the-variants.{NoSource, Circle, Order, NoneLeft, NoModel, NotWellFormed}
 use Rattle.verdict.specs.declared.Verdict.{Verdict}
 
@@ -57,35 +54,34 @@ padded-take n os h l z = ap (λ (r : List ℕ). take n os ++ r) same ∙ take-ap
 
 module _ (t : Trace) (m : ℕ) where
   pub told-model : modelled m ≡ false → Told t m (bare NoModel)
-  unfolding verdictOf
   told-model e = record {
-    is = sym (ap (λ (b : Bool). cond b (cond (wellFormed t) (laid (verdict? (frameOf t) (keptOf m t))) (bare NotWellFormed)) (bare NoModel)) e);
+    nine = λ _. refl;
+    ten = λ k _. absurd (false≢true (sym e ∙ k));
+    says = λ k _. absurd (false≢true (sym e ∙ k));
     fits = omega arith;
   }
 
   module _ (k : So (modelled m)) where
-    modelled-of : cond (wellFormed t) (laid (verdict? (frameOf t) (keptOf m t))) (bare NotWellFormed) ≡ verdictOf m t
-    unfolding verdictOf
-    modelled-of = sym (ap (λ (b : Bool). cond b (cond (wellFormed t) (laid (verdict? (frameOf t) (keptOf m t))) (bare NotWellFormed)) (bare NoModel)) k)
-
     pub told-form : wellFormed t ≡ false → Told t m (bare NotWellFormed)
     told-form e = record {
-      is = sym (ap (λ (b : Bool). cond b (laid (verdict? (frameOf t) (keptOf m t))) (bare NotWellFormed)) e) ∙ modelled-of;
+      nine = λ n. absurd (false≢true (sym n ∙ k));
+      ten = λ _ _. refl;
+      says = λ _ w. absurd (false≢true (sym e ∙ w));
       fits = omega arith;
     }
 
     module _ (w : So (wellFormed t)) where
-      pub told-says : (v : said.Verdict) → said.Says (frameOf t) (keptOf m t) v → laid v ≡ verdictOf m t
-      told-says v s =
-          ap laid (verdict-only (frameOf t) (good t w) (keptOf m t) (kept-joins m t) v .0 s)
-          ∙ sym (ap (λ (b : Bool). cond b (laid (verdict? (frameOf t) (keptOf m t))) (bare NotWellFormed)) w)
-          ∙ modelled-of
+      pub told-says : (v : said.Verdict) → said.Says (frameOf t) (keptOf m t) v → (r : Verdict) → r ≡ laid v → r .len ≤ RECORDS → Told t m r
+      told-says v s r e h = record {
+        nine = λ n. absurd (false≢true (sym n ∙ k));
+        ten = λ _ n. absurd (false≢true (sym n ∙ w));
+        says = λ _ _. (v, s, e);
+        fits = h;
+      }
 
       pub told-source : (x : ℕ) → At x ≡ missingOf t → Told t m (bare (NoSource x))
-      told-source x e = record {
-        is = told-says (said.noSource x) (subst (λ (a : Found). Lowest (Missing (frameOf t)) (record? a)) (sym e) (missing-lowest t w));
-        fits = omega arith;
-      }
+      told-source x e =
+          told-says (said.noSource x) (subst (λ (a : Found). Lowest (Missing (frameOf t)) (record? a)) (sym e) (missing-lowest t w)) (bare (NoSource x)) refl (omega arith)
 
 -- with a circle there is one to show
 ruled-some : (n : ℕ) (os rs : List ℕ) → 0 < n → ruledOf n os rs ≡ some (take n os, take n rs)
@@ -119,12 +115,11 @@ module _ (t : Trace) (m : ℕ) (h : Reaches t m) where
 
   -- where there is an order, nothing else can be said
   pub told-order : (o : first.Order) → FirstOrder t m o → o .found ≡ true → Told t m (record { outcome = Order; len = o .len; operations = o .operations; rules = replicate RECORDS 0 })
-  told-order o q e = record {
-    is =
-        sym (made-order (length-take-le (o .len) (o .operations) (omega (arith, q .fits, q .long))) (padded-take (o .len) (o .operations) (q .fits) (q .long) (q .rest)))
-        ∙ told-says t m (h .model) (h .well) (said.order (take (o .len) (o .operations))) (order-says (frameOf t) (keptOf m t) (good t (h .well)) (take (o .len) (o .operations)) .1 (sought o q true e));
-    fits = q .fits;
-  }
+  told-order o q e =
+      let xs = take (o .len) (o .operations) in
+      told-says t m (h .model) (h .well) (said.order xs) (order-says (frameOf t) (keptOf m t) (good t (h .well)) xs .1 (sought o q true e)) _
+      (sym (made-order (length-take-le (o .len) (o .operations) (omega (arith, q .fits, q .long))) (padded-take (o .len) (o .operations) (q .fits) (q .long) (q .rest))))
+      (q .fits)
 
   module _ (c : ring.Circle) (p : CircleOf t m c) where
     pub told-circle : 0 < c .len → Told t m (record { outcome = Circle; len = c .len; operations = c .operations; rules = c .rules })
@@ -132,17 +127,14 @@ module _ (t : Trace) (m : ℕ) (h : Reaches t m) where
         let n = c .len in
         let full : n ≤ length (c .operations) = omega (arith, p .fits, p .long .0) in
         let s = subst (Circled (frameOf t) (keptOf m t)) (ruled-some n (c .operations) (c .rules) l) (p .circle asked) in
-        record {
-          is =
-              sym (made (length-take-le n (c .operations) full)
-              (padded-take n (c .operations) (p .fits) (p .long .0) (λ i g. p .rest i g .0))
-              (padded-take n (c .rules) (p .fits) (p .long .1) (λ i g. p .rest i g .1)))
-              ∙ told-says t m (h .model) (h .well) (said.circle (take n (c .operations)) (take n (c .rules))) (sourced, s);
-          fits = p .fits;
-        }
+        told-says t m (h .model) (h .well) (said.circle (take n (c .operations)) (take n (c .rules))) (sourced, s) _
+        (sym (made (length-take-le n (c .operations) full)
+        (padded-take n (c .operations) (p .fits) (p .long .0) (λ i g. p .rest i g .0))
+        (padded-take n (c .rules) (p .fits) (p .long .1) (λ i g. p .rest i g .1))))
+        (p .fits)
 
     -- no order and no circle
     pub told-none : (o : first.Order) → FirstOrder t m o → o .found ≡ false → c .len ≡ 0 → Told t m (bare NoneLeft)
     told-none o q e z =
         let clear = subst (Circled (frameOf t) (keptOf m t)) (ruled-none (c .len) (c .operations) (c .rules) z) (p .circle asked) in
-        record { is = told-says t m (h .model) (h .well) said.noneLeft (sourced, clear, sought o q false e); fits = omega arith }
+        told-says t m (h .model) (h .well) said.noneLeft (sourced, clear, sought o q false e) _ refl (omega arith)

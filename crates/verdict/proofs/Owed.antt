@@ -1,7 +1,6 @@
--- What the verdict owes: each law speaks of `verdictOf`, which is what the function hands back.
+-- What the verdict owes: each law speaks of any r that is as promised, which is what the function hands back.
 --
 --   nine, ten     == a question is turned back exactly in its case, 9 before 10
---   says-laid     == of any other question, the verdict is the one that `Says` allows, laid into the arrays
 --   order-first   == an order is handed back exactly where a valid one exists, and every other one is later; otherwise none exists
 --   circle-none   == where a circle is shown, there is no valid order
 --   judged-yes    == what is handed back is what the judge says yes to
@@ -25,19 +24,15 @@ use Rattle.trace.specs.declared.Trace.{Trace}
 use Rattle.trace.proofs.Good.{good}
 use Rattle.pairs.specs.Kept.{SC, TSO, modelled, keptOf}
 use Rattle.edges.specs.Answers.{answered}
-use Rattle.pairs.proofs.KeptPairs.{kept-joins}
 use Rattle.orders.specs.Verdict as said
 use Rattle.orders.specs.Accepted.{Accepted}
-use Rattle.orders.specs.Sought.{verdict?}
 use Rattle.orders.specs.Starred.{traceOf, Case, cases}
 use Rattle.orders.proofs.Says as owing
-use Rattle.orders.proofs.Sought.{verdict-says}
 use Rattle.orders.proofs.Starred.{starred}
-use Rattle.verdict.specs.Told.{refusedBy, laid, verdictOf, orderedAs, ordered}
+use Rattle.verdict.specs.Told.{refusedBy, laid, orderedAs, ordered, Told}
 use Rattle.verdict.specs.declared.Outcome.{Outcome}
 use Rattle.verdict.specs.declared.Outcome.the-variants.{NoSource, Circle, Order, NoneLeft, NoModel, NotWellFormed}
 use Rattle.verdict.specs.declared.Verdict.{Verdict}
-use Rattle.verdict.proofs.Laying.{told-model, told-form, told-says}
 
 -- a verdict that is laid turns nothing back
 answers : (v : said.Verdict) → refusedBy (laid v .outcome) ≡ 0
@@ -46,25 +41,23 @@ answers (said.circle c rs) = refl
 answers (said.order xs) = refl
 answers said.noneLeft = refl
 
-module _ (m : ℕ) (t : Trace) where
+module _ (m : ℕ) (t : Trace) (r : Verdict) (told : Told t m r) where
   -- which is its number
   abbrev Numbered : ℕ → Type 0
-  Numbered n = refusedBy (verdictOf m t .outcome) ≡ n
+  Numbered n = refusedBy (r .outcome) ≡ n
 
-  pub says-laid : So (answered m t) → (v : said.Verdict) × said.Says (frameOf t) (keptOf m t) v × (verdictOf m t ≡ laid v)
-  says-laid s =
-      let (w, k) = and-iff (same-iff {a = wellFormed t}) (same-iff {a = modelled m}) .0 s in
-      let q = verdict-says (frameOf t) (good t w) (keptOf m t) (kept-joins m t) in
-      (verdict? (frameOf t) (keptOf m t), q, sym (told-says t m k w (verdict? (frameOf t) (keptOf m t)) q))
+  -- the verdict on a question that is answered
+  said-of : So (answered m t) → (v : said.Verdict) × said.Says (frameOf t) (keptOf m t) v × (r ≡ laid v)
+  said-of s = let (w, k) = and-iff (same-iff {a = wellFormed t}) (same-iff {a = modelled m}) .0 s in told .says k w
 
   -- the three ways in which a question is answered
   answered-by : ((modelled m ≡ false) × Numbered 9) ⊎ ((So (modelled m) × (wellFormed t ≡ false) × Numbered 10) ⊎ (So (modelled m) × So (wellFormed t) × Numbered 0))
   answered-by = elim (test (modelled m)) [
-    | inr e ↦ inl (e, sym (ap (λ (r : Verdict). refusedBy (r .outcome)) (told-model t m e .is)))
+    | inr e ↦ inl (e, ap (λ (r : Verdict). refusedBy (r .outcome)) (told .nine e))
     | inl k ↦ elim (test (wellFormed t)) [
-      | inr e ↦ inr (inl (k, e, sym (ap (λ (r : Verdict). refusedBy (r .outcome)) (told-form t m k e .is))))
+      | inr e ↦ inr (inl (k, e, ap (λ (r : Verdict). refusedBy (r .outcome)) (told .ten k e)))
       | inl w ↦
-          let (v, q, e) = says-laid (and-iff (same-iff {a = wellFormed t}) (same-iff {a = modelled m}) .1 (w, k)) in
+          let (v, q, e) = told .says k w in
           inr (inr (k, w, ap (λ (r : Verdict). refusedBy (r .outcome)) e ∙ answers v))
     ]
   ]
@@ -91,22 +84,22 @@ module _ (m : ℕ) (t : Trace) where
       subst (λ (ys : List ℕ). Least (Valid (frameOf t) (keptOf m t)) (some ys)) (sym (take-append-seam xs (replicate (RECORDS - length xs) 0))) (s .2)
   least w said.noneLeft s = s .2
 
-  pub order-first : So (answered m t) → Least (Valid (frameOf t) (keptOf m t)) (ordered (verdictOf m t))
+  pub order-first : So (answered m t) → Least (Valid (frameOf t) (keptOf m t)) (ordered r)
   order-first s =
-      let (v, q, e) = says-laid s in
+      let (v, q, e) = said-of s in
       subst (λ (r : Verdict). Least (Valid (frameOf t) (keptOf m t)) (ordered r)) (sym e) (least (and-iff (same-iff {a = wellFormed t}) (same-iff {a = modelled m}) .0 s .0) v q)
 
   -- where an order is handed back or a circle is shown, there was something to answer
-  asked : refusedBy (verdictOf m t .outcome) ≡ 0 → So (answered m t)
+  asked : refusedBy (r .outcome) ≡ 0 → So (answered m t)
   asked z = elim answered-by [
     | inl (e, n) ↦ absurd (omega (arith, z, n))
     | inr (inl (k, e, n)) ↦ absurd (omega (arith, z, n))
     | inr (inr (k, w, n)) ↦ and-iff (same-iff {a = wellFormed t}) (same-iff {a = modelled m}) .1 (w, k)
   ]
 
-  pub circle-none : verdictOf m t .outcome ≡ Circle → (xs : List ℕ) → Valid (frameOf t) (keptOf m t) xs → ⊥
+  pub circle-none : r .outcome ≡ Circle → (xs : List ℕ) → Valid (frameOf t) (keptOf m t) xs → ⊥
   circle-none e =
-      subst (λ (o : Outcome). Least (Valid (frameOf t) (keptOf m t)) (orderedAs o (take (verdictOf m t .len) (verdictOf m t .operations)))) e (order-first (asked (ap refusedBy e)))
+      subst (λ (o : Outcome). Least (Valid (frameOf t) (keptOf m t)) (orderedAs o (take (r .len) (r .operations)))) e (order-first (asked (ap refusedBy e)))
 
   -- an order is handed back by the outcome of that name only
   by-order : (o : Outcome) (xs ys : List ℕ) → orderedAs o xs ≡ some ys → refusedBy o ≡ 0
@@ -117,13 +110,17 @@ module _ (m : ℕ) (t : Trace) where
   by-order NoModel xs ys e = let z : _≡_ {A = ℕ} 0 1 = cc in absurd (omega arith)
   by-order NotWellFormed xs ys e = let z : _≡_ {A = ℕ} 0 1 = cc in absurd (omega arith)
 
-  pub judged-yes : (xs : List ℕ) → ordered (verdictOf m t) ≡ some xs → Accepted t m xs
+  pub judged-yes : (xs : List ℕ) → ordered r ≡ some xs → Accepted t m xs
   judged-yes xs e =
-      let s = asked (by-order (verdictOf m t .outcome) (take (verdictOf m t .len) (verdictOf m t .operations)) xs e) in
+      let s = asked (by-order (r .outcome) (take (r .len) (r .operations)) xs e) in
       let (w, k) = and-iff (same-iff {a = wellFormed t}) (same-iff {a = modelled m}) .0 s in
       record { well = w; model = k; valid = subst (Least (Valid (frameOf t) (keptOf m t))) e (order-first s) .0 }
 
-pub starred-told : (c : Case) → List·Memᴰ c cases → (verdictOf SC (traceOf (c .ops)) ≡ laid (c .sc)) × (verdictOf TSO (traceOf (c .ops)) ≡ laid (c .tso))
-starred-told c h =
+-- a verdict that is allowed is the one that is told
+told-as : (m : ℕ) (t : Trace) → So (modelled m) → So (wellFormed t) → (v : said.Verdict) → said.Says (frameOf t) (keptOf m t) v → (r : Verdict) → Told t m r → r ≡ laid v
+told-as m t k w v s r h = let (u, q, e) = h .says k w in e ∙ ap laid (owing.verdict-one (frameOf t) (keptOf m t) u v q s)
+
+pub starred-told : (c : Case) → List·Memᴰ c cases → (r : Verdict) → (Told (traceOf (c .ops)) SC r → r ≡ laid (c .sc)) × (Told (traceOf (c .ops)) TSO r → r ≡ laid (c .tso))
+starred-told c h r =
     let s = starred c h in
-    (sym (told-says (traceOf (c .ops)) SC refl (s .well) (c .sc) (s .under-sc)), sym (told-says (traceOf (c .ops)) TSO refl (s .well) (c .tso) (s .under-tso)))
+    (told-as SC (traceOf (c .ops)) refl (s .well) (c .sc) (s .under-sc) r, told-as TSO (traceOf (c .ops)) refl (s .well) (c .tso) (s .under-tso) r)

@@ -4,12 +4,11 @@
 --   padded xs     == a list in an array of RECORDS places, the unused ones 0
 --   bare o        == an outcome that has no operations
 --   laid v        == a verdict as the code holds it
---   verdictOf m t == the verdict on any trace under any model: 9 before 10, then what `verdict?` says
 --   ordered r     == the order that a verdict hands back, if it does
 --   Reaches t m   == a question that is answered, of a trace that lacks no source
---   Told t m r    == what `verdict_of` promises: this verdict, and its operations have places
+--   Told t m r    == what `verdict_of` promises of any trace under any model: 9 before 10, then the verdict that `Says` allows; its operations have places
 use mathlib.Core.Path.{_≡_}
-use mathlib.Core.Bool.{cond, So}
+use mathlib.Core.Bool.{false, So}
 use mathlib.Core.List.{List, _++_}
 use mathlib.Core.Option.{Option, none, some}
 use Prim.Native.Nat.{ℕ, _-_, _≤_}
@@ -22,7 +21,6 @@ use Rattle.pairs.specs.Kept.{modelled, keptOf}
 use Rattle.orders.specs.MissingOf.{missingOf}
 use Rattle.orders.specs.declared.sources.Found.the-variants.{Nothing}
 use Rattle.orders.specs.Verdict as said
-use Rattle.orders.specs.Sought.{verdict?}
 use Rattle.verdict.specs.declared.Outcome.{Outcome}
 use Rattle.verdict.specs.declared.Outcome.the-variants.{NoSource, Circle, Order, NoneLeft, NoModel, NotWellFormed}
 use Rattle.verdict.specs.declared.Verdict.{Verdict}
@@ -47,9 +45,6 @@ laid (said.circle c rs) = record { outcome = Circle; len = length c; operations 
 laid (said.order xs) = record { outcome = Order; len = length xs; operations = padded xs; rules = replicate RECORDS 0 }
 laid said.noneLeft = bare NoneLeft
 
-unfoldable pub verdictOf : ℕ → Trace → Verdict
-verdictOf m t = cond (modelled m) (cond (wellFormed t) (laid (verdict? (frameOf t) (keptOf m t))) (bare NotWellFormed)) (bare NoModel)
-
 abbrev pub orderedAs : Outcome → List ℕ → Option (List ℕ)
 orderedAs (NoSource x) xs = none
 orderedAs Circle xs = none
@@ -67,5 +62,7 @@ pub record Reaches (t : Trace) (m : ℕ) : Type 0 where
   pub sourced : missingOf t ≡ Nothing
 
 pub record Told (t : Trace) (m : ℕ) (r : Verdict) : Type 0 where
-  pub is : r ≡ verdictOf m t
+  pub nine : modelled m ≡ false → r ≡ bare NoModel
+  pub ten : So (modelled m) → wellFormed t ≡ false → r ≡ bare NotWellFormed
+  pub says : So (modelled m) → So (wellFormed t) → (v : said.Verdict) × said.Says (frameOf t) (keptOf m t) v × (r ≡ laid v)
   pub fits : r .len ≤ RECORDS

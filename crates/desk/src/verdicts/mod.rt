@@ -7,7 +7,7 @@ ghost use Prim.Native.Nat.{_≤_, _<_};
 ghost use lib.ListN.{length, drop};
 ghost use Rattle.trace.specs.Bounds.{RECORDS};
 ghost use Rattle.desk.specs.Answers.{outcomeNumber};
-ghost use Rattle.desk.specs.Verdict.{VERDICT, lacking, spelled, bytesOf, verdictAnswer, verdictBuffer};
+ghost use Rattle.desk.specs.Verdict.{VERDICT, lacking, spelled, bytesOf, Answered};
 ghost use Rattle.desk.specs.Judged.{Judged};
 use crate::answers::CIRCLE;
 use crate::answers::NO_ROOM;
@@ -81,7 +81,7 @@ fn lay(v: Verdict, out: &mut [u8])
 // number, and nothing to tell; a buffer that is too short stays as it was.
 #[no_mangle]
 pub extern "C" fn wheelotter_verdict(text: &[u8], model: u8, out: &mut [u8]) -> u8
-    ensures { λ r. ⌜ (r ≡ verdictAnswer (now (text .entry)) model (now (out .entry))) × (now (out .exit) ≡ verdictBuffer (now (text .entry)) model (now (out .entry))) ⌝ }
+    ensures { λ r. ⌜ Answered (now (text .entry)) model (now (out .entry)) (now (out .exit)) r ⌝ }
 {
     if out.len() < VERDICT {
         return NO_ROOM;

@@ -10,7 +10,7 @@ use Rattle.report.proofs.report.Tie as tie
 
 -- what was written is no longer than the buffer
 used : (c : tie.After-written) → length (take (c .written .result) (c .written .last .1 .0)) ≡ c .written .result
-used c = length-take-le _ _ (omega (arith, c .written .ensures .1, c .written .ensures .0 .long))
+used c = length-take-le _ _ (omega (arith, c .written .ensures .within, c .written .ensures .wrote .long))
 
 slice-aggregate-written : tie.Need-slice-aggregate-written
 slice-aggregate-written c = search needs
@@ -34,7 +34,7 @@ returns : tie.Need-returns
 returns c = let p = c .before .before in
     let w = p .before .before .before .before in
     let s = w .before .before .before .before in
-    reported-put (s .args .text .now) (s .args .out .now) _ _ _ (w .written .ensures .0) (w .written .ensures .1) _ _ (p .put .ensures .0) (p .put .ensures .1)
+    reported-put (s .args .text .now) (s .args .out .now) _ _ _ (w .written .ensures) _ _ (p .put .ensures .0) (p .put .ensures .1)
 
 pub report-spec : {M : Type 1} → statement M
 report-spec =

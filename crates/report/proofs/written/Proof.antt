@@ -1,7 +1,7 @@
 -- `report::written`: what the reader answers, in lines.
 use mathlib.Core.Path.{_∙_}
 use native.Mathlib.Omega.{arith}
-use Rattle.report.proofs.Wrote.{wrote-then, wrote-as}
+use Rattle.report.proofs.Wrote.{wrote-then}
 use Rattle.report.proofs.Answered.{answer-good, answer-refused}
 use borrow.Author.Needs.{needs}
 use Rattle.report.proofs.written.Statement.{statement}
@@ -53,12 +53,13 @@ returns c = let y = c .before .before in
     let vs = x .before .before in
     let k = vs .before .before .before in
     let r = k .before .before in
-    let s = r .before .before .before in (
-      wrote-as
-          (answer-good (s .args .text .now) (r .read .result) (r .read .ensures) (k .enum-told .given .1) (vs .verdict-of .result) (vt .verdict-of2 .result) (vs .verdict-of .ensures) (vt .verdict-of2 .ensures))
-          (wrote-then (s .args .out .now) 0 _ _ _ _ _ _ (x .put-line .ensures .0) (y .put-line2 .ensures .0)),
-      omega (arith, x .put-line .ensures .1, y .put-line2 .ensures .1),
-    )
+    let s = r .before .before .before in
+    record {
+      out = _;
+      prints = answer-good (s .args .text .now) (r .read .result) (r .read .ensures) (k .enum-told .given .1) (vs .verdict-of .result) (vt .verdict-of2 .result) (vs .verdict-of .ensures) (vt .verdict-of2 .ensures);
+      wrote = wrote-then (s .args .out .now) 0 _ _ _ _ _ _ (x .put-line .ensures .0) (y .put-line2 .ensures .0);
+      within = omega (arith, x .put-line .ensures .1, y .put-line2 .ensures .1);
+    }
 
 same-length-2 : tie.Need-same-length-2
 same-length-2 c = search needs
@@ -69,12 +70,13 @@ returns-2 c = let y = c .before .before in
     let n = w .before in
     let k = n .before .before in
     let r = k .before .before in
-    let s = r .before .before .before in (
-      wrote-as
-          (answer-refused (s .args .text .now) (r .read .result) (r .read .ensures) _ (w .wide .result) _ (k .answer .given .1) (w .wide .ensures ∙ n .number .ensures))
-          (y .put-refusal .ensures .0),
-      omega (arith, y .put-refusal .ensures .1),
-    )
+    let s = r .before .before .before in
+    record {
+      out = _;
+      prints = answer-refused (s .args .text .now) (r .read .result) (r .read .ensures) _ (w .wide .result) _ (k .answer .given .1) (w .wide .ensures ∙ n .number .ensures);
+      wrote = y .put-refusal .ensures .0;
+      within = omega (arith, y .put-refusal .ensures .1);
+    }
 
 pub written-spec : {M : Type 1} → statement M
 written-spec =

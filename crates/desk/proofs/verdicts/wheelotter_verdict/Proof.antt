@@ -1,17 +1,14 @@
 -- `desk::verdicts::wheelotter_verdict`: too short a buffer, then a text that is turned back, then the verdict.
 use mathlib.Core.Path.{_≡_, sym, ap, _∙_, subst}
-use mathlib.Core.List.{_++_}
-use Prim.Native.Nat.{_≤_, _<_}
+use Prim.Native.Nat.{_≤_}
 use native.Mathlib.Omega.{arith}
-use lib.ListN.{drop}
 use Rattle.trace.specs.Bounds.{RECORDS}
 use Rattle.reader.specs.Read.{readText}
 use Rattle.reader.specs.declared.Reading.{Reading}
 use Rattle.reader.proofs.RoundTrip.{read-well}
-use Rattle.verdict.specs.Told.{verdictOf}
+use Rattle.verdict.specs.Told.{Told}
 use Rattle.verdict.specs.declared.Verdict.{Verdict}
 use Rattle.desk.specs.Text.{numberIn, numberOf}
-use Rattle.desk.specs.Verdict.{VERDICT, lacking, bytesOf}
 use Rattle.desk.proofs.Spelling.{spelled-fits, source-below, told-short, told-refused, told-good}
 use borrow.Author.Needs.{needs}
 use Rattle.desk.proofs.verdicts.wheelotter_verdict.Statement.{statement}
@@ -44,24 +41,22 @@ returns-2 c =
     let p = c .before .before in
     let n = p .before .before .before .before in
     let a = n .before .before .before .before .before .args in
-    let same = numbered n in
-    let (e, f) = told-refused (a .text .now) (a .model) (a .out .now) (omega (arith, n .before .before .if1 .left)) (omega (arith, same, p .before .before .before .if2 .taken)) in
-    (same ∙ e, p .put .ensures .1 ∙ f)
+    rw (numbered n, p .put .ensures .1) (told-refused (a .text .now) (a .model) (a .out .now) (omega (arith, n .before .before .if1 .left)) (omega (arith, numbered n, p .before .before .before .if2 .taken)))
 
 verdict-of-requires : tie.Need-verdict-of-requires
 verdict-of-requires c κs = search needs
 
 -- the verdict on the trace that the text writes
-told : (c : tie.After-verdict-of) → let a = c .before .before .before .before .before .before .before .before .args in c .verdict-of .result ≡ verdictOf (a .model) (readText (a .text .now) .trace)
+told : (c : tie.After-verdict-of) → let a = c .before .before .before .before .before .before .before .before .args in Told (readText (a .text .now) .trace) (a .model) (c .verdict-of .result)
 told c =
     let r = c .before .before .before .before in
     let a = r .before .before .before .before .args in
-    c .verdict-of .ensures .is ∙ ap (λ (r : Reading). verdictOf (a .model) (r .trace)) (r .read .ensures)
+    subst (λ (r : Reading). Told (r .trace) (a .model) (c .verdict-of .result)) (r .read .ensures) (c .verdict-of .ensures)
 
 spelled-requires : tie.Need-spelled-requires
 spelled-requires c κs =
     let a = c .before .before .before .before .before .before .before .before .args in
-    subst (λ (v : Verdict). lacking (v .outcome) < RECORDS) (sym (told c)) (source-below (a .model) (readText (a .text .now) .trace) (read-well (a .text .now)))
+    source-below (a .model) (readText (a .text .now) .trace) (read-well (a .text .now)) (c .verdict-of .result) (told c)
 
 lay-requires : tie.Need-lay-requires
 lay-requires c κs =
@@ -84,10 +79,8 @@ returns-3 c =
     let v = s .before in
     let n = v .before .before .before in
     let a = n .before .before .before .before .before .args in
-    let (e, f) = told-good (a .text .now) (a .model) (a .out .now) (omega (arith, n .before .before .if1 .left)) (omega (arith, numbered n, v .before .before .if2 .left)) (v .verdict-of .result) (told v) in (
-      c .outcome-number .ensures ∙ e,
-      l .lay .ensures ∙ ap (λ (v : Verdict). bytesOf v ++ drop VERDICT (a .out .now)) (s .spelled .ensures) ∙ f,
-    )
+    rw (c .outcome-number .ensures, l .lay .ensures, s .spelled .ensures)
+    (told-good (a .text .now) (a .model) (a .out .now) (omega (arith, n .before .before .if1 .left)) (omega (arith, numbered n, v .before .before .if2 .left)) (v .verdict-of .result) (told v))
 
 pub wheelotter-verdict-spec : {M : Type 1} → statement M
 wheelotter-verdict-spec =
