@@ -31,7 +31,10 @@ fn judge() {
 
 fn main() {
     if os::arg_count() > 1 {
-        io::write_all(STDERR_FILENO, b"usage: wheelotter < TRACE (it takes no words)\n");
+        io::write_all(
+            STDERR_FILENO,
+            b"usage: wheelotter < TRACE (it takes no words)\n",
+        );
     } else {
         judge();
     }
