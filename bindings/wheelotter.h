@@ -1,7 +1,8 @@
 /* Wheelotter for C: link libdesk.a (bindings/build makes it).
  *
  * Every function may be called with any bytes, models and numbers whatever; each reads only the memory that it is lent and writes only what it
- * says. A slice is a pointer and a length; the pointer may not be null, also where the length is 0. docs/GUIDE.md explains the answers. */
+ * says. A slice is a pointer and a length; the pointer may not be null, also where the length is 0. Memory that a call writes may not overlap any other
+ * memory that the same call is lent: what is proved rests on it. docs/GUIDE.md explains the answers. */
 #ifndef WHEELOTTER_H
 #define WHEELOTTER_H
 
