@@ -6,4 +6,5 @@ pub mod Keeping
 pub mod Acting
 pub mod Opens
 pub mod Heard
+pub mod Sourceless
 pub mod One

@@ -1,11 +1,11 @@
 -- The number under which a call is turned back is the lowest that applies, and there is none exactly where none applies.
 --
---   number-lowest == so it is of every call, an opening or an act on any session value whatever
---   number-eleven == 11 comes with the lowest record that lacks its source
+--   number-lowest == so it is of every call: an opening, a session asked for from its parts, an act on any session value whatever
+--   number-eleven == 11 comes exactly where the verdict is no source, with the record of the verdict
 use mathlib.Core.Path.{_≡_, refl, sym, ap, _∙_, subst}
-use mathlib.Core.Logic.{_≢_, inl, inr}
+use mathlib.Core.Logic.{_≢_, _↔_, inl, inr}
 use mathlib.Core.Bool.{Bool, true, false, So, cond, _&&_, false≢true}
-use mathlib.Core.Option.{none, some}
+use mathlib.Core.Option.{Option, none, some}
 use Prim.Native.Nat.{ℕ, _≤_, _<_}
 use native.Mathlib.Decide.{decLt}
 use native.Mathlib.Omega.{arith}
@@ -15,25 +15,42 @@ use Rattle.trace.specs.WellFormed.{wellFormed}
 use Rattle.trace.specs.Meaning.{frameOf}
 use Rattle.trace.specs.declared.Trace.{Trace}
 use Rattle.rows.specs.Rows.{bit}
-use Rattle.pairs.specs.Kept.{modelled}
+use Rattle.pairs.specs.Kept.{modelled, keptOf}
 use Rattle.rules.specs.Missing.{Missing}
+use Rattle.orders.specs.Verdict.{Says, noSource}
 use Rattle.orders.specs.MissingOf.{record?, missingOf}
 use Rattle.orders.specs.declared.sources.Found.{Found}
 use Rattle.orders.specs.declared.sources.Found.the-variants.{At, Nothing}
 use Rattle.orders.proofs.MissingOf.{missing-lowest}
 use Rattle.session.specs.Bounds.{PAIRS}
-use Rattle.session.specs.Opening.{sourcedOf, openingOf, isDone}
+use Rattle.session.specs.Stack.{standing, stands, Stands}
+use Rattle.session.specs.Opening.{sourcedOf, openingOf, isDone, openable}
 use Rattle.session.specs.Closings.{Closings}
-use Rattle.session.specs.Session.{intact}
-use Rattle.session.specs.Entries.{pairTurn, supposeTurn, takeBackTurn, toldOf, openOf, supposeOf, takeBackOf, askOf}
-use Rattle.session.specs.Numbers.{refusal, Act, supposes, takesBack, asks, Call, opens, does, Names, supposed, asked, Applies, nine, ten, eleven, twelve, thirteen, fourteen, fifteen, sixteen, answerOf}
-use Rattle.session.specs.declared.Reason.the-variants.{Unlike}
+use Rattle.session.specs.Session.{afresh, intact, blank}
+use Rattle.session.specs.Entries.{pairTurn, supposeTurn, takeBackTurn, toldOf, openOf, afreshOf, supposeOf, takeBackOf, askOf}
+use Rattle.session.specs.Numbers.{refusal, Act, supposes, takesBack, asks, Call, opens, makes, does, Names, supposed, asked, Applies, nine, ten, eleven, twelve, unmade, thirteen, fourteen, fifteen, sixteen, answerOf}
+use Rattle.session.specs.declared.Reason.the-variants.{NoModel, NotWellFormed, Unlike}
 use Rattle.session.specs.declared.Answer.{Answer}
-use Rattle.session.specs.declared.Answer.the-variants.{Held, NotHeld, Contradicted, NoSource, Refused}
+use Rattle.session.specs.declared.Answer.the-variants.{Done, Held, NotHeld, Contradicted, NoSource, Refused}
+use Rattle.session.specs.declared.Stack.{Stack}
 use Rattle.session.specs.declared.Session.{Session}
+use Rattle.session.specs.declared.Reply.{Reply}
+use Rattle.session.proofs.Pairs.{stands-iff}
 use Rattle.session.proofs.Openings.{opening-nine, opening-ten, opening-asks}
 use Rattle.session.proofs.Sessions.{intact-iff}
-use Rattle.session.proofs.Answering.{pair-unlike, pair-fence, pair-one, pair-done, suppose-pair, suppose-full, suppose-done, back-unlike, back-none, back-done}
+use Rattle.session.proofs.Answering.{afresh-done, afresh-unlike, pair-unlike, pair-fence, pair-one, pair-done, suppose-pair, suppose-full, suppose-done, back-unlike, back-none, back-done}
+
+-- the record that an answer comes with
+abbrev record-of : Answer → Option ℕ
+record-of Done = none
+record-of Held = none
+record-of NotHeld = none
+record-of Contradicted = none
+record-of (NoSource x) = some x
+record-of (Refused r) = none
+
+some≢none : {x : ℕ} → _≡_ {A = Option ℕ} (some x) none → ⊥
+some≢none {x} e = let z : _≡_ {A = ℕ} 1 0 = ap (λ (o : Option ℕ). elim o [ some y ↦ 1 | none ↦ 0 ]) e in omega arith
 
 -- an answer is right for a call
 abbrev Right : Closings → Call → Answer → Type 0
@@ -74,12 +91,41 @@ module _ (C : Closings) (t : Trace) (m : ℕ) where
       sources s w Nothing l = none-opens s w l
 
 module _ (t : Trace) (m : ℕ) where
-  pub number-eleven : (x : ℕ) → openingOf t m ≡ NoSource x → So (modelled m) → So (wellFormed t) → Lowest (Missing (frameOf t)) (some x)
-  number-eleven x e s w = found (missingOf t) (sym (opening-asks t m s w) ∙ e) (missing-lowest t w)
+  pub number-eleven : (x : ℕ) → (openingOf t m ≡ NoSource x) ↔ ((So (modelled m) × So (wellFormed t)) × Says (frameOf t) (keptOf m t) (noSource x))
+  number-eleven x = (goes, λ h. opening-asks t m (h .0 .0) (h .0 .1) ∙ comes (missingOf t) (missing-lowest t (h .0 .1)) (h .1))
     where
+      other : (a : Answer) → openingOf t m ≡ a → record-of a ≡ none → openingOf t m ≡ NoSource x → ⊥
+      other a e n q = let z : some x ≡ none = sym (ap record-of q) ∙ ap record-of e ∙ n in some≢none z
+
       found : (a : Found) → sourcedOf a ≡ NoSource x → Lowest (Missing (frameOf t)) (record? a) → Lowest (Missing (frameOf t)) (some x)
-      found (At y) q l = subst (λ (z : ℕ). Lowest (Missing (frameOf t)) (some z)) (cc) l
-      found Nothing q l = let z : _≡_ {A = ℕ} 0 1 = cc in absurd (omega arith)
+      found (At y) q l = subst (λ (o : Option ℕ). Lowest (Missing (frameOf t)) o) (ap record-of q) l
+      found Nothing q l = absurd (some≢none (sym (ap record-of q)))
+
+      goes : openingOf t m ≡ NoSource x → (So (modelled m) × So (wellFormed t)) × Says (frameOf t) (keptOf m t) (noSource x)
+      goes e = elim (test (modelled m)) [
+        | inr n ↦ absurd (other (Refused NoModel) (opening-nine t m n) refl e)
+        | inl s ↦ elim (test (wellFormed t)) [
+          | inr n ↦ absurd (other (Refused NotWellFormed) (opening-ten t m s n) refl e)
+          | inl w ↦ ((s, w), found (missingOf t) (sym (opening-asks t m s w) ∙ e) (missing-lowest t w))
+        ]
+      ]
+
+      comes : (a : Found) → Lowest (Missing (frameOf t)) (record? a) → Lowest (Missing (frameOf t)) (some x) → sourcedOf a ≡ NoSource x
+      comes (At y) l k = ap NoSource (omega (arith, l .1 x (k .0), k .1 y (l .0)))
+      comes Nothing l k = absurd (l x (k .0))
+
+module _ (C : Closings) (t : Trace) (m : ℕ) (k : Stack) where
+  from-parts : (n : ℕ) → Applies C (makes t m k) n → 12 ≤ n
+  from-parts n (unmade h) = omega arith
+
+  none-makes : So (openable t m) × Stands t k → (n : ℕ) → Applies C (makes t m k) n → ⊥
+  none-makes s n (unmade h) = h s
+
+  made-right : Right C (makes t m k) (afreshOf C t m k .answer)
+  made-right = elim (test (openable t m && stands t k)) [
+    | inl d ↦ subst (λ (r : Reply). Right C (makes t m k) (r .answer)) (afresh-done C t m k d (afresh C t m (standing k)) refl) (none-makes (and-iff same-iff (stands-iff t k) .0 d))
+    | inr n ↦ subst (λ (r : Reply). Right C (makes t m k) (r .answer)) (afresh-unlike C t m k n (blank C) refl) (unmade (λ s. false≢true (sym n ∙ and-iff same-iff (stands-iff t k) .1 s)), from-parts)
+  ]
 
 module _ (C : Closings) (s : Session) where
   from-twelve : (a : Act) (n : ℕ) → Applies C (does s a) n → 12 ≤ n
@@ -225,6 +271,7 @@ module _ (C : Closings) (s : Session) where
 pub number-lowest : (C : Closings) (c : Call) → Lowest (Applies C c) (refusal (answerOf C c))
 unfolding openOf supposeOf takeBackOf
 number-lowest C (opens t m) = opening-right C t m
+number-lowest C (makes t m k) = made-right C t m k
 number-lowest C (does s (supposes x y)) = suppose-right C s x y
 number-lowest C (does s takesBack) = back-right C s
 number-lowest C (does s (asks x y)) = ask-right C s x y
