@@ -16,7 +16,7 @@ use native.Mathlib.Omega.{arith}
 use lib.ListN.{length, drop}
 use Rattle.laws.proofs.Tests.{off, test}
 use Rattle.session.specs.Opening.{isDone}
-use Rattle.session.specs.Session.{Intact}
+use Rattle.session.specs.Closings.{Closings}
 use Rattle.session.specs.Numbers.{reasonNumber, Act, replyOf}
 use Rattle.session.specs.Calls.{after}
 use Rattle.session.specs.declared.Reason.the-variants.{NoModel, NotWellFormed, Unlike, NoOperation, OneRecord, TooManyPairs, NoPair}
@@ -26,73 +26,74 @@ use Rattle.session.specs.declared.Session.{Session}
 use Rattle.session.specs.declared.Reply.{Reply}
 use Rattle.session.proofs.Standing.{act-stays}
 use Rattle.session.proofs.Lasting.{act-intact, act-trace}
-use Rattle.desk.specs.Head.{HEAD, headOf}
+use Rattle.desk.specs.Head.{Fit, HEAD, headOf}
 use Rattle.desk.specs.Kept.{textIn, sessionIn, like, keptOf}
 use Rattle.desk.specs.Acts.{codeOf, answerIn, bytesIn, bytesAfter}
 use Rattle.desk.specs.declared.sessions.Lent.{Lent}
+use Rattle.desk.proofs.Laying.{intact-fit}
 use Rattle.desk.proofs.Keeping.{On, like-parts, like-same, named-intact, text-again, session-again, like-again}
 
-module _ (b : List ℕ) (a : Act) where
-  answer-like : So (like b) → answerIn b a ≡ codeOf (replyOf (sessionIn b) a .answer)
+module _ (C : Closings) (b : List ℕ) (a : Act) where
+  answer-like : So (like C b) → answerIn C b a ≡ codeOf (replyOf C (sessionIn C b) a .answer)
   unfolding answerIn
   answer-like s = rw s refl
 
-  bytes-like : So (like b) → bytesIn b a ≡ headOf (replyOf (sessionIn b) a .session) ++ textIn b
+  bytes-like : So (like C b) → bytesIn C b a ≡ headOf (replyOf C (sessionIn C b) a .session) ++ textIn b
   unfolding bytesIn
   bytes-like s = rw s refl
 
-  answer-unlike : like b ≡ false → answerIn b a ≡ reasonNumber Unlike
+  answer-unlike : like C b ≡ false → answerIn C b a ≡ reasonNumber Unlike
   unfolding answerIn
   answer-unlike n = rw n refl
 
-  bytes-unlike : like b ≡ false → bytesIn b a ≡ b
+  bytes-unlike : like C b ≡ false → bytesIn C b a ≡ b
   unfolding bytesIn
   bytes-unlike n = rw n refl
 
-module _ (b : List ℕ) (f : Lent) (e : f ≡ keptOf b) where
-  pub lent-like : f .like ≡ like b
+module _ (C : Closings) (b : List ℕ) (f : Lent) (e : f ≡ keptOf C b) where
+  pub lent-like : f .like ≡ like C b
   unfolding keptOf
   lent-like = ap (λ (l : Lent). l .like) e
 
-  pub lent-session : So (f .like) → f .session ≡ sessionIn b
+  pub lent-session : So (f .like) → f .session ≡ sessionIn C b
   unfolding keptOf
-  lent-session s = let l : So (like b) = sym lent-like ∙ s in ap (λ (l : Lent). l .session) e ∙ (rw l refl)
+  lent-session s = let l : So (like C b) = sym lent-like ∙ s in ap (λ (l : Lent). l .session) e ∙ (rw l refl)
 
-  pub act-turned : f .like ≡ false → (a : Act) → (reasonNumber Unlike ≡ answerIn b a) × (b ≡ bytesIn b a)
-  act-turned n a = let u = sym lent-like ∙ n in (sym (answer-unlike b a u), sym (bytes-unlike b a u))
+  pub act-turned : f .like ≡ false → (a : Act) → (reasonNumber Unlike ≡ answerIn C b a) × (b ≡ bytesIn C b a)
+  act-turned n a = let u = sym lent-like ∙ n in (sym (answer-unlike C b a u), sym (bytes-unlike C b a u))
 
-  module _ (s : So (f .like)) (a : Act) (r : Reply) (q : r ≡ replyOf (f .session) a) where
+  module _ (s : So (f .like)) (a : Act) (r : Reply) (q : r ≡ replyOf C (f .session) a) where
     -- what the call got, on the session that the bytes name
-    named : r ≡ replyOf (sessionIn b) a
-    named = q ∙ ap (λ (x : Session). replyOf x a) (lent-session s)
+    named : r ≡ replyOf C (sessionIn C b) a
+    named = q ∙ ap (λ (x : Session). replyOf C x a) (lent-session s)
 
-    pub act-leaves : Intact (r .session) × (HEAD ≤ length b)
-    act-leaves = (subst (λ (x : Reply). Intact (x .session)) (sym named) (act-intact (sessionIn b) (named-intact b) a), like-parts b .0 (sym lent-like ∙ s) .long)
+    pub act-leaves : Fit (r .session) × (HEAD ≤ length b)
+    act-leaves = (subst (λ (x : Reply). Fit (x .session)) (sym named) (intact-fit C _ (act-intact C (sessionIn C b) (named-intact C b) a)), like-parts C b .0 (sym lent-like ∙ s) .long)
 
-    pub act-answers : codeOf (r .answer) ≡ answerIn b a
-    act-answers = ap (λ (x : Reply). codeOf (x .answer)) named ∙ sym (answer-like b a (sym lent-like ∙ s))
+    pub act-answers : codeOf (r .answer) ≡ answerIn C b a
+    act-answers = ap (λ (x : Reply). codeOf (x .answer)) named ∙ sym (answer-like C b a (sym lent-like ∙ s))
 
-    pub act-lays : headOf (r .session) ++ drop HEAD b ≡ bytesIn b a
-    act-lays = ap (λ (x : Reply). headOf (x .session) ++ drop HEAD b) named ∙ sym (bytes-like b a (sym lent-like ∙ s))
+    pub act-lays : headOf (r .session) ++ drop HEAD b ≡ bytesIn C b a
+    act-lays = ap (λ (x : Reply). headOf (x .session) ++ drop HEAD b) named ∙ sym (bytes-like C b a (sym lent-like ∙ s))
 
-module _ (s : Session) (text : List ℕ) (o : On s text) where
+module _ (C : Closings) (s : Session) (text : List ℕ) (o : On C s text) where
   module _ (a : Act) where
-    pub answer-act : answerIn (headOf s ++ text) a ≡ codeOf (replyOf s a .answer)
-    answer-act = answer-like (headOf s ++ text) a (like-again s text o) ∙ ap (λ (x : Session). codeOf (replyOf x a .answer)) (session-again s text o)
+    pub answer-act : answerIn C (headOf s ++ text) a ≡ codeOf (replyOf C s a .answer)
+    answer-act = answer-like C (headOf s ++ text) a (like-again s text C o) ∙ ap (λ (x : Session). codeOf (replyOf C x a .answer)) (session-again s text C o)
 
-    pub bytes-act : bytesIn (headOf s ++ text) a ≡ headOf (replyOf s a .session) ++ text
+    pub bytes-act : bytesIn C (headOf s ++ text) a ≡ headOf (replyOf C s a .session) ++ text
     bytes-act =
-        bytes-like (headOf s ++ text) a (like-again s text o)
-        ∙ ap₂ (λ (x : Session) (t : List ℕ). headOf (replyOf x a .session) ++ t) (session-again s text o) (text-again s text)
+        bytes-like C (headOf s ++ text) a (like-again s text C o)
+        ∙ ap₂ (λ (x : Session) (t : List ℕ). headOf (replyOf C x a .session) ++ t) (session-again s text C o) (text-again s text)
 
     -- the session after the call is on the same text
-    on-next : On (replyOf s a .session) text
-    on-next = record { intact = act-intact s (o .intact) a; good = o .good; trace = act-trace s (o .intact) a ∙ o .trace }
+    on-next : On C (replyOf C s a .session) text
+    on-next = record { intact = act-intact C s (o .intact) a; good = o .good; trace = act-trace C s (o .intact) a ∙ o .trace }
 
-pub bytes-after : (cs : List Act) (s : Session) (text : List ℕ) → On s text → bytesAfter (headOf s ++ text) cs ≡ headOf (after s cs) ++ text
+pub bytes-after : (C : Closings) (cs : List Act) (s : Session) (text : List ℕ) → On C s text → bytesAfter C (headOf s ++ text) cs ≡ headOf (after C s cs) ++ text
 unfolding bytesAfter after
-bytes-after [] s text o = refl
-bytes-after (a ∷ cs) s text o = ap (λ (b : List ℕ). bytesAfter b cs) (bytes-act s text o a) ∙ bytes-after cs (replyOf s a .session) text (on-next s text o a)
+bytes-after C [] s text o = refl
+bytes-after C (a ∷ cs) s text o = ap (λ (b : List ℕ). bytesAfter C b cs) (bytes-act C s text o a) ∙ bytes-after C cs (replyOf C s a .session) text (on-next C s text o a)
 
 -- an answer is 0 exactly where the call was done
 pub code-done : (a : Answer) → codeOf a ≡ 0 → So (isDone a)
@@ -117,11 +118,11 @@ done-code Contradicted s = absurd (false≢true s)
 done-code (NoSource x) s = absurd (false≢true s)
 done-code (Refused r) s = absurd (false≢true s)
 
-pub given : (b : List ℕ) (a : Act) → answerIn b a ≢ 0 → bytesIn b a ≡ b
-given b a n = elim (test (like b)) [
+pub given : (C : Closings) (b : List ℕ) (a : Act) → answerIn C b a ≢ 0 → bytesIn C b a ≡ b
+given C b a n = elim (test (like C b)) [
   | inl l ↦
-      bytes-like b a l
-      ∙ ap (λ (x : Session). headOf x ++ textIn b) (act-stays (sessionIn b) a (off (λ d. n (answer-like b a l ∙ done-code (replyOf (sessionIn b) a .answer) d))))
-      ∙ like-same b l
-  | inr u ↦ bytes-unlike b a u
+      bytes-like C b a l
+      ∙ ap (λ (x : Session). headOf x ++ textIn b) (act-stays C (sessionIn C b) a (off (λ d. n (answer-like C b a l ∙ done-code (replyOf C (sessionIn C b) a .answer) d))))
+      ∙ like-same C b l
+  | inr u ↦ bytes-unlike C b a u
 ]

@@ -25,6 +25,7 @@ use Rattle.trace.specs.declared.Trace.{Trace}
 use Rattle.session.specs.Bounds.{PAIRS}
 use Rattle.session.specs.Stack.{unused, pairAt, standing}
 use Rattle.session.specs.Opening.{isDone}
+use Rattle.session.specs.Closings.{Closings}
 use Rattle.session.specs.Session.{afresh, Intact, blank}
 use Rattle.session.specs.Entries.{afreshOf}
 use Rattle.session.specs.declared.Answer.the-variants.{Done}
@@ -46,64 +47,64 @@ use Rattle.desk.proofs.Laying.{pair-first, pair-second, front-model, fr
 abbrev both : Bool → Session → Lent
 both l s = record { like = l; session = s }
 
-module _ (b : List ℕ) where
+-- all that stands behind the head
+pub behind : (b : List ℕ) → take (length b - HEAD) (drop HEAD b) ≡ textIn b
+behind b = take-all (length b - HEAD) (drop HEAD b) (omega (arith, length-drop HEAD b))
+
+module _ (C : Closings) (b : List ℕ) where
   -- the parts of the test
   pub record Parts : Type 0 where
     pub long : HEAD ≤ length b
     pub good : numberOf (textIn b) ≡ 0
-    pub done : So (isDone (madeIn b .answer))
-    pub head : headOf (sessionIn b) ≡ take HEAD b
+    pub done : So (isDone (madeIn C b .answer))
+    pub head : headOf (sessionIn C b) ≡ take HEAD b
 
-  pub like-parts : So (like b) ↔ Parts
+  pub like-parts : So (like C b) ↔ Parts
   unfolding like
   like-parts =
-      let i = and-iff (and-iff (and-iff so-le so-eq) same-iff) (alike-iff (headOf (sessionIn b)) (take HEAD b)) in (
+      let i = and-iff (and-iff (and-iff so-le so-eq) same-iff) (alike-iff (headOf (sessionIn C b)) (take HEAD b)) in (
         λ s. let p = i .0 s in record { long = p .0 .0 .0; good = p .0 .0 .1; done = p .0 .1; head = p .1 },
         λ p. i .1 (((p .long, p .good), p .done), p .head),
       )
 
-  -- all that stands behind the head
-  pub behind : take (length b - HEAD) (drop HEAD b) ≡ textIn b
-  behind = take-all (length b - HEAD) (drop HEAD b) (omega (arith, length-drop HEAD b))
-
-  pub like-same : So (like b) → headOf (sessionIn b) ++ textIn b ≡ b
+  pub like-same : So (like C b) → headOf (sessionIn C b) ++ textIn b ≡ b
   like-same s = ap (λ (h : List ℕ). h ++ textIn b) (like-parts .0 s .head) ∙ take-append-drop HEAD b
 
-  pub kept-like : So (like b) → (s : Session) → s ≡ sessionIn b → both true s ≡ keptOf b
+  pub kept-like : So (like C b) → (s : Session) → s ≡ sessionIn C b → both true s ≡ keptOf C b
   unfolding keptOf
   kept-like l s e = rw l (ap (both true) e)
 
-  pub kept-unlike : like b ≡ false → (r : Lent) → (r .like ≡ false) × (r .session ≡ blank) → r ≡ keptOf b
+  pub kept-unlike : like C b ≡ false → (r : Lent) → (r .like ≡ false) × (r .session ≡ blank C) → r ≡ keptOf C b
   unfolding keptOf
   kept-unlike n r e = rw n (ap₂ both (e .0) (e .1))
 
   -- what a function that looks at the parts in turn learns
-  pub unlike-short : length b < HEAD → like b ≡ false
+  pub unlike-short : length b < HEAD → like C b ≡ false
   unlike-short h = off (λ l. let g = like-parts .0 l .long in omega arith)
 
-  pub unlike-text : numberOf (textIn b) ≢ 0 → like b ≡ false
+  pub unlike-text : numberOf (textIn b) ≢ 0 → like C b ≡ false
   unlike-text d = off (λ l. d (like-parts .0 l .good))
 
-  pub unlike-made : isDone (madeIn b .answer) ≡ false → like b ≡ false
+  pub unlike-made : isDone (madeIn C b .answer) ≡ false → like C b ≡ false
   unlike-made n = off (λ l. false≢true (sym n ∙ like-parts .0 l .done))
 
-  pub unlike-head : (headOf (sessionIn b) ≡ take HEAD b → ⊥) → like b ≡ false
+  pub unlike-head : (headOf (sessionIn C b) ≡ take HEAD b → ⊥) → like C b ≡ false
   unlike-head d = off (λ l. d (like-parts .0 l .head))
 
   -- what bytes name is intact, whatever they are
-  pub named-intact : Intact (sessionIn b)
+  pub named-intact : Intact C (sessionIn C b)
   unfolding madeIn
-  named-intact = made-intact (readText (textIn b) .trace) (getD b 0 0) (stackIn b)
+  named-intact = made-intact C (readText (textIn b) .trace) (getD b 0 0) (stackIn b)
 
-  pub named-trace : So (isDone (madeIn b .answer)) → sessionIn b .trace ≡ readText (textIn b) .trace
+  pub named-trace : So (isDone (madeIn C b .answer)) → sessionIn C b .trace ≡ readText (textIn b) .trace
   unfolding madeIn afresh
   named-trace d =
       let t = readText (textIn b) .trace in
-      sym (ap (λ (r : Reply). r .session .trace) (afresh-done t (getD b 0 0) (stackIn b) (afresh-allows t (getD b 0 0) (stackIn b) d) (afresh t (getD b 0 0) (standing (stackIn b))) refl))
+      sym (ap (λ (r : Reply). r .session .trace) (afresh-done C t (getD b 0 0) (stackIn b) (afresh-allows C t (getD b 0 0) (stackIn b) d) (afresh C t (getD b 0 0) (standing (stackIn b))) refl))
 
 -- an intact session on the trace of a good text
-pub record On (s : Session) (text : List ℕ) : Type 0 where
-  pub intact : Intact s
+pub record On (C : Closings) (s : Session) (text : List ℕ) : Type 0 where
+  pub intact : Intact C s
   pub good : numberOf text ≡ 0
   pub trace : s .trace ≡ readText text .trace
 
@@ -147,35 +148,35 @@ module _ (s : Session) (text : List ℕ) where
       (λ i h. let m : i < PAIRS = omega (arith, row-long (pairIn whole) 0 PAIRS) in row-place (pairIn whole) unused PAIRS i m ∙ pair-again i m))
       (front-place 1 (omega arith) ∙ front-count s 1 refl)
 
-  module _ (o : On s text) where
-    made-again : madeIn whole ≡ record { answer = Done; session = s }
+  module _ (C : Closings) (o : On C s text) where
+    made-again : madeIn C whole ≡ record { answer = Done; session = s }
     unfolding madeIn
     made-again =
         let i = o .intact in
-        let k = intact-stands s i in
-        ap (λ (t : Trace). afreshOf t (getD whole 0 0) (stackIn whole)) (ap (λ (x : List ℕ). readText x .trace) text-again ∙ sym (o .trace))
-        ∙ ap₂ (λ (m : ℕ) (q : Stack). afreshOf (s .trace) m q) (front-place 0 (omega arith) ∙ front-model s 0 refl) (stack-again (k .long))
-        ∙ sym (afresh-done (s .trace) (s .model) (s .stack) (and-iff same-iff (stands-iff (s .trace) (s .stack)) .1 (i .opens, k)) s (i .same))
+        let k = intact-stands C s i in
+        ap (λ (t : Trace). afreshOf C t (getD whole 0 0) (stackIn whole)) (ap (λ (x : List ℕ). readText x .trace) text-again ∙ sym (o .trace))
+        ∙ ap₂ (λ (m : ℕ) (q : Stack). afreshOf C (s .trace) m q) (front-place 0 (omega arith) ∙ front-model s 0 refl) (stack-again (k .long))
+        ∙ sym (afresh-done C (s .trace) (s .model) (s .stack) (and-iff same-iff (stands-iff (s .trace) (s .stack)) .1 (i .opens, k)) s (i .same))
 
-    pub session-again : sessionIn whole ≡ s
+    pub session-again : sessionIn C whole ≡ s
     session-again = ap (λ (r : Reply). r .session) made-again
 
-    pub like-again : So (like whole)
-    like-again = like-parts whole .1 (record {
+    pub like-again : So (like C whole)
+    like-again = like-parts C whole .1 (record {
       long = omega (arith, length-append (headOf s) text, head-long s);
       good = ap numberOf text-again ∙ o .good;
       done = ap (λ (r : Reply). isDone (r .answer)) made-again;
       head = ap headOf session-again ∙ sym (take-at (headOf s) text HEAD (head-long s));
     })
 
-pub like-exactly : (b : List ℕ) → So (like b) ↔ ((s : Session) × (text : List ℕ) × On s text × (b ≡ headOf s ++ text))
-like-exactly b = (
-  λ l. let p = like-parts b .0 l in (sessionIn b, textIn b, record { intact = named-intact b; good = p .good; trace = named-trace b (p .done) }, sym (like-same b l)),
-  λ w. subst (λ (x : List ℕ). So (like x)) (sym (w .3)) (like-again (w .0) (w .1) (w .2)),
+pub like-exactly : (C : Closings) (b : List ℕ) → So (like C b) ↔ ((s : Session) × (text : List ℕ) × On C s text × (b ≡ headOf s ++ text))
+like-exactly C b = (
+  λ l. let p = like-parts C b .0 l in (sessionIn C b, textIn b, record { intact = named-intact C b; good = p .good; trace = named-trace C b (p .done) }, sym (like-same C b l)),
+  λ w. subst (λ (x : List ℕ). So (like C x)) (sym (w .3)) (like-again (w .0) (w .1) C (w .2)),
 )
 
-pub bytes-one : (s s′ : Session) (text text′ : List ℕ) → On s text → On s′ text′ → headOf s ++ text ≡ headOf s′ ++ text′ → (s ≡ s′) × (text ≡ text′)
-bytes-one s s′ text text′ o o′ e = (
-  sym (session-again s text o) ∙ ap (λ (b : List ℕ). sessionIn b) e ∙ session-again s′ text′ o′,
+pub bytes-one : (C : Closings) (s s′ : Session) (text text′ : List ℕ) → On C s text → On C s′ text′ → headOf s ++ text ≡ headOf s′ ++ text′ → (s ≡ s′) × (text ≡ text′)
+bytes-one C s s′ text text′ o o′ e = (
+  sym (session-again s text C o) ∙ ap (λ (b : List ℕ). sessionIn C b) e ∙ session-again s′ text′ C o′,
   sym (text-again s text) ∙ ap (λ (b : List ℕ). textIn b) e ∙ text-again s′ text′,
 )

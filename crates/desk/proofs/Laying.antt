@@ -1,6 +1,7 @@
 -- The bytes of a session's head, place by place, and that each is a byte.
 --
---   count-room, pair-below          == the numbers of an intact session are small
+--   intact-fit                      == an intact session fits
+--   count-room, pair-below          == the numbers of a session that fits are small
 --   pair-first, pair-second         == the bytes of a pair
 --   front-model, front-count, front-pair, front-word == the bytes of the front
 --   head-long                       == how many bytes a head has
@@ -22,6 +23,7 @@ use Rattle.trace.proofs.WellFormed.{form-iff}
 use Rattle.trace.proofs.Meaning.{operation-iff}
 use Rattle.session.specs.Bounds.{PAIRS}
 use Rattle.session.specs.Stack.{pairAt}
+use Rattle.session.specs.Closings.{Closings}
 use Rattle.session.specs.Session.{Intact}
 use Rattle.session.specs.declared.Pair.{Pair}
 use Rattle.session.specs.declared.Stack.{Stack}
@@ -29,23 +31,26 @@ use Rattle.session.specs.declared.Session.{Session}
 use Rattle.session.proofs.Pairs.{supposable-iff}
 use Rattle.session.proofs.Openings.{openable-iff}
 use Rattle.session.proofs.Sessions.{intact-stands}
-use Rattle.desk.specs.Head.{FRONT, MARKS, HEAD, pairByte, frontAt, markAt, headOf}
+use Rattle.desk.specs.Head.{Fit, FRONT, MARKS, HEAD, pairByte, frontAt, markAt, headOf}
 
-module _ (s : Session) (i : Intact s) where
+pub intact-fit : (C : Closings) (s : Session) → Intact C s → Fit s
+intact-fit C s i = (i .opens, intact-stands C s i)
+
+module _ (s : Session) (i : Fit s) where
   pub count-room : s .stack .count ≤ PAIRS
-  count-room = intact-stands s i .room
+  count-room = i .1 .room
 
   -- an operation of the trace
   below : (x : ℕ) → x < s .trace .len → x < RECORDS
-  below x h = let f = form-iff (s .trace) .0 (openable-iff (s .trace) (s .model) .0 (i .opens) .form) .fits in omega arith
+  below x h = let f = form-iff (s .trace) .0 (openable-iff (s .trace) (s .model) .0 (i .0) .form) .fits in omega arith
 
   pub pair-below : (j : ℕ) → j < PAIRS → (pairAt (s .stack) j .first < RECORDS) × (pairAt (s .stack) j .second < RECORDS)
   pair-below j h = elim (decLt j (s .stack .count)) [
     | yes l ↦
-        let o = supposable-iff (s .trace) (pairAt (s .stack) j) .0 (intact-stands s i .used j l) .0 in
+        let o = supposable-iff (s .trace) (pairAt (s .stack) j) .0 (i .1 .used j l) .0 in
         (below _ (operation-iff (s .trace) _ .0 (o .0) .0), below _ (operation-iff (s .trace) _ .0 (o .1) .0))
     | no l ↦
-        let e = intact-stands s i .rest j (omega arith) h in
+        let e = i .1 .rest j (omega arith) h in
         (subst (λ (p : Pair). p .first < RECORDS) (sym e) (omega arith), subst (λ (p : Pair). p .second < RECORDS) (sym e) (omega arith))
   ]
 

@@ -5,4 +5,5 @@ pub mod Keeping
 pub mod Acting
 pub mod Opens
 pub mod Heard
+pub mod Sourceless
 pub mod One

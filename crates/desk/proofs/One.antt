@@ -6,6 +6,7 @@ use mathlib.Core.Path.{sym, _∙_}
 use denote.Ref.{now}
 use Rattle.laws.specs.Settles.{Settles, Leaves}
 use Rattle.laws.proofs.Tests.{test-one}
+use Rattle.session.proofs.Forcing.{closings-some}
 use Rattle.report.proofs.One.{reported-one}
 use Rattle.desk.proofs.Spelling.{answered-one}
 use Rattle.desk.proofs.texts.wheelotter_report.Reads as report
@@ -62,19 +63,19 @@ pub open-settles : Settles 2 open-kinds.ps open-kinds.r opens.Post
 open-settles κs a x y s t p q = p .0 ∙ sym (q .0)
 
 pub open-leaves : Leaves 2 open-kinds.ps open-kinds.r (λ κs s. now (s .1 .1 .0)) opens.Post
-open-leaves κs a x y s t p q = p .1 ∙ sym (q .1)
+open-leaves κs a x y s t p q = p .1 closings-some ∙ sym (q .1 closings-some)
 
 pub suppose-settles : Settles 1 suppose-kinds.ps suppose-kinds.r suppose.Post
-suppose-settles κs a x y s t p q = p .0 ∙ sym (q .0)
+suppose-settles κs a x y s t p q = p closings-some .0 ∙ sym (q closings-some .0)
 
 pub suppose-leaves : Leaves 1 suppose-kinds.ps suppose-kinds.r (λ κs s. now (s .0)) suppose.Post
-suppose-leaves κs a x y s t p q = p .1 ∙ sym (q .1)
+suppose-leaves κs a x y s t p q = p closings-some .1 ∙ sym (q closings-some .1)
 
 pub take-back-settles : Settles 1 take-back-kinds.ps take-back-kinds.r take-back.Post
-take-back-settles κs a x y s t p q = p .0 ∙ sym (q .0)
+take-back-settles κs a x y s t p q = p closings-some .0 ∙ sym (q closings-some .0)
 
 pub take-back-leaves : Leaves 1 take-back-kinds.ps take-back-kinds.r (λ κs s. now (s .0)) take-back.Post
-take-back-leaves κs a x y s t p q = p .1 ∙ sym (q .1)
+take-back-leaves κs a x y s t p q = p closings-some .1 ∙ sym (q closings-some .1)
 
 pub ask-settles : Settles 1 ask-kinds.ps ask-kinds.r ask.Post
-ask-settles κs a x y s t p q = p ∙ sym q
+ask-settles κs a x y s t p q = p closings-some ∙ sym (q closings-some)

@@ -29,7 +29,8 @@ use Rattle.pairs.specs.Kept.{modelled}
 use Rattle.orders.specs.MissingOf.{missingOf}
 use Rattle.orders.specs.declared.sources.Found.{Found}
 use Rattle.orders.specs.declared.sources.Found.the-variants.{At, Nothing}
-use Rattle.session.specs.Opening.{sourcedOf, openable}
+use Rattle.session.specs.Opening.{sourcedOf, openingOf, openable}
+use Rattle.session.specs.Closings.{Closings}
 use Rattle.session.specs.Session.{afresh, Intact, blank}
 use Rattle.session.specs.Entries.{openOf}
 use Rattle.session.specs.Numbers.{Act}
@@ -55,32 +56,31 @@ module _ (text : List ℕ) (m : ℕ) where
   trace = readText text .trace
 
   module _ (g : numberOf text ≡ 0) where
-    pub good-number : openNumber text m ≡ codeOf (openOf trace m .answer)
+    pub good-number : openNumber text m ≡ codeOf (openingOf trace m)
     unfolding openNumber
     good-number = rw (eq-eqb _ _ g) refl
 
-    pub good-session : openSession text m ≡ openOf trace m .session
+    pub good-session : (C : Closings) → openSession C text m ≡ openOf C trace m .session
     unfolding openSession
-    good-session = rw (eq-eqb _ _ g) refl
+    good-session C = rw (eq-eqb _ _ g) refl
 
   module _ (d : numberOf text ≢ 0) where
     pub bad-number : openNumber text m ≡ numberOf text
     unfolding openNumber
     bad-number = rw (ne-eqb _ _ d) refl
 
-    pub bad-session : openSession text m ≡ blank
+    pub bad-session : (C : Closings) → openSession C text m ≡ blank C
     unfolding openSession
-    bad-session = rw (ne-eqb _ _ d) refl
+    bad-session C = rw (ne-eqb _ _ d) refl
 
-  pub session-intact : Intact (openSession text m)
-  session-intact = elim (eq? (numberOf text) 0) [
-    | inl g ↦ subst (λ (s : Session). Intact s) (sym (good-session g)) (opened-intact trace m)
-    | inr d ↦ subst (λ (s : Session). Intact s) (sym (bad-session d)) blank-intact
+  pub session-intact : (C : Closings) → Intact C (openSession C text m)
+  session-intact C = elim (eq? (numberOf text) 0) [
+    | inl g ↦ subst (λ (s : Session). Intact C s) (sym (good-session g C)) (opened-intact C trace m)
+    | inr d ↦ subst (λ (s : Session). Intact C s) (sym (bad-session d C)) (blank-intact C)
   ]
 
   -- a text that was read is well formed, so that 10 never comes
   pub never-ten : openNumber text m ≢ 10
-  unfolding openOf
   never-ten z = elim (eq? (numberOf text) 0) [
     | inl g ↦ good-ten (sym (good-number g) ∙ z)
     | inr d ↦ bad-ten (readText text .answer) (sym (bad-number d) ∙ z)
@@ -90,7 +90,7 @@ module _ (text : List ℕ) (m : ℕ) where
       source-ten (At x) e = omega arith
       source-ten Nothing e = omega arith
 
-      good-ten : codeOf (openOf trace m .answer) ≡ 10 → ⊥
+      good-ten : codeOf (openingOf trace m) ≡ 10 → ⊥
       good-ten e = elim (test (modelled m)) [
         | inl h ↦ source-ten (missingOf trace) (sym (ap codeOf (opening-asks trace m h (read-well text))) ∙ e)
         | inr n ↦ let q : codeOf (Refused NoModel) ≡ 10 = sym (ap codeOf (opening-nine trace m n)) ∙ e in omega arith
@@ -108,71 +108,73 @@ module _ (text : List ℕ) (m : ℕ) where
       bad-ten (turned.Refused Twice n) e = omega arith
 
   module _ (b : List ℕ) where
-    pub no-room : length b < HEAD + length text → (NO-ROOM ≡ openAnswer text m b) × (b ≡ openBytes text m b)
+    pub no-room : length b < HEAD + length text → (NO-ROOM ≡ openAnswer text m b) × ((C : Closings) → b ≡ openBytes C text m b)
     unfolding openAnswer openBytes
-    no-room h = (rw (lt-leb _ _ h) refl, rw (lt-leb _ _ h) refl)
+    no-room h = (rw (lt-leb _ _ h) refl, λ C. rw (lt-leb _ _ h) refl)
 
     module _ (h : HEAD + length text ≤ length b) where
       room-answer : openAnswer text m b ≡ openNumber text m
       unfolding openAnswer
       room-answer = rw (le-leb _ _ h) refl
 
-      pub open-turned : (n : ℕ) (now : List ℕ) → n ≡ openNumber text m → n ≢ 0 → now ≡ headOf (openSession text m) ++ drop HEAD b → (n ≡ openAnswer text m b) × (now ≡ openBytes text m b)
+      pub open-turned : (n : ℕ) (now : List ℕ) → n ≡ openNumber text m → n ≢ 0 → ((C : Closings) → now ≡ headOf (openSession C text m) ++ drop HEAD b) → (n ≡ openAnswer text m b) × ((C : Closings) → now ≡ openBytes C text m b)
       unfolding openBytes
-      open-turned n now e d q = (e ∙ sym room-answer, rw (le-leb _ _ h, ne-eqb (openNumber text m) 0 (λ z. d (e ∙ z))) q)
+      open-turned n now e d q = (e ∙ sym room-answer, λ C. rw (le-leb _ _ h, ne-eqb (openNumber text m) 0 (λ z. d (e ∙ z))) (q C))
 
-      pub open-done : (n : ℕ) (mid now : List ℕ) → n ≡ openNumber text m → n ≡ 0 → mid ≡ headOf (openSession text m) ++ drop HEAD b → now ≡ putAt text mid HEAD
-          → (0 ≡ openAnswer text m b) × (now ≡ openBytes text m b)
+      -- the text laid down behind the head
+      module _ (C : Closings) (mid : List ℕ) (p : mid ≡ headOf (openSession C text m) ++ drop HEAD b) where
+        abbrev head : List ℕ
+        head = headOf (openSession C text m)
+
+        long : length head ≡ HEAD
+        long = head-long (openSession C text m)
+
+        room : HEAD + length text ≤ length mid
+        room = omega (arith, ap length p, length-append head (drop HEAD b), length-drop HEAD b, long)
+
+        front : take HEAD mid ≡ head
+        front = ap (take HEAD) p ∙ take-at head (drop HEAD b) HEAD long
+
+        rest : drop (HEAD + length text) mid ≡ drop (HEAD + length text) b
+        rest =
+            sym (drop-drop (length text) HEAD mid)
+            ∙ ap (drop (length text)) (ap (drop HEAD) p ∙ drop-at head (drop HEAD b) HEAD long)
+            ∙ drop-drop (length text) HEAD b
+
+        put-behind : putAt text mid HEAD ≡ headOf (openSession C text m) ++ (text ++ drop (HEAD + length text) b)
+        put-behind =
+            put-paste text mid HEAD room
+            ∙ ap₂ (λ (x y : List ℕ). x ++ y ++ drop (HEAD + length text) mid) front (take-length text)
+            ∙ ap (λ (x : List ℕ). head ++ text ++ x) rest
+            ∙ append-assoc head text (drop (HEAD + length text) b)
+
+      pub open-done : (n : ℕ) (mid now : List ℕ) → n ≡ openNumber text m → n ≡ 0 → ((C : Closings) → mid ≡ headOf (openSession C text m) ++ drop HEAD b) → now ≡ putAt text mid HEAD
+          → (0 ≡ openAnswer text m b) × ((C : Closings) → now ≡ openBytes C text m b)
       unfolding openBytes
-      open-done n mid now e z p q = (sym z ∙ e ∙ sym room-answer, rw (le-leb _ _ h, eq-eqb (openNumber text m) 0 (sym e ∙ z)) (q ∙ put))
-        where
-          head : List ℕ
-          head = headOf (openSession text m)
+      open-done n mid now e z p q = (sym z ∙ e ∙ sym room-answer, λ C. rw (le-leb _ _ h, eq-eqb (openNumber text m) 0 (sym e ∙ z)) (q ∙ put-behind C mid (p C)))
 
-          long : length head ≡ HEAD
-          long = head-long (openSession text m)
-
-          room : HEAD + length text ≤ length mid
-          room = omega (arith, ap length p, length-append head (drop HEAD b), length-drop HEAD b, long)
-
-          front : take HEAD mid ≡ head
-          front = ap (take HEAD) p ∙ take-at head (drop HEAD b) HEAD long
-
-          rest : drop (HEAD + length text) mid ≡ drop (HEAD + length text) b
-          rest =
-              sym (drop-drop (length text) HEAD mid)
-              ∙ ap (drop (length text)) (ap (drop HEAD) p ∙ drop-at head (drop HEAD b) HEAD long)
-              ∙ drop-drop (length text) HEAD b
-
-          put : putAt text mid HEAD ≡ headOf (openSession text m) ++ (text ++ drop (HEAD + length text) b)
-          put =
-              put-paste text mid HEAD room
-              ∙ ap₂ (λ (x y : List ℕ). x ++ y ++ drop (HEAD + length text) mid) front (take-length text)
-              ∙ ap (λ (x : List ℕ). head ++ text ++ x) rest
-              ∙ append-assoc head text (drop (HEAD + length text) b)
-
-    module _ (g : numberOf text ≡ 0) (o : So (openable trace m)) (l : length b ≡ HEAD + length text) where
+    module _ (C : Closings) (g : numberOf text ≡ 0) (o : So (openable trace m)) (l : length b ≡ HEAD + length text) where
       done : openNumber text m ≡ 0
-      unfolding openable openOf
-      done = good-number g ∙ done-code (openOf trace m .answer) o
+      unfolding openable
+      done = good-number g ∙ done-code (openingOf trace m) o
 
-      pub opened-bytes : openBytes text m b ≡ headOf (openOf trace m .session) ++ text
+      pub opened-bytes : openBytes C text m b ≡ headOf (openOf C trace m .session) ++ text
       unfolding openBytes
       opened-bytes =
           rw (le-leb (HEAD + length text) (length b) (omega arith), eq-eqb (openNumber text m) 0 done)
-          (ap₂ (λ (s : Session) (r : List ℕ). headOf s ++ (text ++ r)) (good-session g) (drop-of-length-le b {i = HEAD + length text} (omega arith))
-          ∙ ap (λ (r : List ℕ). headOf (openOf trace m .session) ++ r) (append-nil text))
+          (ap₂ (λ (s : Session) (r : List ℕ). headOf s ++ (text ++ r)) (good-session g C) (drop-of-length-le b {i = HEAD + length text} (omega arith))
+          ∙ ap (λ (r : List ℕ). headOf (openOf C trace m .session) ++ r) (append-nil text))
 
       -- the opened session stands on the text
-      on : On (openOf trace m .session) text
+      on : On C (openOf C trace m .session) text
       unfolding afresh
-      on = record { intact = opened-intact trace m; good = g; trace = ap (λ (s : Session). s .trace) (opened trace m o) }
+      on = record { intact = opened-intact C trace m; good = g; trace = ap (λ (s : Session). s .trace) (opened C trace m o) }
 
-      run : (cs : List Act) → bytesAfter (openBytes text m b) cs ≡ headOf (after (openOf trace m .session) cs) ++ text
-      run cs = ap (λ (x : List ℕ). bytesAfter x cs) opened-bytes ∙ bytes-after cs (openOf trace m .session) text on
+      run : (cs : List Act) → bytesAfter C (openBytes C text m b) cs ≡ headOf (after C (openOf C trace m .session) cs) ++ text
+      run cs = ap (λ (x : List ℕ). bytesAfter C x cs) opened-bytes ∙ bytes-after C cs (openOf C trace m .session) text on
 
-      pub after-bytes : (cs : List Act) → bytesAfter (openBytes text m b) cs ≡ headOf (afresh trace m (standingAfter trace [] cs)) ++ text
-      after-bytes cs = run cs ∙ ap (λ (s : Session). headOf s ++ text) (after-opened trace m o cs)
+      pub after-bytes : (cs : List Act) → bytesAfter C (openBytes C text m b) cs ≡ headOf (afresh C trace m (standingAfter trace [] cs)) ++ text
+      after-bytes cs = run cs ∙ ap (λ (s : Session). headOf s ++ text) (after-opened C trace m o cs)
 
-      pub again-bytes : (cs : List Act) → bytesAfter (openBytes text m b) cs ≡ bytesAfter (openBytes text m b) (supposeAll (standingAfter trace [] cs))
-      again-bytes cs = run cs ∙ ap (λ (s : Session). headOf s ++ text) (after-again trace m o cs) ∙ sym (run (supposeAll (standingAfter trace [] cs)))
+      pub again-bytes : (cs : List Act) → bytesAfter C (openBytes C text m b) cs ≡ bytesAfter C (openBytes C text m b) (supposeAll (standingAfter trace [] cs))
+      again-bytes cs = run cs ∙ ap (λ (s : Session). headOf s ++ text) (after-again C trace m o cs) ∙ sym (run (supposeAll (standingAfter trace [] cs)))

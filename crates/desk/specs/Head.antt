@@ -1,5 +1,6 @@
 -- The head of a session in bytes: all of it but its trace's text.
 --
+--   Fit s         == the session's trace and model open one, and its pairs stand on it, so that each part fits its bytes
 --   FRONT         == how many bytes stand before the marks: the model, the count, the pairs, and whether it is contradicted
 --   MARKS         == how many marks there are: one for any two records
 --   HEAD          == how many bytes a head has
@@ -7,7 +8,7 @@
 --   frontAt s i   == byte i of the front
 --   markAt held i == 1 where the pair of this place is held, x before y at x * RECORDS + y
 --   headOf s      == the head of a session
-use mathlib.Core.Bool.{cond}
+use mathlib.Core.Bool.{So, cond}
 use mathlib.Core.List.{List, _++_}
 use Prim.Native.Nat.{ℕ, _+_, _*_, _-_, _/_, _%_}
 use lib.Dec.{eqb, ltb}
@@ -16,9 +17,13 @@ use Rattle.laws.specs.Warshall.{row}
 use Rattle.trace.specs.Bounds.{RECORDS}
 use Rattle.rows.specs.Rows.{bit}
 use Rattle.session.specs.Bounds.{PAIRS}
-use Rattle.session.specs.Stack.{pairAt}
+use Rattle.session.specs.Stack.{pairAt, Stands}
+use Rattle.session.specs.Opening.{openable}
 use Rattle.session.specs.declared.Stack.{Stack}
 use Rattle.session.specs.declared.Session.{Session}
+
+abbrev pub Fit : Session → Type 0
+Fit s = So (openable (s .trace) (s .model)) × Stands (s .trace) (s .stack)
 
 abbrev pub FRONT : ℕ
 FRONT = 2 + 2 * PAIRS + 1

@@ -1,12 +1,12 @@
--- A session in bytes: its head, then its trace's text.
+-- A session in bytes: its head, then its trace's text. C has what the rules come to.
 --
---   textIn b    == the text
---   pairIn b i  == the pair at place i
---   stackIn b   == the pairs that the bytes name
---   madeIn b    == the session on the text's trace with the model and the pairs that the bytes name, made afresh, or that there is none
---   sessionIn b == the session
---   like b      == the bytes are those of a session that opening and supposing make
---   keptOf b    == whether the bytes are those of a session, and which; beside a no that of the empty trace under model 1
+--   textIn b      == the text
+--   pairIn b i    == the pair at place i
+--   stackIn b     == the pairs that the bytes name
+--   madeIn C b    == the session on the text's trace with the model and the pairs that the bytes name, made afresh, or that there is none
+--   sessionIn C b == the session
+--   like C b      == the bytes are those of a session that opening and supposing make
+--   keptOf C b    == whether the bytes are those of a session, and which; beside a no that of the empty trace under model 1
 use mathlib.Core.Bool.{Bool, cond, _&&_}
 use mathlib.Core.List.{List}
 use Prim.Native.Nat.{ℕ, _+_, _*_}
@@ -17,6 +17,7 @@ use Rattle.laws.specs.Warshall.{row}
 use Rattle.reader.specs.Read.{readText}
 use Rattle.session.specs.Bounds.{PAIRS}
 use Rattle.session.specs.Opening.{isDone}
+use Rattle.session.specs.Closings.{Closings}
 use Rattle.session.specs.Session.{blank}
 use Rattle.session.specs.Entries.{afreshOf}
 use Rattle.session.specs.declared.Pair.{Pair}
@@ -36,18 +37,18 @@ pairIn b i = record { first = getD b (2 + 2 * i) 0; second = getD b (3 + 2 * i) 
 unfoldable pub stackIn : List ℕ → Stack
 stackIn b = record { pairs = row (pairIn b) 0 PAIRS; count = getD b 1 0 }
 
-unfoldable pub madeIn : List ℕ → Reply
-madeIn b = afreshOf (readText (textIn b) .trace) (getD b 0 0) (stackIn b)
+unfoldable pub madeIn : Closings → List ℕ → Reply
+madeIn C b = afreshOf C (readText (textIn b) .trace) (getD b 0 0) (stackIn b)
 
-abbrev pub sessionIn : List ℕ → Session
-sessionIn b = madeIn b .session
+abbrev pub sessionIn : Closings → List ℕ → Session
+sessionIn C b = madeIn C b .session
 
-unfoldable pub like : List ℕ → Bool
-like b =
+unfoldable pub like : Closings → List ℕ → Bool
+like C b =
     leb HEAD (length b)
     && eqb (numberOf (textIn b)) 0
-    && isDone (madeIn b .answer)
-    && alike (headOf (sessionIn b)) (take HEAD b)
+    && isDone (madeIn C b .answer)
+    && alike (headOf (sessionIn C b)) (take HEAD b)
 
-unfoldable pub keptOf : List ℕ → Lent
-keptOf b = record { like = like b; session = cond (like b) (sessionIn b) blank }
+unfoldable pub keptOf : Closings → List ℕ → Lent
+keptOf C b = record { like = like C b; session = cond (like C b) (sessionIn C b) (blank C) }

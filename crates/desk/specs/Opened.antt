@@ -1,16 +1,18 @@
--- What opening a session into lent bytes answers, and the bytes after it.
+-- What opening a session into lent bytes answers, and the bytes after it. C has what the rules come to.
 --
---   roomy text b        == the lent bytes have room for a head and the text
---   openNumber text m   == what is wrong with the text, or with opening a session on its trace; 0 where it is opened
---   openSession text m  == the session that is opened; that of the empty trace under model 1 where none is
---   openAnswer text m b == what comes back for the bytes that are lent
---   openBytes text m b  == what they hold then: head and text, or the head alone, and all else as it was
+--   roomy text b         == the lent bytes have room for a head and the text
+--   openNumber text m    == what is wrong with the text, or with opening a session on its trace; 0 where it is opened
+--   openSession C text m == the session that is opened; that of the empty trace under model 1 where none is
+--   openAnswer text m b  == what comes back for the bytes that are lent
+--   openBytes C text m b == what they hold then: head and text, or the head alone, and all else as it was
 use mathlib.Core.Bool.{Bool, cond}
 use mathlib.Core.List.{List, _++_}
 use Prim.Native.Nat.{ℕ, _+_}
 use lib.Dec.{eqb, leb}
 use lib.ListN.{length, drop}
 use Rattle.reader.specs.Read.{readText}
+use Rattle.session.specs.Opening.{openingOf}
+use Rattle.session.specs.Closings.{Closings}
 use Rattle.session.specs.Session.{blank}
 use Rattle.session.specs.Entries.{openOf}
 use Rattle.session.specs.declared.Session.{Session}
@@ -23,16 +25,16 @@ abbrev pub roomy : List ℕ → List ℕ → Bool
 roomy text b = leb (HEAD + length text) (length b)
 
 unfoldable pub openNumber : List ℕ → ℕ → ℕ
-openNumber text m = cond (eqb (numberOf text) 0) (codeOf (openOf (readText text .trace) m .answer)) (numberOf text)
+openNumber text m = cond (eqb (numberOf text) 0) (codeOf (openingOf (readText text .trace) m)) (numberOf text)
 
-unfoldable pub openSession : List ℕ → ℕ → Session
-openSession text m = cond (eqb (numberOf text) 0) (openOf (readText text .trace) m .session) blank
+unfoldable pub openSession : Closings → List ℕ → ℕ → Session
+openSession C text m = cond (eqb (numberOf text) 0) (openOf C (readText text .trace) m .session) (blank C)
 
 unfoldable pub openAnswer : List ℕ → ℕ → List ℕ → ℕ
 openAnswer text m b = cond (roomy text b) (openNumber text m) NO-ROOM
 
-unfoldable pub openBytes : List ℕ → ℕ → List ℕ → List ℕ
-openBytes text m b =
+unfoldable pub openBytes : Closings → List ℕ → ℕ → List ℕ → List ℕ
+openBytes C text m b =
     cond (roomy text b)
-    (headOf (openSession text m) ++ cond (eqb (openNumber text m) 0) (text ++ drop (HEAD + length text) b) (drop HEAD b))
+    (headOf (openSession C text m) ++ cond (eqb (openNumber text m) 0) (text ++ drop (HEAD + length text) b) (drop HEAD b))
     b

@@ -4,11 +4,12 @@
 --   last-by, last-next                    == nothing added below the bound, or by rules 6 and 7: the round is the last
 --   last-chains, last-clear, closing-last == a last round without a circle: its chains are what is held, nothing is contradicted, and they answer
 --   closing-one                           == no second answer fits
---   closing-computed                      == `contradicted?` and `held?` answer
+--   contradicted?, held?                  == the word and the table, computed: by round n * n some round has added nothing
+--   closing-computed                      == they answer
 --   closing-sound                         == what the table has is so in every valid order that keeps the supposed pairs
 use mathlib.Core.Path.{_≡_, refl}
 use mathlib.Core.Logic.{_⊎_, inl, inr, _↔_}
-use mathlib.Core.Bool.{Bool, true, false, So, false≢true}
+use mathlib.Core.Bool.{Bool, true, false, So, not, _&&_, false≢true}
 use mathlib.Core.List.{List}
 use Prim.Native.Nat.{ℕ, suc, _*_, _<_}
 use native.Mathlib.Omega.{arith}
@@ -21,11 +22,19 @@ use Rattle.trace.specs.Frame.{Frame, Good}
 use Rattle.trace.specs.Order.{Keeps, Valid}
 use Rattle.rules.specs.Rules.{Gives, Chains, Edge, Last, Held, Contradicted, Within}
 use Rattle.rules.specs.Tests.{chains?}
-use Rattle.rules.specs.Closing.{Closing, contradicted?, held?}
+use Rattle.rules.specs.Closing.{Closing}
 use Rattle.rules.proofs.Rounds.{chains-later, last-held, edge-next}
 use Rattle.rules.proofs.Ends.{step-within, chains-within}
 use Rattle.rules.proofs.Tests.{chains-iff, last-round}
 use Rattle.rules.proofs.Sound.{held-sound}
+
+-- a chain leads from an operation to itself, by a round by which some round has added nothing
+unfoldable pub contradicted? : Frame → Table → Table → Bool
+contradicted? f K P = any (f .records) (λ x. chains? f K P (suc (f .records * f .records)) x x)
+
+-- and what is held then
+unfoldable pub held? : Frame → Table → Table → Table
+held? f K P x y = chains? f K P (suc (f .records * f .records)) x y && not (contradicted? f K P)
 
 module _ (f : Frame) (K P : Table) where
   pub circle-contradicted : (k x : ℕ) → Chains f K P (suc k) x x → Contradicted f K P

@@ -22,6 +22,7 @@ use Rattle.rows.specs.Rows.{bit}
 use Rattle.session.specs.Bounds.{PAIRS}
 use Rattle.session.specs.Stack.{supposable, standing, stands}
 use Rattle.session.specs.Opening.{openingOf, isDone, openable}
+use Rattle.session.specs.Closings.{Closings}
 use Rattle.session.specs.Session.{afresh, intact, Intact, blank}
 use Rattle.session.specs.Entries.{pairTurn, supposeTurn, takeBackTurn, toldOf, openOf, afreshOf, supposeOf, takeBackOf, askOf}
 use Rattle.session.specs.declared.Reason.the-variants.{Unlike, NoOperation, OneRecord, TooManyPairs, NoPair}
@@ -53,131 +54,132 @@ done-after a r = go (isDone a) refl
 abbrev both : Answer → Session → Reply
 both a s = record { answer = a; session = s }
 
-module _ (s : Session) where
+module _ (s : Session) (x y : ℕ) where
+  pub told-contradicted : So (s .contradicted) → toldOf s x y ≡ Contradicted
+  unfolding toldOf
+  told-contradicted e = rw e refl
+
+  pub told-bit : s .contradicted ≡ false → toldOf s x y ≡ cond (bit (s .held) x y) Held NotHeld
+  unfolding toldOf
+  told-bit e = rw e refl
+
+module _ (C : Closings) (s : Session) where
   module _ (x y : ℕ) where
     abbrev Operations : Bool
     Operations = frameOf (s .trace) .operation x && frameOf (s .trace) .operation y
 
-    pub pair-unlike : intact s ≡ false → pairTurn s x y ≡ Refused Unlike
+    pub pair-unlike : intact C s ≡ false → pairTurn C s x y ≡ Refused Unlike
     unfolding pairTurn
     pair-unlike e = rw e refl
 
-    pub pair-fence : So (intact s) → Operations ≡ false → pairTurn s x y ≡ Refused NoOperation
+    pub pair-fence : So (intact C s) → Operations ≡ false → pairTurn C s x y ≡ Refused NoOperation
     unfolding pairTurn
     pair-fence i e = rw (i, e) refl
 
-    pub pair-one : So (intact s) → So Operations → x ≡ y → pairTurn s x y ≡ Refused OneRecord
+    pub pair-one : So (intact C s) → So Operations → x ≡ y → pairTurn C s x y ≡ Refused OneRecord
     unfolding pairTurn
     pair-one i o e = rw (i, o, eq-eqb x y e) refl
 
-    pub pair-done : So (intact s) → So Operations → x ≢ y → pairTurn s x y ≡ Done
+    pub pair-done : So (intact C s) → So Operations → x ≢ y → pairTurn C s x y ≡ Done
     unfolding pairTurn
     pair-done i o d = rw (i, o, ne-eqb x y d) refl
 
-    pub pair-allows : So (isDone (pairTurn s x y)) → Intact s × So (supposable (s .trace) (record { first = x; second = y }))
+    pub pair-allows : So (isDone (pairTurn C s x y)) → Intact C s × So (supposable (s .trace) (record { first = x; second = y }))
     unfolding pairTurn
     pair-allows h =
-        let a = done-where (intact s) _ (Refused Unlike) refl h in
+        let a = done-where (intact C s) _ (Refused Unlike) refl h in
         let b = done-where Operations _ (Refused NoOperation) refl (a .1) in
         let c = done-unless (eqb x y) Done (Refused OneRecord) refl (b .1) in
-        (intact-iff s .0 (a .0), supposable-iff (s .trace) (record { first = x; second = y }) .1 (and-iff same-iff same-iff .0 (b .0), eqb-false x y (c .0)))
+        (intact-iff C s .0 (a .0), supposable-iff (s .trace) (record { first = x; second = y }) .1 (and-iff same-iff same-iff .0 (b .0), eqb-false x y (c .0)))
 
-    pub suppose-pair : isDone (pairTurn s x y) ≡ false → supposeTurn s x y ≡ pairTurn s x y
+    pub suppose-pair : isDone (pairTurn C s x y) ≡ false → supposeTurn C s x y ≡ pairTurn C s x y
     unfolding supposeTurn
     suppose-pair e = rw e refl
 
-    pub suppose-full : So (isDone (pairTurn s x y)) → PAIRS ≤ s .stack .count → supposeTurn s x y ≡ Refused TooManyPairs
+    pub suppose-full : So (isDone (pairTurn C s x y)) → PAIRS ≤ s .stack .count → supposeTurn C s x y ≡ Refused TooManyPairs
     unfolding supposeTurn
     suppose-full e h = rw (e, le-leb PAIRS (s .stack .count) h) refl
 
-    pub suppose-done : So (isDone (pairTurn s x y)) → s .stack .count < PAIRS → supposeTurn s x y ≡ Done
+    pub suppose-done : So (isDone (pairTurn C s x y)) → s .stack .count < PAIRS → supposeTurn C s x y ≡ Done
     unfolding supposeTurn
     suppose-done e h = rw (e, lt-leb PAIRS (s .stack .count) h) refl
 
-    pub suppose-allows : So (isDone (supposeTurn s x y)) → Intact s × So (supposable (s .trace) (record { first = x; second = y })) × (s .stack .count < PAIRS)
+    pub suppose-allows : So (isDone (supposeTurn C s x y)) → Intact C s × So (supposable (s .trace) (record { first = x; second = y })) × (s .stack .count < PAIRS)
     unfolding supposeTurn
     suppose-allows h =
-        let a = done-after (pairTurn s x y) _ h in
+        let a = done-after (pairTurn C s x y) _ h in
         let b = done-unless (leb PAIRS (s .stack .count)) Done (Refused TooManyPairs) refl (a .1) in
         let c = pair-allows (a .0) in
         (c .0, c .1, leb-false PAIRS (s .stack .count) (b .0))
 
-    pub told-contradicted : So (s .contradicted) → toldOf s x y ≡ Contradicted
-    unfolding toldOf
-    told-contradicted e = rw e refl
-
-    pub told-bit : s .contradicted ≡ false → toldOf s x y ≡ cond (bit (s .held) x y) Held NotHeld
-    unfolding toldOf
-    told-bit e = rw e refl
-
-    module _ (a : Answer) (e : a ≡ supposeTurn s x y) where
-      pub suppose-refused : isDone a ≡ false → both a s ≡ supposeOf s x y
+    module _ (a : Answer) (e : a ≡ supposeTurn C s x y) where
+      pub suppose-refused : isDone a ≡ false → both a s ≡ supposeOf C s x y
       unfolding supposeOf
       suppose-refused n = rw (← e, n) refl
 
-      pub suppose-taken : So (isDone a) → (s′ : Session) → s′ ≡ afresh (s .trace) (s .model) (standing (s .stack) ++ record { first = x; second = y } ∷ []) → both a s′ ≡ supposeOf s x y
+      pub suppose-taken : So (isDone a) → (s′ : Session) → s′ ≡ afresh C (s .trace) (s .model) (standing (s .stack) ++ record { first = x; second = y } ∷ []) → both a s′ ≡ supposeOf C s x y
       unfolding supposeOf
       suppose-taken d s′ q = rw (← e, d) (ap (both a) q)
 
-    module _ (a : Answer) (e : a ≡ pairTurn s x y) where
-      pub ask-refused : isDone a ≡ false → both a s ≡ askOf s x y
+    module _ (a : Answer) (e : a ≡ pairTurn C s x y) where
+      pub ask-refused : isDone a ≡ false → both a s ≡ askOf C s x y
       unfolding askOf
       ask-refused n = rw (← e, n) refl
 
-      pub ask-told : So (isDone a) → (b : Answer) → b ≡ toldOf s x y → both b s ≡ askOf s x y
+      pub ask-told : So (isDone a) → (b : Answer) → b ≡ toldOf s x y → both b s ≡ askOf C s x y
       unfolding askOf
       ask-told d b q = rw (← e, d) (ap (λ c. both c s) q)
 
-  pub back-unlike : intact s ≡ false → takeBackTurn s ≡ Refused Unlike
+  pub back-unlike : intact C s ≡ false → takeBackTurn C s ≡ Refused Unlike
   unfolding takeBackTurn
   back-unlike e = rw e refl
 
-  pub back-none : So (intact s) → s .stack .count ≡ 0 → takeBackTurn s ≡ Refused NoPair
+  pub back-none : So (intact C s) → s .stack .count ≡ 0 → takeBackTurn C s ≡ Refused NoPair
   unfolding takeBackTurn
   back-none i e = rw (i, eq-eqb (s .stack .count) 0 e) refl
 
-  pub back-done : So (intact s) → s .stack .count ≢ 0 → takeBackTurn s ≡ Done
+  pub back-done : So (intact C s) → s .stack .count ≢ 0 → takeBackTurn C s ≡ Done
   unfolding takeBackTurn
   back-done i d = rw (i, ne-eqb (s .stack .count) 0 d) refl
 
-  pub back-allows : So (isDone (takeBackTurn s)) → Intact s × (s .stack .count ≢ 0)
+  pub back-allows : So (isDone (takeBackTurn C s)) → Intact C s × (s .stack .count ≢ 0)
   unfolding takeBackTurn
   back-allows h =
-      let a = done-where (intact s) _ (Refused Unlike) refl h in
+      let a = done-where (intact C s) _ (Refused Unlike) refl h in
       let b = done-unless (eqb (s .stack .count) 0) Done (Refused NoPair) refl (a .1) in
-      (intact-iff s .0 (a .0), eqb-false (s .stack .count) 0 (b .0))
+      (intact-iff C s .0 (a .0), eqb-false (s .stack .count) 0 (b .0))
 
-  module _ (a : Answer) (e : a ≡ takeBackTurn s) where
-    pub back-refused : isDone a ≡ false → both a s ≡ takeBackOf s
+  module _ (a : Answer) (e : a ≡ takeBackTurn C s) where
+    pub back-refused : isDone a ≡ false → both a s ≡ takeBackOf C s
     unfolding takeBackOf
     back-refused n = rw (← e, n) refl
 
-    pub back-taken : So (isDone a) → (s′ : Session) → s′ ≡ afresh (s .trace) (s .model) (take (length (standing (s .stack)) - 1) (standing (s .stack))) → both a s′ ≡ takeBackOf s
+    pub back-taken : So (isDone a) → (s′ : Session) → s′ ≡ afresh C (s .trace) (s .model) (take (length (standing (s .stack)) - 1) (standing (s .stack))) → both a s′ ≡ takeBackOf C s
     unfolding takeBackOf
     back-taken d s′ q = rw (← e, d) (ap (both a) q)
 
-module _ (t : Trace) (m : ℕ) (a : Answer) (e : a ≡ openingOf t m) where
-  pub open-done : So (isDone a) → (s : Session) → s ≡ afresh t m [] → both a s ≡ openOf t m
+module _ (C : Closings) (t : Trace) (m : ℕ) (a : Answer) (e : a ≡ openingOf t m) where
+  pub open-done : So (isDone a) → (s : Session) → s ≡ afresh C t m [] → both a s ≡ openOf C t m
   unfolding openOf
   open-done d s q = rw (← e, d) (ap (both a) q)
 
-  pub open-refused : isDone a ≡ false → (s : Session) → s ≡ blank → both a s ≡ openOf t m
+  pub open-refused : isDone a ≡ false → (s : Session) → s ≡ blank C → both a s ≡ openOf C t m
   unfolding openOf
   open-refused n s q = rw (← e, n) (ap (both a) q)
 
-module _ (t : Trace) (m : ℕ) (k : Stack) where
-  pub afresh-done : So (openable t m && stands t k) → (s : Session) → s ≡ afresh t m (standing k) → both Done s ≡ afreshOf t m k
+module _ (C : Closings) (t : Trace) (m : ℕ) (k : Stack) where
+  pub afresh-done : So (openable t m && stands t k) → (s : Session) → s ≡ afresh C t m (standing k) → both Done s ≡ afreshOf C t m k
   unfolding afreshOf
   afresh-done d s q = rw d (ap (both Done) q)
 
-  pub afresh-unlike : (openable t m && stands t k) ≡ false → (s : Session) → s ≡ blank → both (Refused Unlike) s ≡ afreshOf t m k
+  pub afresh-unlike : (openable t m && stands t k) ≡ false → (s : Session) → s ≡ blank C → both (Refused Unlike) s ≡ afreshOf C t m k
   unfolding afreshOf
   afresh-unlike n s q = rw n (ap (both (Refused Unlike)) q)
 
-  pub afresh-allows : So (isDone (afreshOf t m k .answer)) → So (openable t m && stands t k)
+  pub afresh-allows : So (isDone (afreshOf C t m k .answer)) → So (openable t m && stands t k)
   unfolding afreshOf
   afresh-allows = go (openable t m && stands t k)
     where
-      go : (b : Bool) → So (isDone (cond b (both Done (afresh t m (standing k))) (both (Refused Unlike) blank) .answer)) → So b
+      go : (b : Bool) → So (isDone (cond b (both Done (afresh C t m (standing k))) (both (Refused Unlike) (blank C)) .answer)) → So b
       go true s = refl
       go false s = absurd (false≢true s)

@@ -15,6 +15,7 @@ use Rattle.trace.specs.declared.Trace.{Trace}
 use Rattle.pairs.specs.Kept.{SC}
 use Rattle.session.specs.Stack.{standing, stands}
 use Rattle.session.specs.Opening.{openable}
+use Rattle.session.specs.Closings.{Closings}
 use Rattle.session.specs.Session.{afresh, Intact, blank}
 use Rattle.session.specs.Entries.{openOf, afreshOf}
 use Rattle.session.specs.Numbers.{Act, replyOf}
@@ -32,38 +33,39 @@ use Rattle.session.proofs.Standing.{kept-allowed, act-kept, opened, ope
 abbrev left : Reply → Session
 left r = r .session
 
-pub blank-intact : Intact blank
-blank-intact = intact-iff blank .0 (afresh-intact empty SC [] empty-opens (none-allowed empty))
+module _ (C : Closings) where
+  pub blank-intact : Intact C (blank C)
+  blank-intact = intact-iff C (blank C) .0 (afresh-intact C empty SC [] empty-opens (none-allowed empty))
 
-pub blank-opened : openOf empty SC .session ≡ blank
-blank-opened = opened empty SC empty-opens
+  pub blank-opened : openOf C empty SC .session ≡ blank C
+  blank-opened = opened C empty SC empty-opens
 
-pub made-intact : (t : Trace) (m : ℕ) (k : Stack) → Intact (afreshOf t m k .session)
-made-intact t m k = elim (test (openable t m && stands t k)) [
-  | inl d ↦
-      let p = and-iff same-iff (stands-iff t k) .0 d in
-      subst (λ (s : Session). Intact s) (ap left (afresh-done t m k d (afresh t m (standing k)) refl))
-      (intact-iff (afresh t m (standing k)) .0 (afresh-intact t m (standing k) (p .0) (stands-allowed t k (p .1))))
-  | inr n ↦ subst (λ (s : Session). Intact s) (ap left (afresh-unlike t m k n blank refl)) blank-intact
-]
+  pub made-intact : (t : Trace) (m : ℕ) (k : Stack) → Intact C (afreshOf C t m k .session)
+  made-intact t m k = elim (test (openable t m && stands t k)) [
+    | inl d ↦
+        let p = and-iff same-iff (stands-iff t k) .0 d in
+        subst (λ (s : Session). Intact C s) (ap left (afresh-done C t m k d (afresh C t m (standing k)) refl))
+        (intact-iff C (afresh C t m (standing k)) .0 (afresh-intact C t m (standing k) (p .0) (stands-allowed t k (p .1))))
+    | inr n ↦ subst (λ (s : Session). Intact C s) (ap left (afresh-unlike C t m k n (blank C) refl)) blank-intact
+  ]
 
-pub opened-intact : (t : Trace) (m : ℕ) → Intact (openOf t m .session)
-opened-intact t m = elim (test (openable t m)) [
-  | inl o ↦ subst (λ (s : Session). Intact s) (sym (opened t m o)) (intact-iff (afresh t m []) .0 (afresh-intact t m [] o (none-allowed t)))
-  | inr n ↦ subst (λ (s : Session). Intact s) (sym (open-blank t m n)) blank-intact
-]
+  pub opened-intact : (t : Trace) (m : ℕ) → Intact C (openOf C t m .session)
+  opened-intact t m = elim (test (openable t m)) [
+    | inl o ↦ subst (λ (s : Session). Intact C s) (sym (opened C t m o)) (intact-iff C (afresh C t m []) .0 (afresh-intact C t m [] o (none-allowed t)))
+    | inr n ↦ subst (λ (s : Session). Intact C s) (sym (open-blank C t m n)) blank-intact
+  ]
 
-module _ (s : Session) (i : Intact s) (a : Act) where
-  -- the session after the call, made afresh
-  act-again : replyOf s a .session ≡ afresh (s .trace) (s .model) (kept (s .trace) (standing (s .stack)) a)
-  act-again = ap (λ x. replyOf x a .session) (i .same) ∙ act-kept (s .trace) (s .model) (i .opens) (standing (s .stack)) (i .allowed) a
+  module _ (s : Session) (i : Intact C s) (a : Act) where
+    -- the session after the call, made afresh
+    act-again : replyOf C s a .session ≡ afresh C (s .trace) (s .model) (kept (s .trace) (standing (s .stack)) a)
+    act-again = ap (λ x. replyOf C x a .session) (i .same) ∙ act-kept C (s .trace) (s .model) (i .opens) (standing (s .stack)) (i .allowed) a
 
-  pub act-intact : Intact (replyOf s a .session)
-  act-intact =
-      let ps = kept (s .trace) (standing (s .stack)) a in
-      subst (λ (x : Session). Intact x) (sym act-again)
-      (intact-iff (afresh (s .trace) (s .model) ps) .0 (afresh-intact (s .trace) (s .model) ps (i .opens) (kept-allowed (s .trace) (standing (s .stack)) (i .allowed) a)))
+    pub act-intact : Intact C (replyOf C s a .session)
+    act-intact =
+        let ps = kept (s .trace) (standing (s .stack)) a in
+        subst (λ (x : Session). Intact C x) (sym act-again)
+        (intact-iff C (afresh C (s .trace) (s .model) ps) .0 (afresh-intact C (s .trace) (s .model) ps (i .opens) (kept-allowed (s .trace) (standing (s .stack)) (i .allowed) a)))
 
-  pub act-trace : replyOf s a .session .trace ≡ s .trace
-  unfolding afresh
-  act-trace = ap (λ x. x .trace) act-again
+    pub act-trace : replyOf C s a .session .trace ≡ s .trace
+    unfolding afresh
+    act-trace = ap (λ x. x .trace) act-again

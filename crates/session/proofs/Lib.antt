@@ -1,8 +1,8 @@
 -- Laws of sessions, for the proofs of functions here and above.
 pub mod Pairs
 pub mod Filling
-pub mod Forcing
 pub mod Openings
+pub mod Forcing
 pub mod Sessions
 pub mod Answering
 pub mod Standing

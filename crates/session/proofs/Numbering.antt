@@ -1,11 +1,11 @@
 -- The number under which a call is turned back is the lowest that applies, and there is none exactly where none applies.
 --
---   number-lowest == so it is of every call, an opening or an act on any session value whatever
---   number-eleven == 11 comes with the lowest record that lacks its source
+--   number-lowest == so it is of every call: an opening, a session asked for from its parts, an act on any session value whatever
+--   number-eleven == 11 comes exactly where the verdict is no source, with the record of the verdict
 use mathlib.Core.Path.{_≡_, refl, sym, ap, _∙_, subst}
-use mathlib.Core.Logic.{_≢_, inl, inr}
+use mathlib.Core.Logic.{_≢_, _↔_, inl, inr}
 use mathlib.Core.Bool.{Bool, true, false, So, cond, _&&_, false≢true}
-use mathlib.Core.Option.{none, some}
+use mathlib.Core.Option.{Option, none, some}
 use Prim.Native.Nat.{ℕ, _≤_, _<_}
 use native.Mathlib.Decide.{decLt}
 use native.Mathlib.Omega.{arith}
@@ -15,87 +15,135 @@ use Rattle.trace.specs.WellFormed.{wellFormed}
 use Rattle.trace.specs.Meaning.{frameOf}
 use Rattle.trace.specs.declared.Trace.{Trace}
 use Rattle.rows.specs.Rows.{bit}
-use Rattle.pairs.specs.Kept.{modelled}
+use Rattle.pairs.specs.Kept.{modelled, keptOf}
 use Rattle.rules.specs.Missing.{Missing}
+use Rattle.orders.specs.Verdict.{Says, noSource}
 use Rattle.orders.specs.MissingOf.{record?, missingOf}
 use Rattle.orders.specs.declared.sources.Found.{Found}
 use Rattle.orders.specs.declared.sources.Found.the-variants.{At, Nothing}
 use Rattle.orders.proofs.MissingOf.{missing-lowest}
 use Rattle.session.specs.Bounds.{PAIRS}
-use Rattle.session.specs.Opening.{sourcedOf, openingOf, isDone}
-use Rattle.session.specs.Session.{intact}
-use Rattle.session.specs.Entries.{pairTurn, supposeTurn, takeBackTurn, toldOf, openOf, supposeOf, takeBackOf, askOf}
-use Rattle.session.specs.Numbers.{refusal, Act, supposes, takesBack, asks, Call, opens, does, Names, supposed, asked, Applies, nine, ten, eleven, twelve, thirteen, fourteen, fifteen, sixteen, answerOf}
-use Rattle.session.specs.declared.Reason.the-variants.{Unlike}
+use Rattle.session.specs.Stack.{standing, stands, Stands}
+use Rattle.session.specs.Opening.{sourcedOf, openingOf, isDone, openable}
+use Rattle.session.specs.Closings.{Closings}
+use Rattle.session.specs.Session.{afresh, intact, blank}
+use Rattle.session.specs.Entries.{pairTurn, supposeTurn, takeBackTurn, toldOf, openOf, afreshOf, supposeOf, takeBackOf, askOf}
+use Rattle.session.specs.Numbers.{refusal, Act, supposes, takesBack, asks, Call, opens, makes, does, Names, supposed, asked, Applies, nine, ten, eleven, twelve, unmade, thirteen, fourteen, fifteen, sixteen, answerOf}
+use Rattle.session.specs.declared.Reason.the-variants.{NoModel, NotWellFormed, Unlike}
 use Rattle.session.specs.declared.Answer.{Answer}
-use Rattle.session.specs.declared.Answer.the-variants.{Held, NotHeld, Contradicted, NoSource, Refused}
+use Rattle.session.specs.declared.Answer.the-variants.{Done, Held, NotHeld, Contradicted, NoSource, Refused}
+use Rattle.session.specs.declared.Stack.{Stack}
 use Rattle.session.specs.declared.Session.{Session}
+use Rattle.session.specs.declared.Reply.{Reply}
+use Rattle.session.proofs.Pairs.{stands-iff}
 use Rattle.session.proofs.Openings.{opening-nine, opening-ten, opening-asks}
 use Rattle.session.proofs.Sessions.{intact-iff}
-use Rattle.session.proofs.Answering.{pair-unlike, pair-fence, pair-one, pair-done, suppose-pair, suppose-full, suppose-done, back-unlike, back-none, back-done}
+use Rattle.session.proofs.Answering.{afresh-done, afresh-unlike, pair-unlike, pair-fence, pair-one, pair-done, suppose-pair, suppose-full, suppose-done, back-unlike, back-none, back-done}
+
+-- the record that an answer comes with
+abbrev record-of : Answer → Option ℕ
+record-of Done = none
+record-of Held = none
+record-of NotHeld = none
+record-of Contradicted = none
+record-of (NoSource x) = some x
+record-of (Refused r) = none
+
+some≢none : {x : ℕ} → _≡_ {A = Option ℕ} (some x) none → ⊥
+some≢none {x} e = let z : _≡_ {A = ℕ} 1 0 = ap (λ (o : Option ℕ). elim o [ some y ↦ 1 | none ↦ 0 ]) e in omega arith
 
 -- an answer is right for a call
-abbrev Right : Call → Answer → Type 0
-Right c a = Lowest (Applies c) (refusal a)
+abbrev Right : Closings → Call → Answer → Type 0
+Right C c a = Lowest (Applies C c) (refusal a)
 
-module _ (t : Trace) (m : ℕ) where
-  from-nine : (n : ℕ) → Applies (opens t m) n → 9 ≤ n
+module _ (C : Closings) (t : Trace) (m : ℕ) where
+  from-nine : (n : ℕ) → Applies C (opens t m) n → 9 ≤ n
   from-nine n (nine h) = omega arith
   from-nine n (ten h) = omega arith
   from-nine n (eleven L h) = omega arith
 
-  from-ten : So (modelled m) → (n : ℕ) → Applies (opens t m) n → 10 ≤ n
+  from-ten : So (modelled m) → (n : ℕ) → Applies C (opens t m) n → 10 ≤ n
   from-ten s n (nine h) = absurd (h s)
   from-ten s n (ten h) = omega arith
   from-ten s n (eleven L h) = omega arith
 
-  from-eleven : So (modelled m) → So (wellFormed t) → (n : ℕ) → Applies (opens t m) n → 11 ≤ n
+  from-eleven : So (modelled m) → So (wellFormed t) → (n : ℕ) → Applies C (opens t m) n → 11 ≤ n
   from-eleven s w n (nine h) = absurd (h s)
   from-eleven s w n (ten h) = absurd (h w)
   from-eleven s w n (eleven L h) = omega arith
 
-  none-opens : So (modelled m) → So (wellFormed t) → ((L : ℕ) → Missing (frameOf t) L → ⊥) → (n : ℕ) → Applies (opens t m) n → ⊥
+  none-opens : So (modelled m) → So (wellFormed t) → ((L : ℕ) → Missing (frameOf t) L → ⊥) → (n : ℕ) → Applies C (opens t m) n → ⊥
   none-opens s w u n (nine h) = h s
   none-opens s w u n (ten h) = h w
   none-opens s w u n (eleven L h) = u L h
 
-  opening-right : Right (opens t m) (openingOf t m)
+  opening-right : Right C (opens t m) (openingOf t m)
   opening-right = elim (test (modelled m)) [
-    | inr n ↦ subst (Right (opens t m)) (sym (opening-nine t m n)) (nine (λ s. false≢true (sym n ∙ s)), from-nine)
+    | inr n ↦ subst (Right C (opens t m)) (sym (opening-nine t m n)) (nine (λ s. false≢true (sym n ∙ s)), from-nine)
     | inl s ↦ elim (test (wellFormed t)) [
-      | inr n ↦ subst (Right (opens t m)) (sym (opening-ten t m s n)) (ten (λ w. false≢true (sym n ∙ w)), from-ten s)
-      | inl w ↦ subst (Right (opens t m)) (sym (opening-asks t m s w)) (sources s w (missingOf t) (missing-lowest t w))
+      | inr n ↦ subst (Right C (opens t m)) (sym (opening-ten t m s n)) (ten (λ w. false≢true (sym n ∙ w)), from-ten s)
+      | inl w ↦ subst (Right C (opens t m)) (sym (opening-asks t m s w)) (sources s w (missingOf t) (missing-lowest t w))
     ]
   ]
     where
-      sources : So (modelled m) → So (wellFormed t) → (a : Found) → Lowest (Missing (frameOf t)) (record? a) → Right (opens t m) (sourcedOf a)
+      sources : So (modelled m) → So (wellFormed t) → (a : Found) → Lowest (Missing (frameOf t)) (record? a) → Right C (opens t m) (sourcedOf a)
       sources s w (At x) l = (eleven x (l .0), from-eleven s w)
       sources s w Nothing l = none-opens s w l
 
-  pub number-eleven : (x : ℕ) → openingOf t m ≡ NoSource x → So (modelled m) → So (wellFormed t) → Lowest (Missing (frameOf t)) (some x)
-  number-eleven x e s w = found (missingOf t) (sym (opening-asks t m s w) ∙ e) (missing-lowest t w)
+module _ (t : Trace) (m : ℕ) where
+  pub number-eleven : (x : ℕ) → (openingOf t m ≡ NoSource x) ↔ ((So (modelled m) × So (wellFormed t)) × Says (frameOf t) (keptOf m t) (noSource x))
+  number-eleven x = (goes, λ h. opening-asks t m (h .0 .0) (h .0 .1) ∙ comes (missingOf t) (missing-lowest t (h .0 .1)) (h .1))
     where
-      found : (a : Found) → sourcedOf a ≡ NoSource x → Lowest (Missing (frameOf t)) (record? a) → Lowest (Missing (frameOf t)) (some x)
-      found (At y) q l = subst (λ (z : ℕ). Lowest (Missing (frameOf t)) (some z)) (cc) l
-      found Nothing q l = let z : _≡_ {A = ℕ} 0 1 = cc in absurd (omega arith)
+      other : (a : Answer) → openingOf t m ≡ a → record-of a ≡ none → openingOf t m ≡ NoSource x → ⊥
+      other a e n q = let z : some x ≡ none = sym (ap record-of q) ∙ ap record-of e ∙ n in some≢none z
 
-module _ (s : Session) where
-  from-twelve : (a : Act) (n : ℕ) → Applies (does s a) n → 12 ≤ n
+      found : (a : Found) → sourcedOf a ≡ NoSource x → Lowest (Missing (frameOf t)) (record? a) → Lowest (Missing (frameOf t)) (some x)
+      found (At y) q l = subst (λ (o : Option ℕ). Lowest (Missing (frameOf t)) o) (ap record-of q) l
+      found Nothing q l = absurd (some≢none (sym (ap record-of q)))
+
+      goes : openingOf t m ≡ NoSource x → (So (modelled m) × So (wellFormed t)) × Says (frameOf t) (keptOf m t) (noSource x)
+      goes e = elim (test (modelled m)) [
+        | inr n ↦ absurd (other (Refused NoModel) (opening-nine t m n) refl e)
+        | inl s ↦ elim (test (wellFormed t)) [
+          | inr n ↦ absurd (other (Refused NotWellFormed) (opening-ten t m s n) refl e)
+          | inl w ↦ ((s, w), found (missingOf t) (sym (opening-asks t m s w) ∙ e) (missing-lowest t w))
+        ]
+      ]
+
+      comes : (a : Found) → Lowest (Missing (frameOf t)) (record? a) → Lowest (Missing (frameOf t)) (some x) → sourcedOf a ≡ NoSource x
+      comes (At y) l k = ap NoSource (omega (arith, l .1 x (k .0), k .1 y (l .0)))
+      comes Nothing l k = absurd (l x (k .0))
+
+module _ (C : Closings) (t : Trace) (m : ℕ) (k : Stack) where
+  from-parts : (n : ℕ) → Applies C (makes t m k) n → 12 ≤ n
+  from-parts n (unmade h) = omega arith
+
+  none-makes : So (openable t m) × Stands t k → (n : ℕ) → Applies C (makes t m k) n → ⊥
+  none-makes s n (unmade h) = h s
+
+  made-right : Right C (makes t m k) (afreshOf C t m k .answer)
+  made-right = elim (test (openable t m && stands t k)) [
+    | inl d ↦ subst (λ (r : Reply). Right C (makes t m k) (r .answer)) (afresh-done C t m k d (afresh C t m (standing k)) refl) (none-makes (and-iff same-iff (stands-iff t k) .0 d))
+    | inr n ↦ subst (λ (r : Reply). Right C (makes t m k) (r .answer)) (afresh-unlike C t m k n (blank C) refl) (unmade (λ s. false≢true (sym n ∙ and-iff same-iff (stands-iff t k) .1 s)), from-parts)
+  ]
+
+module _ (C : Closings) (s : Session) where
+  from-twelve : (a : Act) (n : ℕ) → Applies C (does s a) n → 12 ≤ n
   from-twelve a n (twelve h) = omega arith
   from-twelve a n (thirteen v h) = omega arith
   from-twelve a n (fourteen v) = omega arith
   from-twelve a n (fifteen h) = omega arith
   from-twelve a n (sixteen h) = omega arith
 
-  from-thirteen : So (intact s) → (a : Act) (n : ℕ) → Applies (does s a) n → 13 ≤ n
-  from-thirteen i a n (twelve h) = absurd (h (intact-iff s .0 i))
+  from-thirteen : So (intact C s) → (a : Act) (n : ℕ) → Applies C (does s a) n → 13 ≤ n
+  from-thirteen i a n (twelve h) = absurd (h (intact-iff C s .0 i))
   from-thirteen i a n (thirteen v h) = omega arith
   from-thirteen i a n (fourteen v) = omega arith
   from-thirteen i a n (fifteen h) = omega arith
   from-thirteen i a n (sixteen h) = omega arith
 
-  unlike-right : intact s ≡ false → (a : Act) → Right (does s a) (Refused Unlike)
-  unlike-right n a = (twelve (λ i. false≢true (sym n ∙ intact-iff s .1 i)), from-twelve a)
+  unlike-right : intact C s ≡ false → (a : Act) → Right C (does s a) (Refused Unlike)
+  unlike-right n a = (twelve (λ i. false≢true (sym n ∙ intact-iff C s .1 i)), from-twelve a)
 
   module _ (x y : ℕ) where
     -- an act speaks of x and y, and of no others
@@ -112,15 +160,15 @@ module _ (s : Session) where
     not-fourteen : x ≢ y → (a : Act) → Only a → {u : ℕ} → Names a u u → ⊥
     not-fourteen d a only {u} w = let e = only u u w in d (sym (e .0) ∙ e .1)
 
-    from-fourteen : So (intact s) → Operations → (a : Act) → Only a → (n : ℕ) → Applies (does s a) n → 14 ≤ n
-    from-fourteen i o a only n (twelve h) = absurd (h (intact-iff s .0 i))
+    from-fourteen : So (intact C s) → Operations → (a : Act) → Only a → (n : ℕ) → Applies C (does s a) n → 14 ≤ n
+    from-fourteen i o a only n (twelve h) = absurd (h (intact-iff C s .0 i))
     from-fourteen i o a only n (thirteen w h) = absurd (not-thirteen o a only w h)
     from-fourteen i o a only n (fourteen w) = omega arith
     from-fourteen i o a only n (fifteen h) = omega arith
     from-fourteen i o a only n (sixteen h) = omega arith
 
-    from-fifteen : So (intact s) → Operations → x ≢ y → (a : Act) → Only a → (n : ℕ) → Applies (does s a) n → 15 ≤ n
-    from-fifteen i o d a only n (twelve h) = absurd (h (intact-iff s .0 i))
+    from-fifteen : So (intact C s) → Operations → x ≢ y → (a : Act) → Only a → (n : ℕ) → Applies C (does s a) n → 15 ≤ n
+    from-fifteen i o d a only n (twelve h) = absurd (h (intact-iff C s .0 i))
     from-fifteen i o d a only n (thirteen w h) = absurd (not-thirteen o a only w h)
     from-fifteen i o d a only n (fourteen w) = absurd (not-fourteen d a only w)
     from-fifteen i o d a only n (fifteen h) = omega arith
@@ -138,40 +186,40 @@ module _ (s : Session) where
     asks-only : Only (asks x y)
     asks-only u v asked = (refl, refl)
 
-    none-supposes : So (intact s) → So joined → x ≢ y → s .stack .count < PAIRS → (n : ℕ) → Applies (does s (supposes x y)) n → ⊥
-    none-supposes i o d l n (twelve h) = h (intact-iff s .0 i)
+    none-supposes : So (intact C s) → So joined → x ≢ y → s .stack .count < PAIRS → (n : ℕ) → Applies C (does s (supposes x y)) n → ⊥
+    none-supposes i o d l n (twelve h) = h (intact-iff C s .0 i)
     none-supposes i o d l n (thirteen w h) = not-thirteen (both o) (supposes x y) supposes-only w h
     none-supposes i o d l n (fourteen w) = not-fourteen d (supposes x y) supposes-only w
     none-supposes i o d l n (fifteen h) = omega arith
 
-    none-asks : So (intact s) → So joined → x ≢ y → (n : ℕ) → Applies (does s (asks x y)) n → ⊥
-    none-asks i o d n (twelve h) = h (intact-iff s .0 i)
+    none-asks : So (intact C s) → So joined → x ≢ y → (n : ℕ) → Applies C (does s (asks x y)) n → ⊥
+    none-asks i o d n (twelve h) = h (intact-iff C s .0 i)
     none-asks i o d n (thirteen w h) = not-thirteen (both o) (asks x y) asks-only w h
     none-asks i o d n (fourteen w) = not-fourteen d (asks x y) asks-only w
 
-    suppose-right : Right (does s (supposes x y)) (supposeTurn s x y)
-    suppose-right = elim (test (intact s)) [
-      | inr n ↦ refused (pair-unlike s x y n) refl (unlike-right n (supposes x y))
+    suppose-right : Right C (does s (supposes x y)) (supposeTurn C s x y)
+    suppose-right = elim (test (intact C s)) [
+      | inr n ↦ refused (pair-unlike C s x y n) refl (unlike-right n (supposes x y))
       | inl i ↦ elim (test joined) [
         | inr n ↦
-            refused (pair-fence s x y i n) refl
+            refused (pair-fence C s x y i n) refl
             (thirteen supposed (λ o. false≢true (sym n ∙ and-iff same-iff same-iff .1 o)), from-thirteen i (supposes x y))
         | inl o ↦ elim (eq? x y) [
           | inl e ↦
-              refused (pair-one s x y i o e) refl
+              refused (pair-one C s x y i o e) refl
               (fourteen (subst (λ (z : ℕ). Names (supposes x z) x x) e supposed), from-fourteen i (both o) (supposes x y) supposes-only)
           | inr d ↦ elim (decLt (s .stack .count) PAIRS) [
-            | yes l ↦ subst (Right (does s (supposes x y))) (sym (suppose-done s x y (ap isDone (pair-done s x y i o d)) l)) (none-supposes i o d l)
+            | yes l ↦ subst (Right C (does s (supposes x y))) (sym (suppose-done C s x y (ap isDone (pair-done C s x y i o d)) l)) (none-supposes i o d l)
             | no l ↦
-                subst (Right (does s (supposes x y))) (sym (suppose-full s x y (ap isDone (pair-done s x y i o d)) (omega arith)))
+                subst (Right C (does s (supposes x y))) (sym (suppose-full C s x y (ap isDone (pair-done C s x y i o d)) (omega arith)))
                 (fifteen (omega arith), from-fifteen i (both o) d (supposes x y) supposes-only)
           ]
         ]
       ]
     ]
       where
-        refused : {a : Answer} → pairTurn s x y ≡ a → isDone a ≡ false → Right (does s (supposes x y)) a → Right (does s (supposes x y)) (supposeTurn s x y)
-        refused {a} e n r = subst (Right (does s (supposes x y))) (sym (suppose-pair s x y (ap isDone e ∙ n) ∙ e)) r
+        refused : {a : Answer} → pairTurn C s x y ≡ a → isDone a ≡ false → Right C (does s (supposes x y)) a → Right C (does s (supposes x y)) (supposeTurn C s x y)
+        refused {a} e n r = subst (Right C (does s (supposes x y))) (sym (suppose-pair C s x y (ap isDone e ∙ n) ∙ e)) r
 
     -- what the table says is no refusal
     told-none : (b c : Bool) → refusal (cond b Contradicted (cond c Held NotHeld)) ≡ none
@@ -179,50 +227,51 @@ module _ (s : Session) where
     told-none false true = refl
     told-none false false = refl
 
-    ask-right : Right (does s (asks x y)) (askOf s x y .answer)
+    ask-right : Right C (does s (asks x y)) (askOf C s x y .answer)
     unfolding askOf toldOf
-    ask-right = elim (test (intact s)) [
-      | inr n ↦ refused (pair-unlike s x y n) refl (unlike-right n (asks x y))
+    ask-right = elim (test (intact C s)) [
+      | inr n ↦ refused (pair-unlike C s x y n) refl (unlike-right n (asks x y))
       | inl i ↦ elim (test joined) [
         | inr n ↦
-            refused (pair-fence s x y i n) refl
+            refused (pair-fence C s x y i n) refl
             (thirteen asked (λ o. false≢true (sym n ∙ and-iff same-iff same-iff .1 o)), from-thirteen i (asks x y))
         | inl o ↦ elim (eq? x y) [
           | inl e ↦
-              refused (pair-one s x y i o e) refl
+              refused (pair-one C s x y i o e) refl
               (fourteen (subst (λ (z : ℕ). Names (asks x z) x x) e asked), from-fourteen i (both o) (asks x y) asks-only)
           | inr d ↦
-              subst (Lowest (Applies (does s (asks x y))))
-              (sym (ap (λ a. refusal (cond (isDone a) (toldOf s x y) a)) (pair-done s x y i o d) ∙ told-none (s .contradicted) (bit (s .held) x y)))
+              subst (Lowest (Applies C (does s (asks x y))))
+              (sym (ap (λ a. refusal (cond (isDone a) (toldOf s x y) a)) (pair-done C s x y i o d) ∙ told-none (s .contradicted) (bit (s .held) x y)))
               (none-asks i o d)
         ]
       ]
     ]
       where
-        refused : {a : Answer} → pairTurn s x y ≡ a → isDone a ≡ false → Right (does s (asks x y)) a → Right (does s (asks x y)) (askOf s x y .answer)
+        refused : {a : Answer} → pairTurn C s x y ≡ a → isDone a ≡ false → Right C (does s (asks x y)) a → Right C (does s (asks x y)) (askOf C s x y .answer)
         refused {a} e n r =
-            subst (Right (does s (asks x y))) (sym (ap (λ a. cond (isDone a) (toldOf s x y) a) e ∙ ap (λ b. cond b (toldOf s x y) a) n)) r
+            subst (Right C (does s (asks x y))) (sym (ap (λ a. cond (isDone a) (toldOf s x y) a) e ∙ ap (λ b. cond b (toldOf s x y) a) n)) r
 
-  from-sixteen : So (intact s) → (n : ℕ) → Applies (does s takesBack) n → 16 ≤ n
-  from-sixteen i n (twelve h) = absurd (h (intact-iff s .0 i))
+  from-sixteen : So (intact C s) → (n : ℕ) → Applies C (does s takesBack) n → 16 ≤ n
+  from-sixteen i n (twelve h) = absurd (h (intact-iff C s .0 i))
   from-sixteen i n (sixteen h) = omega arith
 
-  none-back : So (intact s) → s .stack .count ≢ 0 → (n : ℕ) → Applies (does s takesBack) n → ⊥
-  none-back i d n (twelve h) = h (intact-iff s .0 i)
+  none-back : So (intact C s) → s .stack .count ≢ 0 → (n : ℕ) → Applies C (does s takesBack) n → ⊥
+  none-back i d n (twelve h) = h (intact-iff C s .0 i)
   none-back i d n (sixteen h) = d h
 
-  back-right : Right (does s takesBack) (takeBackTurn s)
-  back-right = elim (test (intact s)) [
-    | inr n ↦ subst (Right (does s takesBack)) (sym (back-unlike s n)) (unlike-right n takesBack)
+  back-right : Right C (does s takesBack) (takeBackTurn C s)
+  back-right = elim (test (intact C s)) [
+    | inr n ↦ subst (Right C (does s takesBack)) (sym (back-unlike C s n)) (unlike-right n takesBack)
     | inl i ↦ elim (eq? (s .stack .count) 0) [
-      | inl e ↦ subst (Right (does s takesBack)) (sym (back-none s i e)) (sixteen e, from-sixteen i)
-      | inr d ↦ subst (Right (does s takesBack)) (sym (back-done s i d)) (none-back i d)
+      | inl e ↦ subst (Right C (does s takesBack)) (sym (back-none C s i e)) (sixteen e, from-sixteen i)
+      | inr d ↦ subst (Right C (does s takesBack)) (sym (back-done C s i d)) (none-back i d)
     ]
   ]
 
-pub number-lowest : (c : Call) → Lowest (Applies c) (refusal (answerOf c))
+pub number-lowest : (C : Closings) (c : Call) → Lowest (Applies C c) (refusal (answerOf C c))
 unfolding openOf supposeOf takeBackOf
-number-lowest (opens t m) = opening-right t m
-number-lowest (does s (supposes x y)) = suppose-right s x y
-number-lowest (does s takesBack) = back-right s
-number-lowest (does s (asks x y)) = ask-right s x y
+number-lowest C (opens t m) = opening-right C t m
+number-lowest C (makes t m k) = made-right C t m k
+number-lowest C (does s (supposes x y)) = suppose-right C s x y
+number-lowest C (does s takesBack) = back-right C s
+number-lowest C (does s (asks x y)) = ask-right C s x y

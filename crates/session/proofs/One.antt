@@ -3,6 +3,7 @@
 --   FUNCTION-settles == the contract settles what the function gives back
 use mathlib.Core.Path.{_∙_, sym}
 use Rattle.laws.specs.Settles.{Settles}
+use Rattle.session.proofs.Forcing.{closings-some}
 use Rattle.session.proofs.calls.open.Reads as opens
 use Rattle.session.proofs.calls.open.Kinds as open-kinds
 use Rattle.session.proofs.calls.afresh.Reads as afresh
@@ -15,16 +16,16 @@ use Rattle.session.proofs.calls.ask.Reads as ask
 use Rattle.session.proofs.calls.ask.Kinds as ask-kinds
 
 pub open-settles : Settles 0 open-kinds.ps open-kinds.r opens.Post
-open-settles κs a x y s t p q = p ∙ sym q
+open-settles κs a x y s t p q = p closings-some ∙ sym (q closings-some)
 
 pub afresh-settles : Settles 0 afresh-kinds.ps afresh-kinds.r afresh.Post
-afresh-settles κs a x y s t p q = p ∙ sym q
+afresh-settles κs a x y s t p q = p closings-some ∙ sym (q closings-some)
 
 pub suppose-settles : Settles 0 suppose-kinds.ps suppose-kinds.r suppose.Post
-suppose-settles κs a x y s t p q = p ∙ sym q
+suppose-settles κs a x y s t p q = p closings-some ∙ sym (q closings-some)
 
 pub take-back-settles : Settles 0 take-back-kinds.ps take-back-kinds.r take-back.Post
-take-back-settles κs a x y s t p q = p ∙ sym q
+take-back-settles κs a x y s t p q = p closings-some ∙ sym (q closings-some)
 
 pub ask-settles : Settles 0 ask-kinds.ps ask-kinds.r ask.Post
-ask-settles κs a x y s t p q = p ∙ sym q
+ask-settles κs a x y s t p q = p closings-some ∙ sym (q closings-some)

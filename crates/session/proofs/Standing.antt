@@ -28,6 +28,7 @@ use Rattle.pairs.specs.Kept.{SC}
 use Rattle.session.specs.Bounds.{PAIRS}
 use Rattle.session.specs.Stack.{unused, supposable, Allowed, stacked, standing, pushed, popped}
 use Rattle.session.specs.Opening.{openingOf, isDone, openable}
+use Rattle.session.specs.Closings.{Closings}
 use Rattle.session.specs.Session.{afresh, intact, blank}
 use Rattle.session.specs.Entries.{supposeTurn, takeBackTurn, openOf, supposeOf, takeBackOf, askOf}
 use Rattle.session.specs.Numbers.{refusal, Act, supposes, takesBack, asks, replyOf}
@@ -82,71 +83,10 @@ module _ (t : Trace) where
   kept-allowed ps al takesBack = fewer-allowed ps al
   kept-allowed ps al (asks x y) = al
 
-  module _ (m : ℕ) (o : So (openable t m)) where
-    module _ (ps : List Pair) (al : Allowed t ps) where
-      -- the session, and that it passes its test
-      abbrev here : Session
-      here = afresh t m ps
-
-      whole : So (intact here)
-      whole = afresh-intact t m ps o al
-
-      suppose-kept : (x y : ℕ) → left (supposeOf here x y) ≡ afresh t m (kept t ps (supposes x y))
-      unfolding afresh
-      suppose-kept x y = go (takes ps p) refl
-        where
-          p : Pair
-          p = record { first = x; second = y }
-
-          go : (b : Bool) → takes ps p ≡ b → left (supposeOf here x y) ≡ afresh t m (cond b (ps ++ p ∷ []) ps)
-          go true e =
-              let g = taken ps p e in
-              let i = supposable-iff t p .0 (g .0) in
-              let d = pair-done here x y whole (and-iff same-iff same-iff .1 (i .0)) (i .1) in
-              let q = suppose-done here x y (ap isDone d) (omega (arith, afresh-count t m ps, g .1)) in
-              sym (ap left (suppose-taken here x y (supposeTurn here x y) refl (ap isDone q) (afresh t m (standing (here .stack) ++ p ∷ [])) refl))
-              ∙ ap (λ qs. afresh t m (qs ++ p ∷ [])) (afresh-standing t m ps)
-          go false e =
-              let n = off (λ s. let r = suppose-allows here x y s in false≢true (sym e ∙ takes-by ps p (r .1) (omega (arith, afresh-count t m ps, r .2)))) in
-              sym (ap left (suppose-refused here x y (supposeTurn here x y) refl n))
-
-      back-kept : left (takeBackOf here) ≡ afresh t m (take (length ps - 1) ps)
-      unfolding afresh
-      back-kept = elim (eq? (here .stack .count) 0) [
-        | inl e ↦
-            sym (ap left (back-refused here (takeBackTurn here) refl (ap isDone (back-none here whole e))))
-            ∙ ap (afresh t m) (sym (take-all (length ps - 1) ps (omega (arith, afresh-count t m ps))))
-        | inr d ↦
-            sym (ap left (back-taken here (takeBackTurn here) refl (ap isDone (back-done here whole d)) _ refl))
-            ∙ ap (λ qs. afresh t m (take (length qs - 1) qs)) (afresh-standing t m ps)
-      ]
-
-      pub act-kept : (a : Act) → left (replyOf here a) ≡ afresh t m (kept t ps a)
-      unfolding askOf
-      act-kept (supposes x y) = suppose-kept x y
-      act-kept takesBack = back-kept
-      act-kept (asks x y) = refl
-
-    pub after-afresh : (cs : List Act) (ps : List Pair) → Allowed t ps → after (afresh t m ps) cs ≡ afresh t m (standingAfter t ps cs)
-    unfolding after standingAfter
-    after-afresh [] ps al = refl
-    after-afresh (a ∷ cs) ps al = ap (λ s. after s cs) (act-kept ps al a) ∙ after-afresh cs (kept t ps a) (kept-allowed ps al a)
-
-    pub opened : left (openOf t m) ≡ afresh t m []
-    unfolding openable
-    opened = sym (ap left (open-done t m (openingOf t m) refl o (afresh t m []) refl))
-
-    pub after-opened : (cs : List Act) → after (left (openOf t m)) cs ≡ afresh t m (standingAfter t [] cs)
-    after-opened cs = ap (λ s. after s cs) opened ∙ after-afresh cs [] (none-allowed t)
-
   standing-allowed : (cs : List Act) (ps : List Pair) → Allowed t ps → Allowed t (standingAfter t ps cs)
   unfolding standingAfter
   standing-allowed [] ps al = al
   standing-allowed (a ∷ cs) ps al = standing-allowed cs (kept t ps a) (kept-allowed ps al a)
-
-  pub after-intact : (m : ℕ) → So (openable t m) → (cs : List Act) → So (intact (after (left (openOf t m)) cs))
-  after-intact m o cs =
-      subst (λ (s : Session). So (intact s)) (sym (after-opened m o cs)) (afresh-intact t m (standingAfter t [] cs) o (standing-allowed cs [] (none-allowed t)))
 
   -- a pair of an allowed list is taken
   next-taken : (ps : List Pair) (q : Pair) (qs : List Pair) → Allowed t (ps ++ q ∷ qs) → So (takes ps q)
@@ -163,17 +103,72 @@ module _ (t : Trace) where
       ∙ supposed-all qs (ps ++ q ∷ []) (subst (λ (l : List Pair). Allowed t l) (sym (append-assoc ps (q ∷ []) qs)) al)
       ∙ append-assoc ps (q ∷ []) qs
 
-  pub after-again : (m : ℕ) → So (openable t m) → (cs : List Act) → after (left (openOf t m)) cs ≡ after (left (openOf t m)) (supposeAll (standingAfter t [] cs))
+module _ (C : Closings) (t : Trace) where
+  module _ (m : ℕ) (o : So (openable t m)) where
+    module _ (ps : List Pair) (al : Allowed t ps) where
+      -- the session, and that it passes its test
+      abbrev here : Session
+      here = afresh C t m ps
+
+      whole : So (intact C here)
+      whole = afresh-intact C t m ps o al
+
+      suppose-kept : (x y : ℕ) → left (supposeOf C here x y) ≡ afresh C t m (kept t ps (supposes x y))
+      unfolding afresh
+      suppose-kept x y = go (takes t ps p) refl
+        where
+          p : Pair
+          p = record { first = x; second = y }
+
+          go : (b : Bool) → takes t ps p ≡ b → left (supposeOf C here x y) ≡ afresh C t m (cond b (ps ++ p ∷ []) ps)
+          go true e =
+              let g = taken t ps p e in
+              let i = supposable-iff t p .0 (g .0) in
+              let d = pair-done C here x y whole (and-iff same-iff same-iff .1 (i .0)) (i .1) in
+              let q = suppose-done C here x y (ap isDone d) (omega (arith, afresh-count C t m ps, g .1)) in
+              sym (ap left (suppose-taken C here x y (supposeTurn C here x y) refl (ap isDone q) (afresh C t m (standing (here .stack) ++ p ∷ [])) refl))
+              ∙ ap (λ qs. afresh C t m (qs ++ p ∷ [])) (afresh-standing C t m ps)
+          go false e =
+              let n = off (λ s. let r = suppose-allows C here x y s in false≢true (sym e ∙ takes-by t ps p (r .1) (omega (arith, afresh-count C t m ps, r .2)))) in
+              sym (ap left (suppose-refused C here x y (supposeTurn C here x y) refl n))
+
+      back-kept : left (takeBackOf C here) ≡ afresh C t m (take (length ps - 1) ps)
+      unfolding afresh
+      back-kept = elim (eq? (here .stack .count) 0) [
+        | inl e ↦
+            sym (ap left (back-refused C here (takeBackTurn C here) refl (ap isDone (back-none C here whole e))))
+            ∙ ap (afresh C t m) (sym (take-all (length ps - 1) ps (omega (arith, afresh-count C t m ps))))
+        | inr d ↦
+            sym (ap left (back-taken C here (takeBackTurn C here) refl (ap isDone (back-done C here whole d)) _ refl))
+            ∙ ap (λ qs. afresh C t m (take (length qs - 1) qs)) (afresh-standing C t m ps)
+      ]
+
+      pub act-kept : (a : Act) → left (replyOf C here a) ≡ afresh C t m (kept t ps a)
+      unfolding askOf
+      act-kept (supposes x y) = suppose-kept x y
+      act-kept takesBack = back-kept
+      act-kept (asks x y) = refl
+
+    pub after-afresh : (cs : List Act) (ps : List Pair) → Allowed t ps → after C (afresh C t m ps) cs ≡ afresh C t m (standingAfter t ps cs)
+    unfolding after standingAfter
+    after-afresh [] ps al = refl
+    after-afresh (a ∷ cs) ps al = ap (λ s. after C s cs) (act-kept ps al a) ∙ after-afresh cs (kept t ps a) (kept-allowed t ps al a)
+
+    pub opened : left (openOf C t m) ≡ afresh C t m []
+    unfolding openable
+    opened = sym (ap left (open-done C t m (openingOf t m) refl o (afresh C t m []) refl))
+
+    pub after-opened : (cs : List Act) → after C (left (openOf C t m)) cs ≡ afresh C t m (standingAfter t [] cs)
+    after-opened cs = ap (λ s. after C s cs) opened ∙ after-afresh cs [] (none-allowed t)
+
+  pub after-intact : (m : ℕ) → So (openable t m) → (cs : List Act) → So (intact C (after C (left (openOf C t m)) cs))
+  after-intact m o cs =
+      subst (λ (s : Session). So (intact C s)) (sym (after-opened m o cs)) (afresh-intact C t m (standingAfter t [] cs) o (standing-allowed t cs [] (none-allowed t)))
+
+  pub after-again : (m : ℕ) → So (openable t m) → (cs : List Act) → after C (left (openOf C t m)) cs ≡ after C (left (openOf C t m)) (supposeAll (standingAfter t [] cs))
   after-again m o cs =
       after-opened m o cs
-      ∙ sym (after-opened m o (supposeAll (standingAfter t [] cs)) ∙ ap (afresh t m) (supposed-all (standingAfter t [] cs) [] (standing-allowed cs [] (none-allowed t))))
-
-pub open-blank : (t : Trace) (m : ℕ) → openable t m ≡ false → left (openOf t m) ≡ blank
-unfolding openable
-open-blank t m n = sym (ap left (open-refused t m (openingOf t m) refl n blank refl))
-
-pub after-refused : (t : Trace) (m : ℕ) → openable t m ≡ false → (cs : List Act) → after (left (openOf t m)) cs ≡ afresh empty SC (standingAfter empty [] cs)
-after-refused t m n cs = ap (λ s. after s cs) (open-blank t m n) ∙ after-afresh empty SC empty-opens cs [] (none-allowed empty)
+      ∙ sym (after-opened m o (supposeAll (standingAfter t [] cs)) ∙ ap (afresh C t m) (supposed-all t (standingAfter t [] cs) [] (standing-allowed t cs [] (none-allowed t))))
 
 -- an answer with a number is not done
 not-done : (a : Answer) (n : ℕ) → refusal a ≡ some n → isDone a ≡ false
@@ -184,20 +179,28 @@ not-done Contradicted n e = refl
 not-done (NoSource x) n e = refl
 not-done (Refused r) n e = refl
 
-pub act-stays : (s : Session) (a : Act) → isDone (replyOf s a .answer) ≡ false → left (replyOf s a) ≡ s
-unfolding supposeOf takeBackOf askOf
-act-stays s (supposes x y) e = sym (ap left (suppose-refused s x y (supposeTurn s x y) refl e))
-act-stays s takesBack e = sym (ap left (back-refused s (takeBackTurn s) refl e))
-act-stays s (asks x y) e = refl
+module _ (C : Closings) where
+  pub open-blank : (t : Trace) (m : ℕ) → openable t m ≡ false → left (openOf C t m) ≡ blank C
+  unfolding openable
+  open-blank t m n = sym (ap left (open-refused C t m (openingOf t m) refl n (blank C) refl))
 
-pub act-given : (s : Session) (a : Act) (n : ℕ) → refusal (replyOf s a .answer) ≡ some n → left (replyOf s a) ≡ s
-act-given s a n e = act-stays s a (not-done (replyOf s a .answer) n e)
+  pub after-refused : (t : Trace) (m : ℕ) → openable t m ≡ false → (cs : List Act) → after C (left (openOf C t m)) cs ≡ afresh C empty SC (standingAfter empty [] cs)
+  after-refused t m n cs = ap (λ s. after C s cs) (open-blank t m n) ∙ after-afresh C empty SC empty-opens cs [] (none-allowed empty)
 
-pub act-unlike : (s : Session) → intact s ≡ false → (a : Act) → left (replyOf s a) ≡ s
-unfolding askOf
-act-unlike s n (supposes x y) =
-    let e = pair-unlike s x y n in
-    let u = suppose-pair s x y (ap isDone e) ∙ e in
-    sym (ap left (suppose-refused s x y (supposeTurn s x y) refl (ap isDone u)))
-act-unlike s n takesBack = sym (ap left (back-refused s (takeBackTurn s) refl (ap isDone (back-unlike s n))))
-act-unlike s n (asks x y) = refl
+  pub act-stays : (s : Session) (a : Act) → isDone (replyOf C s a .answer) ≡ false → left (replyOf C s a) ≡ s
+  unfolding supposeOf takeBackOf askOf
+  act-stays s (supposes x y) e = sym (ap left (suppose-refused C s x y (supposeTurn C s x y) refl e))
+  act-stays s takesBack e = sym (ap left (back-refused C s (takeBackTurn C s) refl e))
+  act-stays s (asks x y) e = refl
+
+  pub act-given : (s : Session) (a : Act) (n : ℕ) → refusal (replyOf C s a .answer) ≡ some n → left (replyOf C s a) ≡ s
+  act-given s a n e = act-stays s a (not-done (replyOf C s a .answer) n e)
+
+  pub act-unlike : (s : Session) → intact C s ≡ false → (a : Act) → left (replyOf C s a) ≡ s
+  unfolding askOf
+  act-unlike s n (supposes x y) =
+      let e = pair-unlike C s x y n in
+      let u = suppose-pair C s x y (ap isDone e) ∙ e in
+      sym (ap left (suppose-refused C s x y (supposeTurn C s x y) refl (ap isDone u)))
+  act-unlike s n takesBack = sym (ap left (back-refused C s (takeBackTurn C s) refl (ap isDone (back-unlike C s n))))
+  act-unlike s n (asks x y) = refl

@@ -1,6 +1,6 @@
 -- What any list of calls comes to.
 --
---   after s cs           == the session after the calls, turned back or not
+--   after C s cs         == the session after the calls, turned back or not
 --   kept t ps a          == the pairs that stand after a call, where ps stood before it
 --   standingAfter t ps cs == the same for any calls
 --   supposeAll ps        == the calls that suppose the pairs of a list in turn
@@ -12,13 +12,14 @@ use lib.ListN.{length, take}
 use Rattle.trace.specs.declared.Trace.{Trace}
 use Rattle.session.specs.Bounds.{PAIRS}
 use Rattle.session.specs.Stack.{supposable}
+use Rattle.session.specs.Closings.{Closings}
 use Rattle.session.specs.Numbers.{Act, supposes, takesBack, asks, replyOf}
 use Rattle.session.specs.declared.Pair.{Pair}
 use Rattle.session.specs.declared.Session.{Session}
 
-unfoldable pub after : Session → List Act → Session
-after s [] = s
-after s (a ∷ cs) = after (replyOf s a .session) cs
+unfoldable pub after : Closings → Session → List Act → Session
+after C s [] = s
+after C s (a ∷ cs) = after C (replyOf C s a .session) cs
 
 abbrev pub kept : Trace → List Pair → Act → List Pair
 kept t ps (supposes x y) = cond (supposable t (record { first = x; second = y }) && ltb (length ps) PAIRS) (ps ++ record { first = x; second = y } ∷ []) ps

@@ -1,12 +1,12 @@
--- What each call answers, and the session after it.
+-- What each call answers, and the session after it. C has what the rules come to.
 --
---   pairTurn s x y    == whether a session takes x, y as a pair to speak of (12, 13, 14)
---   supposeTurn s x y == whether it takes it as one pair more (12 to 15)
---   takeBackTurn s    == whether it has a pair to take back (12, 16)
---   toldOf s x y      == what the session's table says of a pair
---   next a s′ s       == the session after a call: s′ where nothing was turned back, otherwise the session as given
+--   pairTurn C s x y    == whether a session takes x, y as a pair to speak of (12, 13, 14)
+--   supposeTurn C s x y == whether it takes it as one pair more (12 to 15)
+--   takeBackTurn C s    == whether it has a pair to take back (12, 16)
+--   toldOf s x y        == what the session's table says of a pair
+--   next a s′ s         == the session after a call: s′ where nothing was turned back, otherwise the session as given
 --   openOf, supposeOf, takeBackOf, askOf == the calls
---   afreshOf t m k    == the session on a trace and a model with the pairs that a stack keeps; 12 where none such can be opened
+--   afreshOf C t m k    == the session on a trace and a model with the pairs that a stack keeps; 12 where none such can be opened
 use mathlib.Core.Bool.{cond, _&&_}
 use mathlib.Core.List.{[], _∷_, _++_}
 use Prim.Native.Nat.{ℕ, _-_}
@@ -18,6 +18,7 @@ use Rattle.rows.specs.Rows.{bit}
 use Rattle.session.specs.Bounds.{PAIRS}
 use Rattle.session.specs.Stack.{standing, stands}
 use Rattle.session.specs.Opening.{openingOf, isDone, openable}
+use Rattle.session.specs.Closings.{Closings}
 use Rattle.session.specs.Session.{afresh, intact, blank}
 use Rattle.session.specs.declared.Reason.the-variants.{Unlike, NoOperation, OneRecord, TooManyPairs, NoPair}
 use Rattle.session.specs.declared.Answer.{Answer}
@@ -26,18 +27,18 @@ use Rattle.session.specs.declared.Stack.{Stack}
 use Rattle.session.specs.declared.Session.{Session}
 use Rattle.session.specs.declared.Reply.{Reply}
 
-unfoldable pub pairTurn : Session → ℕ → ℕ → Answer
-pairTurn s x y =
-    cond (intact s)
+unfoldable pub pairTurn : Closings → Session → ℕ → ℕ → Answer
+pairTurn C s x y =
+    cond (intact C s)
     (cond (frameOf (s .trace) .operation x && frameOf (s .trace) .operation y) (cond (eqb x y) (Refused OneRecord) Done) (Refused NoOperation))
     (Refused Unlike)
 
-unfoldable pub supposeTurn : Session → ℕ → ℕ → Answer
-supposeTurn s x y =
-    cond (isDone (pairTurn s x y)) (cond (leb PAIRS (s .stack .count)) (Refused TooManyPairs) Done) (pairTurn s x y)
+unfoldable pub supposeTurn : Closings → Session → ℕ → ℕ → Answer
+supposeTurn C s x y =
+    cond (isDone (pairTurn C s x y)) (cond (leb PAIRS (s .stack .count)) (Refused TooManyPairs) Done) (pairTurn C s x y)
 
-unfoldable pub takeBackTurn : Session → Answer
-takeBackTurn s = cond (intact s) (cond (eqb (s .stack .count) 0) (Refused NoPair) Done) (Refused Unlike)
+unfoldable pub takeBackTurn : Closings → Session → Answer
+takeBackTurn C s = cond (intact C s) (cond (eqb (s .stack .count) 0) (Refused NoPair) Done) (Refused Unlike)
 
 unfoldable pub toldOf : Session → ℕ → ℕ → Answer
 toldOf s x y = cond (s .contradicted) Contradicted (cond (bit (s .held) x y) Held NotHeld)
@@ -45,26 +46,26 @@ toldOf s x y = cond (s .contradicted) Contradicted (cond (bit (s .held) x y) Hel
 abbrev pub next : Answer → Session → Session → Session
 next a s′ s = cond (isDone a) s′ s
 
-unfoldable pub openOf : Trace → ℕ → Reply
-openOf t m = record { answer = openingOf t m; session = next (openingOf t m) (afresh t m []) blank }
+unfoldable pub openOf : Closings → Trace → ℕ → Reply
+openOf C t m = record { answer = openingOf t m; session = next (openingOf t m) (afresh C t m []) (blank C) }
 
-unfoldable pub afreshOf : Trace → ℕ → Stack → Reply
-afreshOf t m k =
+unfoldable pub afreshOf : Closings → Trace → ℕ → Stack → Reply
+afreshOf C t m k =
     cond (openable t m && stands t k)
-    (record { answer = Done; session = afresh t m (standing k) })
-    (record { answer = Refused Unlike; session = blank })
+    (record { answer = Done; session = afresh C t m (standing k) })
+    (record { answer = Refused Unlike; session = blank C })
 
-unfoldable pub supposeOf : Session → ℕ → ℕ → Reply
-supposeOf s x y = record {
-  answer = supposeTurn s x y;
-  session = next (supposeTurn s x y) (afresh (s .trace) (s .model) (standing (s .stack) ++ record { first = x; second = y } ∷ [])) s;
+unfoldable pub supposeOf : Closings → Session → ℕ → ℕ → Reply
+supposeOf C s x y = record {
+  answer = supposeTurn C s x y;
+  session = next (supposeTurn C s x y) (afresh C (s .trace) (s .model) (standing (s .stack) ++ record { first = x; second = y } ∷ [])) s;
 }
 
-unfoldable pub takeBackOf : Session → Reply
-takeBackOf s = record {
-  answer = takeBackTurn s;
-  session = next (takeBackTurn s) (afresh (s .trace) (s .model) (take (length (standing (s .stack)) - 1) (standing (s .stack)))) s;
+unfoldable pub takeBackOf : Closings → Session → Reply
+takeBackOf C s = record {
+  answer = takeBackTurn C s;
+  session = next (takeBackTurn C s) (afresh C (s .trace) (s .model) (take (length (standing (s .stack)) - 1) (standing (s .stack)))) s;
 }
 
-unfoldable pub askOf : Session → ℕ → ℕ → Reply
-askOf s x y = record { answer = cond (isDone (pairTurn s x y)) (toldOf s x y) (pairTurn s x y); session = s }
+unfoldable pub askOf : Closings → Session → ℕ → ℕ → Reply
+askOf C s x y = record { answer = cond (isDone (pairTurn C s x y)) (toldOf s x y) (pairTurn C s x y); session = s }

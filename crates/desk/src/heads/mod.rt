@@ -8,8 +8,7 @@ ghost use lib.ListN.{length, take, drop};
 ghost use Rattle.laws.specs.Sums.{num};
 ghost use Rattle.laws.specs.Warshall.{row};
 ghost use Rattle.session.specs.Bounds.{PAIRS};
-ghost use Rattle.session.specs.Session.{Intact};
-ghost use Rattle.desk.specs.Head.{FRONT, MARKS, HEAD, pairByte, frontAt, markAt, headOf};
+ghost use Rattle.desk.specs.Head.{Fit, FRONT, MARKS, HEAD, pairByte, frontAt, markAt, headOf};
 ghost use Rattle.desk.specs.Kept.{stackIn};
 use session::PAIRS;
 use session::Pair;
@@ -45,7 +44,7 @@ fn mark(b: bool) -> u8
 
 // Byte i of a session's pairs.
 fn pair_byte(s: Session, i: usize) -> u8
-    requires { ⌜ Intact s × (i < 2 * PAIRS) ⌝ }
+    requires { ⌜ Fit s × (i < 2 * PAIRS) ⌝ }
     ensures { λ r. ⌜ r ≡ pairByte (s .stack) i ⌝ }
 {
     let k = s.stack;
@@ -58,7 +57,7 @@ fn pair_byte(s: Session, i: usize) -> u8
 
 // Byte i of a session's front.
 fn front(s: Session, i: usize) -> u8
-    requires { ⌜ Intact s ⌝ }
+    requires { ⌜ Fit s ⌝ }
     ensures { λ r. ⌜ r ≡ frontAt s i ⌝ }
 {
     if i == 0 {
@@ -76,7 +75,7 @@ fn front(s: Session, i: usize) -> u8
 
 // Lays the front of a session down.
 fn lay_front(s: Session, out: &mut [u8])
-    requires { ⌜ Intact s × (FRONT ≤ length (now out)) ⌝ }
+    requires { ⌜ Fit s × (FRONT ≤ length (now out)) ⌝ }
     ensures { λ r. ⌜ now (out .exit) ≡ row (frontAt s) 0 FRONT ++ drop FRONT (now (out .entry)) ⌝ }
 {
     let mut i: usize = 0;
@@ -100,7 +99,7 @@ fn lay_marks(held: &[u64], out: &mut [u8])
 
 // Lays the head of a session down; what stands behind it stays.
 pub(crate) fn lay(s: Session, out: &mut [u8])
-    requires { ⌜ Intact s × (HEAD ≤ length (now out)) ⌝ }
+    requires { ⌜ Fit s × (HEAD ≤ length (now out)) ⌝ }
     ensures { λ r. ⌜ now (out .exit) ≡ headOf s ++ drop HEAD (now (out .entry)) ⌝ }
 {
     lay_front(s, out);
@@ -148,7 +147,7 @@ fn same(a: &[u8], b: &[u8]) -> bool
 
 // Whether bytes begin with the head of a session.
 pub(crate) fn agrees(s: Session, bytes: &[u8]) -> bool
-    requires { ⌜ Intact s × (HEAD ≤ length (now bytes)) ⌝ }
+    requires { ⌜ Fit s × (HEAD ≤ length (now bytes)) ⌝ }
     ensures { λ r. ⌜ So r ↔ (headOf s ≡ take HEAD (now (bytes .entry))) ⌝ }
 {
     let mut due = [0u8; HEAD];

@@ -5,9 +5,10 @@ ghost use mathlib.Core.Bool.{false};
 ghost use mathlib.Core.List.{_++_};
 ghost use Prim.Native.Nat.{_≤_};
 ghost use lib.ListN.{length, drop};
-ghost use Rattle.session.specs.Session.{Intact, blank};
+ghost use Rattle.session.specs.Closings.{Closings};
+ghost use Rattle.session.specs.Session.{blank};
 ghost use Rattle.session.specs.Numbers.{reasonNumber, supposes, takesBack, asks};
-ghost use Rattle.desk.specs.Head.{HEAD, headOf};
+ghost use Rattle.desk.specs.Head.{Fit, HEAD, headOf};
 ghost use Rattle.desk.specs.Kept.{keptOf};
 ghost use Rattle.desk.specs.Acts.{codeOf, answerIn, bytesIn};
 ghost use Rattle.desk.specs.Opened.{openNumber, openSession, openAnswer, openBytes};
@@ -79,7 +80,7 @@ fn code(a: Answer) -> u8
 
 // The session beside a refusal: that of the empty trace under model 1.
 fn blank() -> Session
-    ensures { λ r. ⌜ r ≡ blank ⌝ }
+    ensures { λ r. ⌜ ((C : Closings) → r ≡ blank C) ⌝ }
 {
     let reply = open(trace::empty(), SC);
     reply.session
@@ -87,7 +88,7 @@ fn blank() -> Session
 
 // What bytes are that are those of no session.
 fn unlike() -> Lent
-    ensures { λ r. ⌜ (r .like ≡ false) × (r .session ≡ blank) ⌝ }
+    ensures { λ r. ⌜ (r .like ≡ false) × ((C : Closings) → r .session ≡ blank C) ⌝ }
 {
     let session = blank();
     Lent {
@@ -98,7 +99,7 @@ fn unlike() -> Lent
 
 // The session that lent bytes are, made afresh from their text, their model and their pairs, and held against them.
 fn kept(bytes: &[u8]) -> Lent
-    ensures { λ r. ⌜ r ≡ keptOf (now (bytes .entry)) ⌝ }
+    ensures { λ r. ⌜ ((C : Closings) → r ≡ keptOf C (now (bytes .entry))) ⌝ }
 {
     if bytes.len() < HEAD {
         return unlike();
@@ -125,7 +126,7 @@ fn kept(bytes: &[u8]) -> Lent
 
 // The session after a call, laid over the one before it, and the answer.
 fn leave(reply: Reply, session: &mut [u8]) -> u8
-    requires { ⌜ Intact (reply .session) × (HEAD ≤ length (now session)) ⌝ }
+    requires { ⌜ Fit (reply .session) × (HEAD ≤ length (now session)) ⌝ }
     ensures { λ r. ⌜ (r ≡ codeOf (reply .answer)) × (now (session .exit) ≡ headOf (reply .session) ++ drop HEAD (now (session .entry))) ⌝ }
 {
     lay(reply.session, session);
@@ -135,7 +136,7 @@ fn leave(reply: Reply, session: &mut [u8]) -> u8
 
 // What opening a session on a text's trace comes to: the text's own number first.
 fn opening(text: &[u8], model: u8) -> Opened
-    ensures { λ r. ⌜ (r .number ≡ openNumber (now (text .entry)) model) × (r .session ≡ openSession (now (text .entry)) model) ⌝ }
+    ensures { λ r. ⌜ (r .number ≡ openNumber (now (text .entry)) model) × ((C : Closings) → r .session ≡ openSession C (now (text .entry)) model) ⌝ }
 {
     let reading = read(text);
     let told = reading.answer;
@@ -157,7 +158,7 @@ fn opening(text: &[u8], model: u8) -> Opened
 // model 1. All other bytes stay.
 #[no_mangle]
 pub extern "C" fn wheelotter_open(text: &[u8], model: u8, session: &mut [u8]) -> u8
-    ensures { λ r. ⌜ (r ≡ openAnswer (now (text .entry)) model (now (session .entry))) × (now (session .exit) ≡ openBytes (now (text .entry)) model (now (session .entry))) ⌝ }
+    ensures { λ r. ⌜ (r ≡ openAnswer (now (text .entry)) model (now (session .entry))) × ((C : Closings) → now (session .exit) ≡ openBytes C (now (text .entry)) model (now (session .entry))) ⌝ }
 {
     if session.len() < HEAD {
         return NO_ROOM;
@@ -178,7 +179,7 @@ pub extern "C" fn wheelotter_open(text: &[u8], model: u8, session: &mut [u8]) ->
 // Supposes x before y in a session in bytes.
 #[no_mangle]
 pub extern "C" fn wheelotter_suppose(session: &mut [u8], x: usize, y: usize) -> u8
-    ensures { λ r. ⌜ (r ≡ answerIn (now (session .entry)) (supposes x y)) × (now (session .exit) ≡ bytesIn (now (session .entry)) (supposes x y)) ⌝ }
+    ensures { λ r. ⌜ ((C : Closings) → (r ≡ answerIn C (now (session .entry)) (supposes x y)) × (now (session .exit) ≡ bytesIn C (now (session .entry)) (supposes x y))) ⌝ }
 {
     let found = kept(session);
     if !found.like {
@@ -190,7 +191,7 @@ pub extern "C" fn wheelotter_suppose(session: &mut [u8], x: usize, y: usize) -> 
 // Takes the latest pair back in a session in bytes.
 #[no_mangle]
 pub extern "C" fn wheelotter_take_back(session: &mut [u8]) -> u8
-    ensures { λ r. ⌜ (r ≡ answerIn (now (session .entry)) takesBack) × (now (session .exit) ≡ bytesIn (now (session .entry)) takesBack) ⌝ }
+    ensures { λ r. ⌜ ((C : Closings) → (r ≡ answerIn C (now (session .entry)) takesBack) × (now (session .exit) ≡ bytesIn C (now (session .entry)) takesBack)) ⌝ }
 {
     let found = kept(session);
     if !found.like {
@@ -202,7 +203,7 @@ pub extern "C" fn wheelotter_take_back(session: &mut [u8]) -> u8
 // Whether x before y is held in a session in bytes.
 #[no_mangle]
 pub extern "C" fn wheelotter_ask(session: &[u8], x: usize, y: usize) -> u8
-    ensures { λ r. ⌜ r ≡ answerIn (now (session .entry)) (asks x y) ⌝ }
+    ensures { λ r. ⌜ ((C : Closings) → r ≡ answerIn C (now (session .entry)) (asks x y)) ⌝ }
 {
     let found = kept(session);
     if !found.like {

@@ -7,6 +7,7 @@ ghost use Rattle.trace.specs.Meaning.{frameOf};
 ghost use Rattle.session.specs.Bounds.{PAIRS};
 ghost use Rattle.session.specs.Stack.{supposable, placed, stands, stacked, standing, drawn, Stands};
 ghost use Rattle.session.specs.Opening.{openingOf, isDone, openable};
+ghost use Rattle.session.specs.Closings.{Closings};
 ghost use Rattle.session.specs.Session.{afresh, intact, blank};
 ghost use Rattle.session.specs.Entries.{pairTurn, supposeTurn, takeBackTurn, toldOf, openOf, afreshOf, supposeOf, takeBackOf, askOf};
 use crate::Answer;
@@ -88,7 +89,7 @@ fn draw(k: Stack, rows: &mut [u64])
 // The session on a trace and a model with the pairs of a stack, made afresh: one closing.
 fn made(t: Trace, model: u8, k: Stack) -> Session
     requires { ⌜ So (openable t model) × Stands t k ⌝ }
-    ensures { λ r. ⌜ r ≡ afresh t model (standing k) ⌝ }
+    ensures { λ r. ⌜ ((C : Closings) → r ≡ afresh C t model (standing k)) ⌝ }
 {
     let mut rows = [0u64; rows::CELLS];
     draw(k, &mut rows);
@@ -135,7 +136,7 @@ fn done(a: Answer) -> bool
 
 // Whether a session is the one that its own trace, model and pairs make.
 fn intact(s: Session) -> bool
-    ensures { λ r. ⌜ r ≡ intact s ⌝ }
+    ensures { λ r. ⌜ ((C : Closings) → r ≡ intact C s) ⌝ }
 {
     let t = s.trace;
     let k = s.stack;
@@ -169,14 +170,14 @@ fn unsupposed() -> Stack
 
 // The session beside a refusal: that of the empty trace under model 1.
 fn blank() -> Session
-    ensures { λ r. ⌜ r ≡ blank ⌝ }
+    ensures { λ r. ⌜ ((C : Closings) → r ≡ blank C) ⌝ }
 {
     made(trace::empty(), SC, unsupposed())
 }
 
 // Whether a session takes x, y as a pair to speak of, and why not.
 fn pair_turn(s: Session, x: usize, y: usize) -> Answer
-    ensures { λ r. ⌜ r ≡ pairTurn s x y ⌝ }
+    ensures { λ r. ⌜ ((C : Closings) → r ≡ pairTurn C s x y) ⌝ }
 {
     if !intact(s) {
         return Answer::Refused(Reason::Unlike);
@@ -193,7 +194,7 @@ fn pair_turn(s: Session, x: usize, y: usize) -> Answer
 
 // Whether a session takes x, y as one pair more, and why not.
 fn suppose_turn(s: Session, x: usize, y: usize) -> Answer
-    ensures { λ r. ⌜ r ≡ supposeTurn s x y ⌝ }
+    ensures { λ r. ⌜ ((C : Closings) → r ≡ supposeTurn C s x y) ⌝ }
 {
     let turn = pair_turn(s, x, y);
     if !done(turn) {
@@ -208,7 +209,7 @@ fn suppose_turn(s: Session, x: usize, y: usize) -> Answer
 
 // Whether a session has a pair to take back, and why not.
 fn take_back_turn(s: Session) -> Answer
-    ensures { λ r. ⌜ r ≡ takeBackTurn s ⌝ }
+    ensures { λ r. ⌜ ((C : Closings) → r ≡ takeBackTurn C s) ⌝ }
 {
     if !intact(s) {
         return Answer::Refused(Reason::Unlike);
@@ -236,7 +237,7 @@ fn told(s: Session, x: usize, y: usize) -> Answer
 
 // Opens a session with no pairs. Beside a refusal stands the session of the empty trace under model 1.
 pub fn open(t: Trace, model: u8) -> Reply
-    ensures { λ r. ⌜ r ≡ openOf t model ⌝ }
+    ensures { λ r. ⌜ ((C : Closings) → r ≡ openOf C t model) ⌝ }
 {
     let answer = opening(t, model);
     if done(answer) {
@@ -250,7 +251,7 @@ pub fn open(t: Trace, model: u8) -> Reply
 // The session with the pairs of a stack, for who keeps a session's parts. Where none such can be opened, it is 12 beside the one of the empty trace
 // under model 1.
 pub fn afresh(t: Trace, model: u8, k: Stack) -> Reply
-    ensures { λ r. ⌜ r ≡ afreshOf t model k ⌝ }
+    ensures { λ r. ⌜ ((C : Closings) → r ≡ afreshOf C t model k) ⌝ }
 {
     if done(opening(t, model)) & stands(t, k) {
         let session = made(t, model, k);
@@ -268,7 +269,7 @@ pub fn afresh(t: Trace, model: u8, k: Stack) -> Reply
 
 // Supposes x before y.
 pub fn suppose(s: Session, x: usize, y: usize) -> Reply
-    ensures { λ r. ⌜ r ≡ supposeOf s x y ⌝ }
+    ensures { λ r. ⌜ ((C : Closings) → r ≡ supposeOf C s x y) ⌝ }
 {
     let answer = suppose_turn(s, x, y);
     if !done(answer) {
@@ -288,7 +289,7 @@ pub fn suppose(s: Session, x: usize, y: usize) -> Reply
 
 // Takes the latest pair back, with every edge that came from it and from no other.
 pub fn take_back(s: Session) -> Reply
-    ensures { λ r. ⌜ r ≡ takeBackOf s ⌝ }
+    ensures { λ r. ⌜ ((C : Closings) → r ≡ takeBackOf C s) ⌝ }
 {
     let answer = take_back_turn(s);
     if !done(answer) {
@@ -307,7 +308,7 @@ pub fn take_back(s: Session) -> Reply
 
 // Whether x before y is held, from the session's table.
 pub fn ask(s: Session, x: usize, y: usize) -> Reply
-    ensures { λ r. ⌜ r ≡ askOf s x y ⌝ }
+    ensures { λ r. ⌜ ((C : Closings) → r ≡ askOf C s x y) ⌝ }
 {
     let turn = pair_turn(s, x, y);
     if !done(turn) {

@@ -16,7 +16,7 @@ open-requires : tie.Need-open-requires
 open-requires c κs = search needs
 
 returns : tie.Need-returns
-returns c = ap (λ (r : Reply). r .session) (c .before .open .ensures ∙ ap (λ (t : Trace). openOf t SC) (c .before .before .empty .ensures)) ∙ blank-opened
+returns c C = ap (λ (r : Reply). r .session) (c .before .open .ensures C ∙ ap (λ (t : Trace). openOf C t SC) (c .before .before .empty .ensures)) ∙ blank-opened C
 
 pub blank-spec : {M : Type 1} → statement M
 blank-spec = tie.close (tie.spec empty-requires open-requires returns)

@@ -11,10 +11,10 @@ kept-requires : tie.Need-kept-requires
 kept-requires c κs = search needs
 
 returns : tie.Need-returns
-returns c =
+returns c C =
     let k = c .before .before in
     let s = k .before .before in
-    act-turned _ _ (k .kept .ensures) (not-true _ (c .if1 .taken)) (asks (s .args .x) (s .args .y)) .0
+    act-turned C _ _ (k .kept .ensures C) (not-true _ (c .if1 .taken)) (asks (s .args .x) (s .args .y)) .0
 
 ask-requires : tie.Need-ask-requires
 ask-requires c κs = search needs
@@ -23,11 +23,11 @@ code-requires : tie.Need-code-requires
 code-requires c κs = search needs
 
 returns-2 : tie.Need-returns-2
-returns-2 c =
+returns-2 c C =
     let t = c .before in
     let k = t .before .before .before in
     let s = k .before .before in
-    c .code .ensures ∙ act-answers _ _ (k .kept .ensures) (not-false _ (t .before .if1 .left)) (asks (s .args .x) (s .args .y)) _ (t .ask .ensures)
+    c .code .ensures ∙ act-answers C _ _ (k .kept .ensures C) (not-false _ (t .before .if1 .left)) (asks (s .args .x) (s .args .y)) _ (t .ask .ensures C)
 
 pub wheelotter-ask-spec : {M : Type 1} → statement M
 wheelotter-ask-spec =

@@ -4,10 +4,12 @@ use mathlib.Core.List.{_++_}
 use Prim.Native.Nat.{_+_, _≤_}
 use native.Mathlib.Omega.{arith}
 use lib.ListN.{length, drop}
-use Rattle.session.specs.Session.{Intact}
+use Rattle.session.specs.Closings.{Closings}
 use Rattle.session.specs.declared.Session.{Session}
-use Rattle.desk.specs.Head.{HEAD, headOf}
+use Rattle.desk.specs.Head.{Fit, HEAD, headOf}
 use Rattle.desk.specs.Opened.{openSession}
+use Rattle.session.proofs.Forcing.{closings-some}
+use Rattle.desk.proofs.Laying.{intact-fit}
 use Rattle.desk.proofs.Opens.{session-intact, no-room, open-turned, open-done}
 use borrow.Author.Needs.{needs}
 use Rattle.desk.proofs.sessions.wheelotter_open.Statement.{statement}
@@ -19,9 +21,9 @@ room c = omega arith
 
 -- the head that was laid down
 laid : (c : tie.After-lay) → let a = c .before .before .before .before .before .before .before .args in
-    c .lay .last .1 .0 ≡ headOf (openSession (a .text .now) (a .model)) ++ drop HEAD (a .session .now)
-laid c = let a = c .before .before .before .before .before .before .before .args in
-    c .lay .ensures ∙ ap (λ (s : Session). headOf s ++ drop HEAD (a .session .now)) (c .before .before .opening .ensures .1)
+    (C : Closings) → c .lay .last .1 .0 ≡ headOf (openSession C (a .text .now) (a .model)) ++ drop HEAD (a .session .now)
+laid c C = let a = c .before .before .before .before .before .before .before .args in
+    c .lay .ensures ∙ ap (λ (s : Session). headOf s ++ drop HEAD (a .session .now)) (c .before .before .opening .ensures .1 C)
 
 returns : tie.Need-returns
 returns c = let a = c .before .before .before .args in no-room (a .text .now) (a .model) (a .session .now) (omega arith)
@@ -39,7 +41,7 @@ lay-requires : tie.Need-lay-requires
 lay-requires c κs =
     let o = c .before in
     let a = o .before .before .before .before .before .args in
-    (subst (λ (s : Session). Intact s) (sym (o .opening .ensures .1)) (session-intact (a .text .now) (a .model)), search needs)
+    (subst (λ (s : Session). Fit s) (sym (o .opening .ensures .1 closings-some)) (intact-fit closings-some _ (session-intact (a .text .now) (a .model) closings-some)), search needs)
 
 same-length : tie.Need-same-length
 same-length c = search needs
