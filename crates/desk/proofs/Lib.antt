@@ -2,6 +2,7 @@
 pub mod Part
 pub mod Spelling
 pub mod Laying
+pub mod Tabled
 pub mod Keeping
 pub mod Acting
 pub mod Opens
