@@ -10,7 +10,7 @@ pub enum Call {
     Start,
     End,
     Verdict { model: u8, room: usize },
-    Judge { model: u8, list: Vec<u8> },
+    Judge { model: u8, list: Vec<u16> },
     Open { model: u8, room: usize },
     Suppose { x: usize, y: usize },
     TakeBack,

@@ -1,6 +1,6 @@
 //! One case: a text, the calls on it and on its sessions, and what came of them.
 
-use crate::call::{Call, ENTRIES};
+use crate::call::Call;
 use crate::desk::Desk;
 use crate::lent::Lent;
 use crate::{sessions, texts};
@@ -8,9 +8,7 @@ use second::chance::Chance;
 use second::desk::Page;
 use second::families::{text, Family};
 use second::plan::shown;
-
-/// The answers of the table, and one place more for whatever is none.
-pub const ANSWERS: usize = 25;
+use std::collections::BTreeMap;
 
 #[derive(Clone, Default)]
 pub struct Counts {
@@ -24,8 +22,8 @@ pub struct Counts {
     /// Damaged sessions, and those of them that were a session all the same.
     pub damaged: u64,
     pub still_sessions: u64,
-    /// For each entry how often each answer was wanted; in the last place what is not of the table.
-    pub answers: [[u64; ANSWERS]; ENTRIES.len()],
+    /// For each of `ENTRIES` how often each answer was wanted; None for those that are not of the table.
+    pub answers: BTreeMap<(usize, Option<usize>), u64>,
 }
 
 impl Counts {
@@ -37,8 +35,8 @@ impl Counts {
         self.calls_failed += other.calls_failed;
         self.damaged += other.damaged;
         self.still_sessions += other.still_sessions;
-        for (mine, theirs) in self.answers.iter_mut().flatten().zip(other.answers.iter().flatten()) {
-            *mine += theirs;
+        for (answer, count) in &other.answers {
+            *self.answers.entry(*answer).or_default() += count;
         }
     }
 
@@ -93,8 +91,8 @@ pub fn compared(desk: &impl Desk, family: &Family, seed: u64, number: u64, most_
 impl<D: Desk> Case<'_, D> {
     /// Notes a call with what was wanted and what came; true where they are the same, memory and all.
     pub fn same(&mut self, call: Call, (wanted, mine): (usize, &Lent), (got, theirs): (usize, &Lent)) -> bool {
-        let answer = if call.answers_by_table() { wanted.min(ANSWERS - 1) } else { ANSWERS - 1 };
-        self.counts.answers[call.entry()][answer] += 1;
+        let answer = call.answers_by_table().then_some(wanted);
+        *self.counts.answers.entry((call.entry(), answer)).or_default() += 1;
         let same = wanted == got && mine == theirs;
         if !same {
             let calls: String = self.steps.iter().map(told).collect();

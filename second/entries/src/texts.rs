@@ -6,9 +6,10 @@ use crate::desk::Desk;
 use crate::lent::Lent;
 use second::bench::NOT_KNOWN;
 use second::chance::Chance;
-use second::desk::{NONE_LEFT, ORDER, VERDICT};
+use second::desk::{lay_verdict, number_at, NONE_LEFT, OPERATIONS_AT, ORDER, RULES_AT, VERDICT};
 use second::trace::{Model, MOST_RECORDS};
 use second::verdict::Verdict;
+use wheelotter::REPORT;
 
 /// Models that there are not, besides those that there are.
 pub const OTHER_MODELS: [u8; 5] = [0, 3, 4, 128, 255];
@@ -46,7 +47,7 @@ fn report<D: Desk>(case: &mut Case<'_, D>) -> bool {
         return true;
     }
     let needed = output.len();
-    let rooms = [0, 1, needed - 1, needed, needed + 1, 1115, 1116, 1116, 1200];
+    let rooms = [0, 1, needed - 1, needed, needed + 1, REPORT - 1, REPORT, REPORT, REPORT + 84];
     let room = *case.chance.of(&rooms);
     let mut mine = Lent::drawn(&mut case.chance, room);
     let mut theirs = mine.clone();
@@ -59,8 +60,8 @@ fn report<D: Desk>(case: &mut Case<'_, D>) -> bool {
 fn verdicts<D: Desk>(case: &mut Case<'_, D>) -> bool {
     let chance = &mut case.chance;
     let any = *chance.of(&[0, 1, 2, 3, 255]);
-    let enough = [VERDICT, VERDICT, VERDICT + 1, 200, chance.between(VERDICT, 400)];
-    let short = [0, 1, 64, 65, VERDICT - 1, VERDICT - 1, chance.below(VERDICT)];
+    let enough = [VERDICT, VERDICT, VERDICT + 1, VERDICT + 71, chance.between(VERDICT, 2 * VERDICT)];
+    let short = [0, 1, OPERATIONS_AT, RULES_AT, VERDICT - 1, VERDICT - 1, chance.below(VERDICT)];
     let mut asked: Vec<(u8, usize)> = [1, 2, *chance.of(&OTHER_MODELS)].map(|model| (model, *chance.of(&enough))).to_vec();
     asked.push((any, *chance.of(&short)));
     asked.into_iter().fold(true, |same, (model, room)| verdict(case, model, room) && same)
@@ -79,14 +80,11 @@ fn verdict<D: Desk>(case: &mut Case<'_, D>, model: u8, room: usize) -> bool {
 /// Where the second reading does not know, an order has to be valid, and none left may be; the bytes have to be those of either.
 fn may_be<D: Desk>(case: &mut Case<'_, D>, model: u8, got: u8, mut mine: Lent, theirs: Lent) -> bool {
     let room = theirs.bytes().len();
-    let named = usize::from(theirs.bytes()[0]).min(MOST_RECORDS);
-    let list = theirs.bytes()[1..][..named].to_vec();
-    let wanted = if got == ORDER && case.page.judge(model, &list) { ORDER } else { NONE_LEFT };
-    mine.bytes_mut()[..VERDICT].fill(0);
-    if wanted == ORDER {
-        mine.bytes_mut()[0] = named as u8;
-        mine.bytes_mut()[1..][..named].copy_from_slice(&list);
-    }
+    let named = number_at(theirs.bytes()).min(MOST_RECORDS);
+    let list: Vec<usize> = theirs.bytes()[OPERATIONS_AT..].chunks(2).take(named).map(number_at).collect();
+    let numbers: Vec<u16> = list.iter().map(|&x| x as u16).collect();
+    let wanted = if got == ORDER && case.page.judge(model, &numbers) { ORDER } else { NONE_LEFT };
+    lay_verdict(&mut mine.bytes_mut()[..VERDICT], if wanted == ORDER { &list } else { &[] }, &[]);
     case.same(Call::Verdict { model, room }, (wanted.into(), &mine), (got.into(), &theirs))
 }
 
@@ -103,15 +101,16 @@ fn judged<D: Desk>(case: &mut Case<'_, D>) -> bool {
     same
 }
 
-fn list<D: Desk>(case: &mut Case<'_, D>) -> Vec<u8> {
+fn list<D: Desk>(case: &mut Case<'_, D>) -> Vec<u16> {
     let model = *case.chance.of(&[Model::Sc, Model::Tso]);
+    let numbers = |list: &[usize]| list.iter().map(|&x| x as u16).collect();
     let found = match case.page.verdict_under(model) {
-        Some(Verdict::Order(list)) => Some(list.iter().map(|&x| x as u8).collect()),
+        Some(Verdict::Order(list)) => Some(numbers(list)),
         _ => None,
     };
-    let operations = case.page.trace().map_or(vec![], |trace| trace.operations().into_iter().map(|x| x as u8).collect());
+    let operations = case.page.trace().map_or(vec![], |trace| numbers(&trace.operations()));
     let chance = &mut case.chance;
-    let mut list: Vec<u8> = match found {
+    let mut list: Vec<u16> = match found {
         Some(list) if chance.percent(85) => list,
         _ => operations,
     };
@@ -120,28 +119,40 @@ fn list<D: Desk>(case: &mut Case<'_, D>) -> Vec<u8> {
         4..=7 => (0..chance.between(1, 2)).for_each(|_| damage(chance, &mut list)),
         8 => chance.shuffle(&mut list),
         _ => {
-            let length = *chance.of(&[0, 1, 2, 4, 63, 64, 65, 128, 300]);
-            list = chance.bytes(length).into_iter().map(|byte| if chance.percent(70) { byte % 64 } else { byte }).collect();
+            let length = *chance.of(&[0, 1, 2, 4, MOST_RECORDS - 1, MOST_RECORDS, MOST_RECORDS + 1, 2 * MOST_RECORDS, 300]);
+            list = (0..length).map(|_| any_number(chance, 70)).collect();
         }
     }
     list
 }
 
+/// So many times in a hundred one that a record could have, or nearly; seldom one that would be a record's if its higher byte were lost.
+fn any_number(chance: &mut Chance, percent: usize) -> u16 {
+    let near = chance.below(MOST_RECORDS + 2) as u16;
+    if chance.percent(percent) {
+        near
+    } else if chance.percent(30) {
+        near + 256
+    } else {
+        chance.draw() as u16
+    }
+}
+
 /// Two change places, which may be neighbours; one goes, comes twice, comes in, or is another number.
-fn damage(chance: &mut Chance, list: &mut Vec<u8>) {
-    let (length, any) = (list.len(), chance.draw() as u8);
-    let number = if chance.percent(70) { any % 66 } else { any };
+fn damage(chance: &mut Chance, list: &mut Vec<u16>) {
+    let (length, number) = (list.len(), any_number(chance, 70));
     if length < 2 {
         list.push(number);
         return;
     }
     let (here, there) = (chance.below(length), chance.below(length));
-    match chance.below(8) {
+    match chance.below(9) {
         0 | 1 => list.swap(here, there),
         2 | 3 => list.swap(here, (here + 1) % length),
         4 => drop(list.remove(here)),
         5 => list[here] = list[there],
         6 => list.insert(here, number),
+        7 => list[here] |= 256,
         _ => list[here] = number,
     }
 }
