@@ -13,9 +13,9 @@
 //! A session in bytes: the model; how many pairs stand, in one byte; sixteen pairs, first then second, unused ones 0; 1 where contradicted; a
 //! bit for each x and each y, eight to a byte from the lowest on, 1 where x before y is held; then the text of its trace up to the end.
 
-use crate::bench;
 use crate::orders;
 use crate::reader::{self, Refusal};
+use crate::report;
 use crate::rules::Pair;
 use crate::session::{self, Answer, Session, Talk, MOST_PAIRS};
 use crate::trace::{Model, Trace, MOST_RECORDS};
@@ -90,8 +90,8 @@ impl<'a> Page<'a> {
     /// What the program at the bench prints for this text.
     pub fn output(&self) -> String {
         match &self.reading {
-            Err(refusal) => bench::refused(refusal),
-            Ok(_) => [Model::Sc, Model::Tso].map(|model| bench::line(model, self.verdict_under(model).expect("a good text"))).concat(),
+            Err(refusal) => report::refused(refusal),
+            Ok(_) => [Model::Sc, Model::Tso].map(|model| report::line(model, self.verdict_under(model).expect("a good text"))).concat(),
         }
     }
 

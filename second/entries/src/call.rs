@@ -17,6 +17,9 @@ pub enum Call {
     Ask { x: usize, y: usize },
 }
 
+/// Models that there are not.
+pub const OTHER_MODELS: [u8; 5] = [0, 3, 4, 128, 255];
+
 /// The entries' names without the front that all share, in the order of the header.
 pub const ENTRIES: [&str; 11] = ["report", "number", "line", "start", "end", "verdict", "judge", "open", "suppose", "take_back", "ask"];
 

@@ -5,7 +5,8 @@
 //! `N passed, M failed`: texts and session calls.
 
 use entries::call::ENTRIES;
-use entries::case::{compared, Counts};
+use entries::case::Counts;
+use entries::compare::compared;
 use entries::desk::Proved;
 use second::plan::{ended, Plan};
 use std::collections::BTreeMap;

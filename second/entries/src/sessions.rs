@@ -1,11 +1,10 @@
 //! Sessions on a text: opened in memory of any length, then driven by chance calls; in between, damaged copies are handed in.
 
-use crate::call::Call;
+use crate::call::{Call, OTHER_MODELS};
 use crate::case::{Case, Step};
 use crate::damage::damaged;
 use crate::desk::Desk;
 use crate::lent::Lent;
-use crate::texts::OTHER_MODELS;
 use second::chance::Chance;
 use second::desk::{self, head_of, told, CONTRADICTED_AT, DONE, HEAD, NO_SESSION};
 use second::session::Talk;

@@ -1,18 +1,15 @@
 //! A text: the whole answer, what is wrong with it and where, the verdict in numbers, the judge.
 
-use crate::call::Call;
+use crate::call::{Call, OTHER_MODELS};
 use crate::case::Case;
 use crate::desk::Desk;
 use crate::lent::Lent;
-use second::bench::NOT_KNOWN;
 use second::chance::Chance;
 use second::desk::{lay_verdict, number_at, NONE_LEFT, OPERATIONS_AT, ORDER, RULES_AT, VERDICT};
+use second::report::NOT_KNOWN;
 use second::trace::{Model, MOST_RECORDS};
 use second::verdict::Verdict;
 use wheelotter::REPORT;
-
-/// Models that there are not, besides those that there are.
-pub const OTHER_MODELS: [u8; 5] = [0, 3, 4, 128, 255];
 
 pub fn compare<D: Desk>(case: &mut Case<'_, D>) {
     let readings = readings(case);

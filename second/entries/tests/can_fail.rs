@@ -1,6 +1,6 @@
 //! That the comparison finds what it is there to find: desks that are wrong in one way each, and one that is right.
 
-use entries::case::compared;
+use entries::compare::compared;
 use entries::desk::Desk;
 use second::desk::{
     self, head_of, number_at, place_of, put_number, Page, CONTRADICTED_AT, DONE, HEAD, OPERATIONS_AT, PAIRS_AT, RULES_AT, VERDICT,

@@ -4,11 +4,12 @@
 //! byte for byte. Each difference is printed with its text and both outputs. The very last line is `N passed, M failed`.
 //! Without `-- PROGRAM` only this package runs, to see how fast it is.
 
-use second::bench::{self, NOT_KNOWN};
+use second::bench;
 use second::families::{text, Family};
 use second::orders;
 use second::plan::{ended, shown, Plan};
 use second::reader;
+use second::report::NOT_KNOWN;
 use second::trace::Model;
 use std::collections::BTreeMap;
 use std::io::{self, Read, Write};
