@@ -213,12 +213,9 @@ pub fn taken(bytes: &[u8]) -> Option<Session> {
         return None;
     }
     let trace = reader::read(text).ok()?;
-    let all = (0..MOST_RECORDS).flat_map(|x| (0..MOST_RECORDS).map(move |y| (x, y)));
-    let is_held = |pair: &Pair| {
-        let (byte, bit) = place_of(*pair);
-        head[byte] & bit != 0
-    };
-    let held = all.filter(is_held).collect();
+    let bits = head[TABLE_AT..].iter().enumerate().filter(|(_, byte)| **byte != 0);
+    let bits = bits.flat_map(|(place, byte)| (0..8).filter(move |bit| byte >> bit & 1 == 1).map(move |bit| 8 * place + bit));
+    let held = bits.map(|bit| (bit / MOST_RECORDS, bit % MOST_RECORDS)).collect();
     Some(Session { trace, model: head[0].into(), pairs: pairs.to_vec(), contradicted, held })
 }
 

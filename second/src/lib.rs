@@ -5,6 +5,7 @@
 //!
 //! | Module | Its part of the document |
 //! |---|---|
+//! | `bounds` | the bounds |
 //! | `trace` | what the bench records, models, kept pairs, well formed |
 //! | `reader` | the four line forms, numbers 1 to 8 |
 //! | `rules` | the edges that the rules force, rounds, held, the circle shown |
@@ -18,6 +19,7 @@
 //! | `stated` | the document's own traces with the outputs it states |
 
 pub mod bench;
+pub mod bounds;
 pub mod chance;
 pub mod desk;
 pub mod families;

@@ -3,10 +3,7 @@
 use std::collections::BTreeSet;
 use std::fmt;
 
-pub const MOST_RECORDS: usize = 64;
-pub const LAST_THREAD: u64 = 7;
-pub const LAST_ADDRESS: u64 = 15;
-pub const LAST_VALUE: u64 = 65_535;
+pub use crate::bounds::{LAST_ADDRESS, LAST_THREAD, LAST_VALUE, MOST_RECORDS};
 
 /// The value of every address before anything is written.
 pub const BEGINNING: u64 = 0;
@@ -83,7 +80,7 @@ pub fn text_of(records: &[Record]) -> Vec<u8> {
 
 pub const UNUSED: Record = Record::Fence { thread: 0 };
 
-/// Sixty-four places, of which the first `count` are records. Anyone can build one, well formed or not.
+/// As many places as there may be records, of which the first `count` are records. Anyone can build one, well formed or not.
 #[derive(Clone, Debug, PartialEq, Eq)]
 pub struct Trace {
     pub count: usize,
@@ -95,7 +92,7 @@ impl Trace {
         Trace { count: 0, places: [UNUSED; MOST_RECORDS] }
     }
 
-    /// Panics past 64 records: callers have counted.
+    /// Panics past the most records: callers have counted.
     pub fn of(records: &[Record]) -> Trace {
         let mut trace = Trace::empty();
         trace.places[..records.len()].copy_from_slice(records);

@@ -1,12 +1,12 @@
 //! One way of finding an answer against another, on many texts drawn by chance.
 
-use second::families::{family, text};
+use second::families::{family, text, FAMILIES, USUAL};
 use second::orders::{first_permutation, judge, plain_search, search, First};
 use second::reader::read;
 use second::rules::{around, chains, circle, last_round, Edges, Pair};
 use second::session::{ask, open, suppose, take_back, Answer};
 use second::trace::{kept, text_of, Model, Trace};
-use second::verdict::lowest_without_source;
+use second::verdict::{lowest_without_source, MOST_STEPS};
 use std::collections::{BTreeMap, BTreeSet};
 
 const MODELS: [Model; 2] = [Model::Sc, Model::Tso];
@@ -86,6 +86,28 @@ fn what_the_rules_hold_is_kept_by_every_order_found() {
         }
     }
     assert!(orders > 1_000 && circles > 500, "{orders} orders, {circles} circles");
+}
+
+/// Where the bound allows traces of more than 64 records: the search comes to an end on them, and its orders keep what the rules hold.
+#[test]
+fn long_traces() {
+    let families = FAMILIES.iter().filter(|family| family.seldom);
+    let (mut told, mut not_known) = (0, 0);
+    for trace in families.flat_map(|family| traces(family.name, 30)) {
+        assert!(trace.count > USUAL);
+        for model in MODELS {
+            match search(&trace, model, MOST_STEPS) {
+                First::Order(list) => {
+                    told += 1;
+                    assert!(judge(&trace, model, &list), "{model:?}\n{}", shown(&trace));
+                    assert!(keeps(&list, last_round(&trace, model, &[]).chains.iter()), "{model:?}\n{}", shown(&trace));
+                }
+                First::None => told += 1,
+                First::NotKnown => not_known += 1,
+            }
+        }
+    }
+    assert!(not_known * 20 <= told, "{not_known} not known, {told} told");
 }
 
 fn keeps<'a>(list: &[usize], mut pairs: impl Iterator<Item = &'a Pair>) -> bool {

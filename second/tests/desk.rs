@@ -204,7 +204,7 @@ fn bytes_that_are_taken_are_laid_down_the_same() {
     let mut chance = Chance::new(3);
     let mut taken_apart = 0;
     for case in 0..3_000 {
-        let family = chance.of(&FAMILIES);
+        let family = chance.of(FAMILIES);
         let text = text(family, 21, case);
         let mut lent = vec![0; HEAD + text.len()];
         if Page::new(&text, 1).open(chance.between(1, 2) as u8, &mut lent).0 != DONE {

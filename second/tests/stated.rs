@@ -1,10 +1,10 @@
 //! What document 01 states outright: its traces, its bounds, its session on KNOT.
 
 use second::bench::output;
-use second::reader::read;
+use second::reader::{read, MOST_TEXT};
 use second::session::{ask, open, suppose, take_back, Answer};
 use second::stated::{KNOT, STATED};
-use second::trace::{Record, Trace, UNUSED};
+use second::trace::{Record, Trace, MOST_RECORDS, UNUSED};
 use second::verdict::{judge, verdict, MOST_STEPS};
 
 fn told(text: &str) -> String {
@@ -29,19 +29,20 @@ fn traces_to_try() {
 #[test]
 fn refusals_are_told_in_one_line() {
     assert_eq!(told("0: sync\n0: syn\n"), "refused 3 line 2\n");
-    assert_eq!(output(&[b'\n'; 8_193], MOST_STEPS), "refused 1 line 0\n");
+    assert_eq!(output(&[b'\n'; MOST_TEXT + 1], MOST_STEPS), "refused 1 line 0\n");
 }
 
 #[test]
-fn sixty_four_and_sixty_five_records() {
-    let fences = "0: sync\n".repeat(64);
-    assert_eq!(trace(&fences).count, 64);
+fn the_most_records_and_one_more() {
+    let past = MOST_RECORDS + 1;
+    let fences = "0: sync\n".repeat(MOST_RECORDS);
+    assert_eq!(trace(&fences).count, MOST_RECORDS);
     let one_more = |line: &str| refused(format!("{fences}{line}").as_bytes());
-    assert_eq!(one_more("0: sync\n"), Some((7, 65, b"0: sync".to_vec())));
-    assert_eq!(one_more("0: sync"), Some((3, 65, b"0: sync".to_vec())), "3 ranks before 7");
-    assert_eq!(one_more("0: M[0] := 0\n"), Some((6, 65, b"0: M[0] := 0".to_vec())), "6 ranks before 7");
-    let stores: String = (1..=64).map(|value| format!("0: M[0] := {value}\n")).collect();
-    assert_eq!(trace(&stores).count, 64);
+    assert_eq!(one_more("0: sync\n"), Some((7, past, b"0: sync".to_vec())));
+    assert_eq!(one_more("0: sync"), Some((3, past, b"0: sync".to_vec())), "3 ranks before 7");
+    assert_eq!(one_more("0: M[0] := 0\n"), Some((6, past, b"0: M[0] := 0".to_vec())), "6 ranks before 7");
+    let stores: String = (1..=MOST_RECORDS).map(|value| format!("0: M[0] := {value}\n")).collect();
+    assert_eq!(trace(&stores).count, MOST_RECORDS);
     assert_eq!(refused(format!("{stores}0: M[0] := 1\n").as_bytes()).map(|r| r.0), Some(7), "7 ranks before 8");
 }
 
@@ -55,9 +56,9 @@ fn lines_of_eighty_and_eighty_one_bytes() {
 }
 
 #[test]
-fn texts_of_8192_and_8193_bytes() {
-    let text: Vec<u8> = b"0: sync\n".iter().copied().cycle().take(8_193).collect();
-    assert_eq!(refused(&text[..8_192]), Some((7, 65, b"0: sync".to_vec())));
+fn the_longest_text_and_one_byte_more() {
+    let text: Vec<u8> = b"0: sync\n".iter().copied().cycle().take(MOST_TEXT + 1).collect();
+    assert_eq!(refused(&text[..MOST_TEXT]), Some((7, MOST_RECORDS + 1, b"0: sync".to_vec())));
     assert_eq!(refused(&text), Some((1, 0, Vec::new())));
 }
 
@@ -99,7 +100,7 @@ fn a_value_written_twice_at_one_address() {
 fn models_and_traces_handed_in() {
     let good = trace("0: M[0] := 1\n");
     let mut bad = good.clone();
-    bad.places[63] = Record::Fence { thread: 1 };
+    bad.places[MOST_RECORDS - 1] = Record::Fence { thread: 1 };
     assert_eq!(verdict(&good, 0, 1), Err(9));
     assert_eq!(verdict(&good, 3, 1), Err(9));
     assert_eq!(verdict(&bad, 3, 1), Err(9));
@@ -118,8 +119,8 @@ fn what_spoils_the_form() {
     assert!(!well(&[store(0, 0)]));
     assert!(!well(&[store(0, 1), Record::Swap { thread: 1, address: 0, read: 0, written: 1 }]));
     assert!(!well(&[Record::Fence { thread: 8 }]));
-    assert!(!Trace { count: 65, places: [UNUSED; 64] }.well_formed());
-    assert!(Trace { count: 64, places: [UNUSED; 64] }.well_formed());
+    assert!(!Trace { count: MOST_RECORDS + 1, places: [UNUSED; MOST_RECORDS] }.well_formed());
+    assert!(Trace { count: MOST_RECORDS, places: [UNUSED; MOST_RECORDS] }.well_formed());
 }
 
 #[test]
@@ -197,7 +198,7 @@ fn sessions_that_nobody_opened() {
     changed[3].model = 0;
     changed[4].pairs.push((0, 0));
     changed[5].pairs = vec![(0, 1); 17];
-    changed[6].trace.count = 65;
+    changed[6].trace.count = MOST_RECORDS + 1;
     changed[7].trace.places[1] = Record::Load { thread: 1, address: 1, read: 5 };
     for session in changed {
         assert_eq!(ask(&session, 9, 9), Err((12, session.clone())), "12 ranks before 13");

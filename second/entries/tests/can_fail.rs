@@ -346,7 +346,7 @@ fn last_order(operations: Vec<usize>, valid: impl Fn(&[usize]) -> bool) -> Vec<u
 /// The first difference among so many cases of each family.
 fn first_difference(desk: &Faulty, cases: u64) -> Option<String> {
     let all = (0..cases).flat_map(|case| FAMILIES.iter().map(move |family| (family, case)));
-    all.into_iter().find_map(|(family, case)| {
+    all.filter(|(family, case)| !family.seldom || case % 40 == 0).find_map(|(family, case)| {
         let (counts, differences) = compared(desk, family, 1, case, STEPS);
         assert_eq!(counts.failed() > 0, !differences.is_empty(), "what differs is both told and counted");
         differences.into_iter().next()

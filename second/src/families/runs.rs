@@ -1,5 +1,6 @@
 //! Texts that the reader takes: runs of the simulated machines, runs with changed reads, traces by chance.
 
+use super::USUAL;
 use crate::chance::Chance;
 use crate::machine::{rewritten, run, Shape, Values};
 use crate::reader;
@@ -20,12 +21,20 @@ pub(super) fn records_of(text: &[u8]) -> Vec<Record> {
 }
 
 fn shape(chance: &mut Chance) -> Shape {
-    let records = match chance.below(10) {
+    let records = usual_length(chance);
+    shape_of(chance, records)
+}
+
+fn usual_length(chance: &mut Chance) -> usize {
+    match chance.below(10) {
         0..=3 => chance.between(1, 10),
         4..=6 => chance.between(9, 20),
         7..=8 => chance.between(21, 40),
-        _ => chance.between(41, MOST_RECORDS),
-    };
+        _ => chance.between(41, USUAL),
+    }
+}
+
+fn shape_of(chance: &mut Chance, records: usize) -> Shape {
     let threads = chance.between(1, if records < 8 { 4 } else { 8 });
     let addresses = if chance.percent(70) { chance.between(1, 4) } else { chance.between(1, 16) };
     let stores = *chance.of(&[20, 30, 40, 50]);
@@ -55,6 +64,22 @@ pub(super) fn sc(chance: &mut Chance) -> Vec<u8> {
 
 pub(super) fn tso(chance: &mut Chance) -> Vec<u8> {
     text_of(&ran(chance, true))
+}
+
+fn ran_long(chance: &mut Chance) -> Vec<Record> {
+    let records = chance.between(USUAL + 1, MOST_RECORDS);
+    let (shape, buffered) = (shape_of(chance, records), chance.percent(60));
+    let records = run(chance, &shape, buffered);
+    rewritten(chance, records)
+}
+
+pub(super) fn long(chance: &mut Chance) -> Vec<u8> {
+    text_of(&ran_long(chance))
+}
+
+pub(super) fn long_changed(chance: &mut Chance) -> Vec<u8> {
+    let records = ran_long(chance);
+    text_of(&with_changed_reads(chance, records))
 }
 
 /// Few threads, few addresses, many stores that stay in their buffers: here SC and TSO often part.
