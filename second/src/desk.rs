@@ -18,7 +18,7 @@ use crate::reader::{self, Refusal};
 use crate::report;
 use crate::rules::Pair;
 use crate::session::{self, Answer, Session, Talk, MOST_PAIRS};
-use crate::trace::{Model, Trace, MOST_RECORDS};
+use crate::trace::{Model, Trace, MODELS, MOST_RECORDS};
 use crate::verdict::{verdict, Verdict};
 use std::cell::OnceCell;
 
@@ -68,12 +68,12 @@ pub struct Page<'a> {
     text: &'a [u8],
     most_steps: u64,
     reading: Result<Trace, Refusal<'a>>,
-    verdicts: [OnceCell<Verdict>; 2],
+    verdicts: [OnceCell<Verdict>; MODELS],
 }
 
 impl<'a> Page<'a> {
     pub fn new(text: &'a [u8], most_steps: u64) -> Page<'a> {
-        Page { text, most_steps, reading: reader::read(text), verdicts: [OnceCell::new(), OnceCell::new()] }
+        Page { text, most_steps, reading: reader::read(text), verdicts: [const { OnceCell::new() }; MODELS] }
     }
 
     pub fn trace(&self) -> Option<&Trace> {
@@ -83,15 +83,15 @@ impl<'a> Page<'a> {
     /// Of a good text, under a model that there is.
     pub fn verdict_under(&self, model: Model) -> Option<&Verdict> {
         let trace = self.trace()?;
-        let number = model as usize;
-        Some(self.verdicts[number].get_or_init(|| verdict(trace, 1 + number as u64, self.most_steps).expect("a good trace")))
+        let found = || verdict(trace, model.number(), self.most_steps).expect("a good trace");
+        Some(self.verdicts[model as usize].get_or_init(found))
     }
 
     /// What the program at the bench prints for this text.
     pub fn output(&self) -> String {
         match &self.reading {
             Err(refusal) => report::refused(refusal),
-            Ok(_) => [Model::Sc, Model::Tso].map(|model| report::line(model, self.verdict_under(model).expect("a good text"))).concat(),
+            Ok(_) => Model::all().iter().map(|&model| report::line(model, self.verdict_under(model).expect("a good text"))).collect(),
         }
     }
 

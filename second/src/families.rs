@@ -28,9 +28,12 @@ const ALL: &[Family] = &[
     often("stated", "the traces of document 01, in other text orders too", runs::stated),
     often("sc", "runs of a simulated SC machine", runs::sc),
     often("tso", "runs of a simulated TSO machine", runs::tso),
-    often("weak", "short TSO runs that are slow to drain, a third with a read changed", runs::weak),
+    often("pso", "runs of a simulated PSO machine", runs::pso),
+    often("wmo", "runs of a simulated WMO machine", runs::wmo),
+    often("weak", "short runs under TSO, PSO or WMO that are slow to drain, a third with a read changed", runs::weak),
     often("sc-changed", "the same with one or two reads changed", runs::sc_changed),
     often("tso-changed", "the same with one or two reads changed", runs::tso_changed),
+    often("weaker-changed", "PSO and WMO runs with one or two reads changed", runs::weaker_changed),
     often("knot", "KNOT's shape: renamed, merged, dropped, added, padded, copied", knot::knot),
     often("dense", "2 to 8 operations on 1 or 2 addresses, reads by chance", runs::dense),
     often("middle", "9 to 16 operations on 1 to 3 addresses, reads by chance", runs::middle),
@@ -42,7 +45,7 @@ const ALL: &[Family] = &[
     often("damaged", "a good text with one to three bytes put in, taken out or changed", texts::damaged),
     often("edges-damaged", "a text at a number's edge with one byte put in, taken out or changed", texts::edges_damaged),
     often("bytes", "random bytes, and random pieces of the forms", texts::bytes),
-    seldom("long", "runs of more than 64 records", runs::long),
+    seldom("long", "runs of more than 64 records, under any model that there is", runs::long),
     seldom("long-changed", "the same with one or two reads changed", runs::long_changed),
 ];
 

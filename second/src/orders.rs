@@ -202,7 +202,7 @@ impl<'a> Board<'a> {
 
     /// What y would read if it came next is settled already, whatever follows. Writers that count are those in the list and those before
     /// y in program order. Of the latter any that is still to come stands later than the whole list so far; of several the last in
-    /// program order stands last, since both models keep a pair of two writers. If none is to come, the list's latest is the latest.
+    /// program order stands last, since every model keeps a pair of two writers of one address. If none is to come, the list's latest is the latest.
     fn reads_rightly(&self, state: &State, y: usize) -> bool {
         let Some(read) = self.trace.places[y].read() else { return true };
         let to_come = self.own_writers[y].iter().rev().copied().find(|&w| !state.placed.has(w));
@@ -261,6 +261,8 @@ fn readers(trace: &Trace, address: u64) -> Vec<usize> {
 struct Search<'a> {
     board: Board<'a>,
     loads: Vec<usize>,
+    /// The stores and swaps, each with those that read what it writes.
+    writers: Vec<(usize, Vec<usize>)>,
     known: HashMap<State, bool>,
     steps: u64,
     /// What a step takes of `steps`: on a long trace it is more work.
@@ -288,8 +290,11 @@ pub fn search(trace: &Trace, model: Model, most_steps: u64) -> First {
 impl<'a> Search<'a> {
     fn new(trace: &'a Trace, model: Model, steps: u64) -> Search<'a> {
         let loads = trace.operations().into_iter().filter(|&x| trace.places[x].is_plain_load()).collect();
+        let writers = trace.operations().into_iter().filter(|&x| trace.places[x].written().is_some());
+        let writers =
+            writers.map(|y| (y, trace.operations().into_iter().filter(|&load| trace.source(load) == Some(y)).collect())).collect();
         let cost = 1 + trace.count as u64 / 65;
-        Search { board: Board::new(trace, model), loads, known: HashMap::new(), steps, cost }
+        Search { board: Board::new(trace, model), loads, writers, known: HashMap::new(), steps, cost }
     }
 
     /// None when the steps are used up. The state can be completed, so some operation is found.
@@ -304,7 +309,7 @@ impl<'a> Search<'a> {
     }
 
     fn can_be_completed(&mut self, state: State) -> Option<bool> {
-        let state = self.with_loads_that_fit(state);
+        let state = self.with_what_fits(state);
         if self.board.is_full(&state) {
             return Some(true);
         }
@@ -324,9 +329,8 @@ impl<'a> Search<'a> {
         Some(found)
     }
 
-    /// Places every plain load that may follow at once. That loses no completion: in any completion move the load to the front. It is
-    /// ready, so no kept pair breaks; it reads rightly there; and it writes nothing, so nobody else's value changes.
-    fn with_loads_that_fit(&self, mut state: State) -> State {
+    /// Places at once what can only be right there.
+    fn with_what_fits(&self, mut state: State) -> State {
         loop {
             let before = state.placed;
             for &load in &self.loads {
@@ -334,9 +338,29 @@ impl<'a> Search<'a> {
                     state = self.board.placed(&state, load);
                 }
             }
+            for (y, readers) in &self.writers {
+                state = self.with_readers(&state, *y, readers).unwrap_or(state);
+            }
             if state.placed == before {
                 return state;
             }
         }
+    }
+
+    /// A plain load that may follow can be placed at once, and no completion is lost: in any completion move the load to the front. It is ready, so
+    /// no kept pair breaks; it reads rightly there; and it writes nothing, so nobody else's value changes.
+    ///
+    /// So can a writer y that may follow, together with all that read from it, where these are plain loads that may follow it. In any completion
+    /// move y and behind it its readers to the front. They are ready, and read rightly. Take any other load at that address. It reads neither
+    /// the beginning nor what stands there now, for y would spoil it; nor from y. So it reads from a writer that is still to come, and y is
+    /// before that one now, as it was or not: the latest that counts for this load is the same as before, whether y counts or not.
+    fn with_readers(&self, state: &State, y: usize, readers: &[usize]) -> Option<State> {
+        if !self.board.may_follow(state, y) {
+            return None;
+        }
+        readers.iter().filter(|&&load| !state.placed.has(load)).try_fold(self.board.placed(state, y), |state, &load| {
+            let fits = self.board.trace.places[load].is_plain_load() && self.board.may_follow(&state, load);
+            fits.then(|| self.board.placed(&state, load))
+        })
     }
 }

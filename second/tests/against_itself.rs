@@ -9,7 +9,8 @@ use second::trace::{kept, text_of, Model, Trace};
 use second::verdict::{lowest_without_source, MOST_STEPS};
 use std::collections::{BTreeMap, BTreeSet};
 
-const MODELS: [Model; 2] = [Model::Sc, Model::Tso];
+/// All four, whether the program has them or not.
+const MODELS: [Model; 4] = Model::KNOWN;
 
 /// The traces among a family's first cases.
 fn traces(name: &str, cases: u64) -> Vec<Trace> {
@@ -48,7 +49,7 @@ fn permutations_of_eight_and_the_search_agree() {
 #[test]
 fn the_search_agrees_with_the_plain_one_on_longer_traces() {
     let mut compared = 0;
-    for name in ["middle", "weak", "knot", "rounds", "tso-changed", "sc"] {
+    for name in ["middle", "weak", "knot", "rounds", "tso-changed", "sc", "weaker-changed", "wmo"] {
         for trace in traces(name, 600) {
             for model in MODELS {
                 let wanted = plain_search(&trace, model, 20_000);
@@ -65,7 +66,9 @@ fn the_search_agrees_with_the_plain_one_on_longer_traces() {
 #[test]
 fn what_the_rules_hold_is_kept_by_every_order_found() {
     let (mut orders, mut circles) = (0, 0);
-    for name in ["dense", "weak", "middle", "rounds", "knot", "sc", "tso", "sc-changed", "tso-changed", "stated"] {
+    for name in
+        ["dense", "weak", "middle", "rounds", "knot", "sc", "tso", "pso", "wmo", "sc-changed", "tso-changed", "weaker-changed", "stated"]
+    {
         for trace in traces(name, 500) {
             if lowest_without_source(&trace).is_some() {
                 continue;
@@ -138,15 +141,17 @@ fn every_valid_order_keeps_what_is_held() {
 }
 
 #[test]
-fn an_order_under_sc_is_one_under_tso() {
-    for trace in traces("sc", 400) {
-        let First::Order(list) = search(&trace, Model::Sc, 100_000) else { panic!("an SC run has an order\n{}", shown(&trace)) };
-        assert!(judge(&trace, Model::Tso, &list));
+fn a_run_has_an_order_under_its_model_and_every_weaker_one() {
+    let mut parted = 0;
+    for (model, name) in MODELS.into_iter().zip(["sc", "tso", "pso", "wmo"]) {
+        for trace in traces(name, 400) {
+            let First::Order(list) = search(&trace, model, 100_000) else { panic!("a run of {name} has an order\n{}", shown(&trace)) };
+            let keeping = MODELS.map(|other| judge(&trace, other, &list));
+            assert!(keeping[model as usize..].iter().all(|&yes| yes), "{name} {keeping:?}\n{}", shown(&trace));
+            parted += usize::from(!keeping[0]);
+        }
     }
-    for trace in traces("tso", 400).iter() {
-        let wanted = search(trace, Model::Tso, 100_000);
-        assert!(matches!(wanted, First::Order(_)), "a TSO run has an order\n{}", shown(trace));
-    }
+    assert!(parted > 200, "{parted}");
 }
 
 // ---- the rules, as a question about one edge ----
@@ -212,7 +217,7 @@ fn asked_last_round(trace: &Trace, model: Model) -> (Edges, BTreeSet<Pair>) {
 #[test]
 fn rounds_agree_with_the_rules_asked_edge_by_edge() {
     let mut rules_seen = BTreeSet::new();
-    for name in ["dense", "weak", "middle", "rounds", "stated", "tso-changed"] {
+    for name in ["dense", "weak", "middle", "rounds", "stated", "tso-changed", "weaker-changed"] {
         for trace in traces(name, 300) {
             if trace.operations().len() > 24 || lowest_without_source(&trace).is_some() {
                 continue;
@@ -344,8 +349,8 @@ fn sessions_hold_what_all_orders_with_their_pairs_keep() {
         if !(2..=6).contains(&operations.len()) || lowest_without_source(trace).is_some() {
             continue;
         }
-        for model in [1, 2] {
-            let kind = Model::numbered(model).expect("a model");
+        for &kind in Model::all() {
+            let model = kind.number();
             let mut stack = vec![open(trace, model).expect("opens")];
             for _ in 0..6 {
                 let session = &stack[stack.len() - 1];

@@ -5,8 +5,8 @@ use second::desk::{ask, head_of, place_of, suppose, take_back, taken, told, Page
 use second::families::{family, text, FAMILIES};
 use second::reader::MOST_TEXT;
 use second::session::{self, Answer, Talk};
-use second::stated::KNOT;
-use second::trace::{text_of, MOST_RECORDS};
+use second::stated::{KNOT, STATED};
+use second::trace::{text_of, MODELS, MOST_RECORDS};
 use second::verdict::MOST_STEPS;
 use std::collections::BTreeSet;
 
@@ -58,7 +58,7 @@ fn a_verdict_in_bytes() {
 
 #[test]
 fn a_report_in_bytes() {
-    let wanted = b"SC: no order, circle 0 1 2 3 by 1 4 1 4\nTSO: order 1 2 3 0\n";
+    let wanted = STATED.iter().find(|stated| stated.text == BUFFERS).expect("stated").output().into_bytes();
     for (room, length) in [(wanted.len() - 1, 0), (wanted.len(), wanted.len()), (wanted.len() + 1000, wanted.len()), (0, 0)] {
         let mut lent = vec![BEFORE; room];
         assert_eq!(page(BUFFERS).report(&mut lent), length);
@@ -207,7 +207,7 @@ fn bytes_that_are_taken_are_laid_down_the_same() {
         let family = chance.of(FAMILIES);
         let text = text(family, 21, case);
         let mut lent = vec![0; HEAD + text.len()];
-        if Page::new(&text, 1).open(chance.between(1, 2) as u8, &mut lent).0 != DONE {
+        if Page::new(&text, 1).open(chance.between(1, MODELS) as u8, &mut lent).0 != DONE {
             continue;
         }
         for _ in 0..chance.below(4) {
@@ -232,7 +232,7 @@ fn a_talk_and_the_plain_functions_agree() {
         let text = text(family(name).expect("a family"), 5, case);
         let page = Page::new(&text, 1);
         let trace = page.trace().expect("good");
-        let model = chance.between(1, 2) as u64;
+        let model = chance.between(1, MODELS) as u64;
         let (Ok(mut talk), Ok(mut plain)) = (Talk::open(trace, model), session::open(trace, model)) else { continue };
         let supposes = *chance.of(&[40, 90]);
         for _ in 0..22 {

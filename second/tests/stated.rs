@@ -1,11 +1,14 @@
 //! What document 01 states outright: its traces, its bounds, its session on KNOT.
 
 use second::bench::output;
+use second::orders::{search, First};
 use second::reader::{read, MOST_TEXT};
+use second::report;
+use second::rules::circle;
 use second::session::{ask, open, suppose, take_back, Answer};
 use second::stated::{KNOT, STATED};
-use second::trace::{Record, Trace, MOST_RECORDS, UNUSED};
-use second::verdict::{judge, verdict, MOST_STEPS};
+use second::trace::{kept, Model, Record, Trace, MODELS, MOST_RECORDS, UNUSED};
+use second::verdict::{judge, lowest_without_source, verdict, Verdict, MOST_STEPS};
 
 fn told(text: &str) -> String {
     output(text.as_bytes(), MOST_STEPS)
@@ -22,7 +25,24 @@ fn trace(text: &str) -> Trace {
 #[test]
 fn traces_to_try() {
     for stated in &STATED {
-        assert_eq!(told(stated.text), stated.output, "{}", stated.name);
+        assert_eq!(told(stated.text), stated.output(), "{}", stated.name);
+    }
+}
+
+/// Under all four models, whether the program has them or not.
+#[test]
+fn traces_to_try_under_every_model() {
+    for stated in STATED.iter().filter(|stated| lowest_without_source(&trace(stated.text)).is_none()) {
+        let trace = trace(stated.text);
+        for (model, line) in Model::KNOWN.into_iter().zip(stated.lines) {
+            let verdict = match (circle(&trace, model), search(&trace, model, MOST_STEPS)) {
+                (Some(circle), First::None) => Verdict::Circle(circle),
+                (None, First::None) => Verdict::NoneLeft,
+                (None, First::Order(list)) => Verdict::Order(list),
+                other => panic!("{} under {model:?}: {other:?}", stated.name),
+            };
+            assert_eq!(report::line(model, &verdict), format!("{}: {line}\n", model.name()), "{}", stated.name);
+        }
     }
 }
 
@@ -102,11 +122,34 @@ fn models_and_traces_handed_in() {
     let mut bad = good.clone();
     bad.places[MOST_RECORDS - 1] = Record::Fence { thread: 1 };
     assert_eq!(verdict(&good, 0, 1), Err(9));
-    assert_eq!(verdict(&good, 3, 1), Err(9));
-    assert_eq!(verdict(&bad, 3, 1), Err(9));
+    let past = MODELS as u64 + 1;
+    assert_eq!(verdict(&good, past, 1), Err(9));
+    assert_eq!(verdict(&bad, past, 1), Err(9));
+    assert!((1..past).all(|model| verdict(&good, model, 1).is_ok()));
     assert_eq!(verdict(&bad, 1, 1), Err(10));
     assert_eq!(judge(&bad, 2, &[]), Err(10));
     assert!(verdict(&good, 2, 1).is_ok());
+}
+
+/// Of two records of one thread by first kind, second kind and whether they go to one address: which models keep the pair without a fence.
+#[test]
+fn kept_pairs_one_by_one() {
+    let kinds = ["M[0] == 0", "M[0] := 1", "{ M[0] == 0; M[0] := 1 }"];
+    let elsewhere = ["M[1] == 0", "M[1] := 1", "{ M[1] == 0; M[1] := 1 }"];
+    let there = ["M[0] == 0", "M[0] := 2", "{ M[0] == 0; M[0] := 2 }"];
+    // Load, store, swap first; in each row load, store, swap second. A letter for each model that keeps the pair: s, t, p, w.
+    let at_two = [["stp", "stp", "stp"], ["s", "st", "st"], ["stp", "stp", "stp"]];
+    let at_one = [["stpw", "stpw", "stpw"], ["s", "stpw", "stpw"], ["stpw", "stpw", "stpw"]];
+    for (a, first) in kinds.iter().enumerate() {
+        for (second, wanted) in (0..3).flat_map(|b| [(elsewhere[b], at_two[a][b]), (there[b], at_one[a][b])]) {
+            let free = trace(&format!("0: {first}\n1: sync\n0: {second}\n"));
+            let fenced = trace(&format!("0: {first}\n0: sync\n0: {second}\n"));
+            for (model, letter) in Model::KNOWN.into_iter().zip("stpw".chars()) {
+                assert_eq!(kept(&free, model, 0, 2), wanted.contains(letter), "{model:?} {first} {second}");
+                assert!(kept(&fenced, model, 0, 2) && !kept(&free, model, 2, 0));
+            }
+        }
+    }
 }
 
 #[test]
@@ -194,7 +237,7 @@ fn sessions_that_nobody_opened() {
     let mut changed = vec![good.clone(); 8];
     changed[0].held.clear();
     changed[1].contradicted = true;
-    changed[2].model = 7;
+    changed[2].model = MODELS as u64 + 1;
     changed[3].model = 0;
     changed[4].pairs.push((0, 0));
     changed[5].pairs = vec![(0, 1); 17];

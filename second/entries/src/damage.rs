@@ -1,10 +1,11 @@
 //! Bytes that were a session. Some of what is done here leaves one: a pair that was held all the same, a line that changes nothing.
 
+use crate::call::OTHER_MODELS;
 use second::chance::Chance;
 use second::desk::{place_of, put_number, CONTRADICTED_AT as CONTRADICTED, HEAD, PAIRS_AT as PAIRS, TABLE_AT as TABLE};
 use second::reader::MOST_TEXT;
 use second::session::MOST_PAIRS;
-use second::trace::MOST_RECORDS;
+use second::trace::{MODELS, MOST_RECORDS};
 
 const COUNT: usize = 1;
 
@@ -14,7 +15,9 @@ const PAIR: usize = 4;
 type Damage = (&'static str, fn(&mut Chance, &mut Vec<u8>));
 
 const DAMAGES: [Damage; 19] = [
-    ("another model", |chance, bytes| bytes[0] = *chance.of(&[0, 1, 1, 2, 2, 3, 255])),
+    ("another model", |chance, bytes| {
+        bytes[0] = if chance.percent(60) { chance.between(1, MODELS) as u8 } else { *chance.of(&OTHER_MODELS) };
+    }),
     ("another count of pairs", |chance, bytes| bytes[COUNT] = *chance.of(&[0, 1, 2, 15, 16, 17, 255])),
     ("a byte of the pairs", |chance, bytes| {
         let place = chance.between(PAIRS, CONTRADICTED - 1);
@@ -101,7 +104,7 @@ const DAMAGES: [Damage; 19] = [
         *bytes = chance.bytes(length);
         if chance.percent(60) {
             bytes.fill(0);
-            bytes.iter_mut().take(1).for_each(|model| *model = chance.below(4) as u8);
+            bytes.iter_mut().take(1).for_each(|model| *model = chance.below(MODELS + 2) as u8);
         }
     }),
 ];

@@ -8,7 +8,7 @@ use crate::lent::Lent;
 use second::chance::Chance;
 use second::desk::{self, head_of, told, CONTRADICTED_AT, DONE, HEAD, NO_SESSION};
 use second::session::Talk;
-use second::trace::{Trace, MOST_RECORDS};
+use second::trace::{Trace, MODELS, MOST_RECORDS};
 
 /// How a talk is drawn: its length, and how often each hundred calls suppose.
 struct Manner {
@@ -37,7 +37,7 @@ fn manner(chance: &mut Chance, operations: usize) -> Manner {
 /// False where something differed: what would follow is then worth nothing.
 fn talk<D: Desk>(case: &mut Case<'_, D>) -> bool {
     let room = room(case);
-    let model = if case.chance.percent(92) { case.chance.between(1, 2) as u8 } else { *case.chance.of(&OTHER_MODELS) };
+    let model = if case.chance.percent(92) { case.chance.between(1, MODELS) as u8 } else { *case.chance.of(&OTHER_MODELS) };
     let mut mine = Lent::drawn(&mut case.chance, room);
     let mut theirs = mine.clone();
     let (wanted, talk) = case.page.open(model, mine.bytes_mut());

@@ -1,13 +1,13 @@
 //! A text: the whole answer, what is wrong with it and where, the verdict in numbers, the judge.
 
-use crate::call::{Call, OTHER_MODELS};
+use crate::call::{Call, LAST_MODEL, OTHER_MODELS};
 use crate::case::Case;
 use crate::desk::Desk;
 use crate::lent::Lent;
 use second::chance::Chance;
 use second::desk::{lay_verdict, number_at, NONE_LEFT, OPERATIONS_AT, ORDER, RULES_AT, VERDICT};
 use second::report::NOT_KNOWN;
-use second::trace::{Model, MOST_RECORDS};
+use second::trace::{Model, MODELS, MOST_RECORDS};
 use second::verdict::Verdict;
 use wheelotter::REPORT;
 
@@ -53,13 +53,14 @@ fn report<D: Desk>(case: &mut Case<'_, D>) -> bool {
     case.same(Call::Report { room }, (wanted, &mine), (got, &theirs))
 }
 
-/// Both models with room enough, another one, and memory that is too short.
+/// Every model with room enough, one that there is not, and memory that is too short.
 fn verdicts<D: Desk>(case: &mut Case<'_, D>) -> bool {
     let chance = &mut case.chance;
-    let any = *chance.of(&[0, 1, 2, 3, 255]);
+    let any = if chance.percent(60) { chance.between(1, MODELS) as u8 } else { *chance.of(&OTHER_MODELS) };
     let enough = [VERDICT, VERDICT, VERDICT + 1, VERDICT + 71, chance.between(VERDICT, 2 * VERDICT)];
     let short = [0, 1, OPERATIONS_AT, RULES_AT, VERDICT - 1, VERDICT - 1, chance.below(VERDICT)];
-    let mut asked: Vec<(u8, usize)> = [1, 2, *chance.of(&OTHER_MODELS)].map(|model| (model, *chance.of(&enough))).to_vec();
+    let mut asked: Vec<(u8, usize)> = (1..=LAST_MODEL).map(|model| (model, *chance.of(&enough))).collect();
+    asked.push((*chance.of(&OTHER_MODELS), *chance.of(&enough)));
     asked.push((any, *chance.of(&short)));
     asked.into_iter().fold(true, |same, (model, room)| verdict(case, model, room) && same)
 }
@@ -90,7 +91,7 @@ fn judged<D: Desk>(case: &mut Case<'_, D>) -> bool {
     let mut same = true;
     for _ in 0..3 {
         let list = list(case);
-        let model = if case.chance.percent(90) { case.chance.between(1, 2) as u8 } else { *case.chance.of(&OTHER_MODELS) };
+        let model = if case.chance.percent(90) { case.chance.between(1, MODELS) as u8 } else { *case.chance.of(&OTHER_MODELS) };
         let wanted = case.page.judge(model, &list);
         let got = case.desk.judge(case.text, model, &list);
         same &= case.same_answer(Call::Judge { model, list }, wanted.into(), got.into());
@@ -99,7 +100,7 @@ fn judged<D: Desk>(case: &mut Case<'_, D>) -> bool {
 }
 
 fn list<D: Desk>(case: &mut Case<'_, D>) -> Vec<u16> {
-    let model = *case.chance.of(&[Model::Sc, Model::Tso]);
+    let model = *case.chance.of(Model::all());
     let numbers = |list: &[usize]| list.iter().map(|&x| x as u16).collect();
     let found = match case.page.verdict_under(model) {
         Some(Verdict::Order(list)) => Some(numbers(list)),

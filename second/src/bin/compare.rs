@@ -77,9 +77,9 @@ fn halfway(text: &[u8], wanted: &str, got: Vec<u8>) -> Outcome {
     if wanted.len() != lines.len() {
         return Outcome::Failed { why: "another number of lines".to_string(), got };
     }
-    for ((wanted, line), model) in wanted.iter().zip(&lines).zip([Some(Model::Sc), Some(Model::Tso), None]) {
-        let fits = match model {
-            Some(model) if wanted.ends_with(NOT_KNOWN) => may_be(text, model, line),
+    for (place, (wanted, line)) in wanted.iter().zip(&lines).enumerate() {
+        let fits = match Model::all().get(place) {
+            Some(&model) if wanted.ends_with(NOT_KNOWN) => may_be(text, model, line),
             _ => wanted == line,
         };
         if !fits {
