@@ -7,19 +7,20 @@
 //! | 21 | no room in the lent memory, which stays as it was; whatever is wrong with the input is told before it |
 //! | 64, 65, 66 | the verdict: order, circle, none left |
 //! | 67, 68, 69 | asked: held, not held, contradicted |
+//! | 70 to 75 | a list judged: valid, wrong length, bad number, repeat, out of turn, wrong value |
 //!
 //! Numbers of records, and how many are told, are laid down in two bytes, the low one first.
 //!
 //! A session in bytes: the model; how many pairs stand, in one byte; sixteen pairs, first then second, unused ones 0; 1 where contradicted; a
 //! bit for each x and each y, eight to a byte from the lowest on, 1 where x before y is held; then the text of its trace up to the end.
 
-use crate::orders;
+use crate::orders::{self, Judgement};
 use crate::reader::{self, Refusal};
 use crate::report;
 use crate::rules::Pair;
 use crate::session::{self, Answer, Session, Talk, MOST_PAIRS};
 use crate::trace::{Model, Trace, MODELS, MOST_RECORDS};
-use crate::verdict::{verdict, Verdict};
+use crate::verdict::{judgement, verdict, Verdict};
 use std::cell::OnceCell;
 
 pub const DONE: u8 = 0;
@@ -33,11 +34,20 @@ pub const NONE_LEFT: u8 = 66;
 pub const HELD: u8 = 67;
 pub const NOT_HELD: u8 = 68;
 pub const CONTRADICTED: u8 = 69;
+pub const VALID: u8 = 70;
+pub const WRONG_LENGTH: u8 = 71;
+pub const BAD_NUMBER: u8 = 72;
+pub const REPEAT: u8 = 73;
+pub const OUT_OF_TURN: u8 = 74;
+pub const WRONG_VALUE: u8 = 75;
 
 /// A verdict in bytes: how many operations it names, the operations, the rules of a circle.
 pub const VERDICT: usize = RULES_AT + MOST_RECORDS;
 pub const OPERATIONS_AT: usize = 2;
 pub const RULES_AT: usize = OPERATIONS_AT + 2 * MOST_RECORDS;
+
+/// What a judged list comes with: the place or the record, of a pair both records; unused ones 0.
+pub const JUDGEMENT: usize = 4;
 
 pub const PAIRS_AT: usize = 2;
 pub const CONTRADICTED_AT: usize = PAIRS_AT + 4 * MOST_PAIRS;
@@ -149,6 +159,28 @@ impl<'a> Page<'a> {
             (Some(trace), Some(model)) => orders::judge(trace, model, &list),
             _ => false,
         }
+    }
+
+    /// Why a list is no order, with the place or the records concerned.
+    pub fn judgement(&self, model: u8, list: &[u16], lent: &mut [u8]) -> u8 {
+        let list: Vec<usize> = list.iter().copied().map(usize::from).collect();
+        let judged = match &self.reading {
+            Err(refusal) => Err(refusal.number),
+            Ok(trace) => judgement(trace, model.into(), &list),
+        };
+        let (answer, first, second) = match judged {
+            Err(number) => return number,
+            Ok(Judgement::Valid) => (VALID, 0, 0),
+            Ok(Judgement::WrongLength) => (WRONG_LENGTH, 0, 0),
+            Ok(Judgement::BadNumber(place)) => (BAD_NUMBER, place, 0),
+            Ok(Judgement::Repeat(record)) => (REPEAT, record, 0),
+            Ok(Judgement::OutOfTurn(first, second)) => (OUT_OF_TURN, first, second),
+            Ok(Judgement::WrongValue(record)) => (WRONG_VALUE, record, 0),
+        };
+        let Some(place) = lent.get_mut(..JUDGEMENT) else { return NO_ROOM };
+        put_number(place, first);
+        put_number(&mut place[2..], second);
+        answer
     }
 
     /// The answer, and the session that then stands in front of the lent memory, if any does.

@@ -15,7 +15,7 @@
 //! | `report` | the lines of an answer |
 //! | `desk` | the entries of the library, in bytes (their form is ours; what they say is the document's) |
 //! | `bench` | the program at the bench |
-//! | `chance`, `machine`, `families`, `script`, `plan` | texts and session words to compare on (these are ours, not the document's) |
+//! | `chance`, `machine`, `families`, `lists`, `script`, `plan` | texts, lists and session words to compare on (these are ours, not the document's) |
 //! | `stated` | the document's own traces with the outputs it states |
 
 pub mod bench;
@@ -23,6 +23,7 @@ pub mod bounds;
 pub mod chance;
 pub mod desk;
 pub mod families;
+pub mod lists;
 pub mod machine;
 pub mod orders;
 pub mod plan;

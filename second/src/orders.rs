@@ -60,6 +60,48 @@ fn value_at(trace: &Trace, list: &[usize], at: usize) -> u64 {
         .map_or(BEGINNING, |i| trace.places[list[i]].written().expect("a writer writes"))
 }
 
+// ---- why a list is no order ----
+
+/// Which condition fails first, with the place or the records concerned.
+#[derive(Clone, Copy, Debug, PartialEq, Eq, PartialOrd, Ord)]
+pub enum Judgement {
+    Valid,
+    /// Not as many numbers as there are operations.
+    WrongLength,
+    /// The first place, from 0, where a number stands that is a fence's or past the end.
+    BadNumber(usize),
+    /// The lowest record that stands there more than once.
+    Repeat(usize),
+    /// A kept pair the wrong way round: the lowest first record, and with it the lowest second.
+    OutOfTurn(usize, usize),
+    /// The lowest record that would have to read another value.
+    WrongValue(usize),
+}
+
+/// Nothing is expected of the list. Each condition is looked at only where those before it hold.
+pub fn judgement(trace: &Trace, model: Model, list: &[usize]) -> Judgement {
+    if list.len() != trace.operations().len() {
+        return Judgement::WrongLength;
+    }
+    if let Some(place) = list.iter().position(|&x| !trace.is_operation(x)) {
+        return Judgement::BadNumber(place);
+    }
+    let mut sorted = list.to_vec();
+    sorted.sort_unstable();
+    if let Some(two) = sorted.windows(2).find(|two| two[0] == two[1]) {
+        return Judgement::Repeat(two[0]);
+    }
+    // Sorted, they are the operations; and each has one place in the list.
+    let place = |x: usize| list.iter().position(|&y| y == x).expect("all there");
+    let turned = |x: usize, y: usize| kept(trace, model, x, y) && place(y) < place(x);
+    let second_of = |x: usize| sorted.iter().copied().find(|&y| turned(x, y)).map(|y| Judgement::OutOfTurn(x, y));
+    if let Some(pair) = sorted.iter().find_map(|&x| second_of(x)) {
+        return pair;
+    }
+    let wrong = |x: &usize| trace.places[*x].read().is_some_and(|read| read != value_at(trace, list, place(*x)));
+    sorted.iter().copied().find(wrong).map_or(Judgement::Valid, Judgement::WrongValue)
+}
+
 // ---- all permutations ----
 
 pub fn first_permutation(trace: &Trace, model: Model) -> First {

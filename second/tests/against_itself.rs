@@ -1,7 +1,8 @@
 //! One way of finding an answer against another, on many texts drawn by chance.
 
 use second::families::{family, text, FAMILIES, USUAL};
-use second::orders::{first_permutation, judge, plain_search, search, First};
+use second::lists::drawn;
+use second::orders::{first_permutation, judge, judgement, plain_search, search, First, Judgement};
 use second::reader::read;
 use second::rules::{around, chains, circle, last_round, Edges, Pair};
 use second::session::{ask, open, suppose, take_back, Answer};
@@ -336,6 +337,62 @@ fn every_refusal_and_its_edge_is_drawn() {
         seen.extend((0..2_000).filter_map(|case| read(&text(family, 9, case)).err().map(|refusal| refusal.number)));
     }
     assert_eq!(seen, (1..=8).collect());
+}
+
+// ---- lists ----
+
+/// Everything that is wrong with a list, asked one by one; the lowest comes first, as the conditions stand in order.
+fn asked_judgement(trace: &Trace, model: Model, list: &[usize]) -> Judgement {
+    let operations = trace.operations();
+    if list.len() != operations.len() {
+        return Judgement::WrongLength;
+    }
+    let mut wrong = vec![];
+    let known = |x: &usize| *x < trace.count && !trace.places[*x].is_fence();
+    wrong.extend((0..list.len()).filter(|&place| !known(&list[place])).map(Judgement::BadNumber));
+    let times = |x: usize| list.iter().filter(|&&y| x == y).count();
+    wrong.extend(list.iter().filter(|&&x| times(x) > 1).map(|&x| Judgement::Repeat(x)));
+    if wrong.is_empty() {
+        let before = |x: usize, y: usize| list.iter().find(|&&z| z == x || z == y) == Some(&x);
+        let pairs = operations.iter().flat_map(|&x| operations.iter().map(move |&y| (x, y)));
+        wrong.extend(pairs.filter(|&(x, y)| kept(trace, model, x, y) && before(y, x)).map(|(x, y)| Judgement::OutOfTurn(x, y)));
+        let counts =
+            |s: usize, l: usize| s != l && trace.places[s].written().is_some() && trace.places[s].address() == trace.places[l].address();
+        for &l in operations.iter().filter(|&&l| trace.places[l].read().is_some()) {
+            let po = |s: usize| s < l && trace.places[s].thread() == trace.places[l].thread();
+            let counted: Vec<usize> = operations.iter().copied().filter(|&s| counts(s, l) && (before(s, l) || po(s))).collect();
+            let latest = counted.iter().find(|&&s| counted.iter().all(|&other| other == s || before(other, s)));
+            if trace.places[l].read() != Some(latest.map_or(0, |&s| trace.places[s].written().expect("it writes"))) {
+                wrong.push(Judgement::WrongValue(l));
+            }
+        }
+    }
+    wrong.into_iter().min().unwrap_or(Judgement::Valid)
+}
+
+#[test]
+fn judgements_agree_with_the_conditions_asked_one_by_one() {
+    let mut chance = second::chance::Chance::new(23);
+    let mut seen: BTreeMap<String, usize> = BTreeMap::new();
+    for name in ["dense", "weak", "middle", "stated", "knot", "sc", "tso", "pso", "wmo"] {
+        for trace in traces(name, 150) {
+            for model in MODELS {
+                let order = match search(&trace, model, 10_000) {
+                    First::Order(list) => Some(list),
+                    _ => None,
+                };
+                for _ in 0..4 {
+                    let list: Vec<usize> = drawn(&mut chance, &trace, order.as_deref()).into_iter().map(usize::from).collect();
+                    let told = judgement(&trace, model, &list);
+                    assert_eq!(told, asked_judgement(&trace, model, &list), "{model:?} {list:?}\n{}", shown(&trace));
+                    assert_eq!(told == Judgement::Valid, judge(&trace, model, &list), "{model:?} {list:?}\n{}", shown(&trace));
+                    let kind = format!("{told:?}");
+                    *seen.entry(kind.split('(').next().expect("a word").to_string()).or_default() += 1;
+                }
+            }
+        }
+    }
+    assert!(seen.len() == 6 && seen.values().all(|&times| times > 300), "{seen:?}");
 }
 
 // ---- sessions ----

@@ -96,6 +96,32 @@ fn lists_judged() {
     assert!(!judged("\n", 1, &[]));
 }
 
+#[test]
+fn a_judgement_in_bytes() {
+    let judged = |text: &str, model, list: &[u16], room: usize| {
+        let mut lent = vec![BEFORE; room];
+        (page(text).judgement(model, list, &mut lent), lent)
+    };
+    for (list, answer, bytes) in [
+        (&[1, 2, 3, 0][..], 70, [0, 0, 0, 0]),
+        (&[1, 2, 3], 71, [0, 0, 0, 0]),
+        (&[1, 2, 3, 256], 72, [3, 0, 0, 0]),
+        (&[1, 3, 3, 1], 73, [1, 0, 0, 0]),
+        (&[1, 0, 2, 3], 75, [3, 0, 0, 0]),
+    ] {
+        assert_eq!(judged(BUFFERS, 2, list, 6), (answer, [&bytes[..], &[BEFORE; 2]].concat()), "{list:?}");
+        assert_eq!(judged(BUFFERS, 2, list, 4), (answer, bytes.to_vec()), "{list:?}");
+        assert_eq!(judged(BUFFERS, 2, list, 3), (21, vec![BEFORE; 3]), "{list:?}");
+    }
+    assert_eq!(judged(BUFFERS, 1, &[1, 2, 3, 0], 4), (74, vec![0, 0, 1, 0]));
+    assert_eq!(judged(BUFFERS, 1, &[0, 1, 3, 2], 4), (74, vec![2, 0, 3, 0]));
+    for room in [0, 3, 4, 9] {
+        assert_eq!(judged("0: syn\n", 255, &[], room), (3, vec![BEFORE; room]));
+        assert_eq!(judged(BUFFERS, 255, &[], room), (9, vec![BEFORE; room]));
+    }
+    assert_eq!(judged("", 1, &[], 4), (70, vec![0; 4]));
+}
+
 /// A session on the store buffers under TSO, as it is opened.
 fn opened() -> Vec<u8> {
     let mut lent = vec![BEFORE; HEAD + BUFFERS.len()];
@@ -187,16 +213,17 @@ fn any_other_byte_is_no_session() {
             let mut other = lent.clone();
             other[place] = byte;
             if other != lent && ask(&other, 3, 2) != 12 {
-                sessions.insert((place - HEAD, byte));
+                sessions.insert((place, byte));
             }
         }
         assert_eq!(ask(&lent[..place], 3, 2), 12, "cut off at {place}");
     }
-    // Nothing in front of the text may be another byte. In the text each record may be some further thread's, as TSO keeps no pair of this trace;
-    // record 2 also thread 0's, for 0 before 2 and 1 before 2 are held already; and the two stores may write other values, which nobody reads.
+    // In front of the text only the model may be another, where there is PSO, which keeps no more of this trace than TSO does. In the text each
+    // record may be some further thread's, as TSO keeps no pair of this trace; record 2 also thread 0's, for 0 before 2 and 1 before 2 are held already; and the two stores may write other values, which nobody reads.
     let threads = [0, 13, 26, 39].into_iter().flat_map(|place| [(place, b'3'), (place, b'7')]);
     let values = [11, 37].into_iter().flat_map(|place| [(place, b'3'), (place, b'7')]);
-    assert_eq!(sessions, threads.chain(values).chain([(26, b'0')]).collect());
+    let texts = threads.chain(values).chain([(26, b'0')]).map(|(place, byte)| (HEAD + place, byte));
+    assert_eq!(sessions, texts.chain((MODELS > 2).then_some((0, 3))).collect());
 }
 
 #[test]

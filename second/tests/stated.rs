@@ -1,14 +1,14 @@
 //! What document 01 states outright: its traces, its bounds, its session on KNOT.
 
 use second::bench::output;
-use second::orders::{search, First};
+use second::orders::{search, First, Judgement};
 use second::reader::{read, MOST_TEXT};
 use second::report;
 use second::rules::circle;
 use second::session::{ask, open, suppose, take_back, Answer};
 use second::stated::{KNOT, STATED};
 use second::trace::{kept, Model, Record, Trace, MODELS, MOST_RECORDS, UNUSED};
-use second::verdict::{judge, lowest_without_source, verdict, Verdict, MOST_STEPS};
+use second::verdict::{judge, judgement, lowest_without_source, verdict, Verdict, MOST_STEPS};
 
 fn told(text: &str) -> String {
     output(text.as_bytes(), MOST_STEPS)
@@ -180,6 +180,50 @@ fn lists_judged() {
         (&[], false),
     ] {
         assert_eq!(judge(&trace, 1, list), Ok(yes), "{list:?}");
+    }
+}
+
+/// Records 0 and 2 of thread 0, 3 of thread 1, 5 and 6 of thread 2; 1 and 4 are fences.
+#[test]
+fn why_a_list_is_no_order() {
+    let trace = trace("0: M[0] := 1\n0: sync\n0: M[1] := 1\n1: M[1] == 1\n2: sync\n2: M[0] == 1\n2: M[0] == 1\n");
+    for (list, wanted) in [
+        (&[0, 2, 3, 5, 6][..], Judgement::Valid),
+        (&[0, 5, 6, 2, 3], Judgement::Valid),
+        (&[], Judgement::WrongLength),
+        (&[0, 2, 3, 5], Judgement::WrongLength),
+        (&[0, 2, 3, 5, 6, 9], Judgement::WrongLength),
+        (&[1, 1, 9], Judgement::WrongLength),
+        (&[0, 2, 9, 4, 2], Judgement::BadNumber(2)),
+        (&[0, 2, 2, 4, 7], Judgement::BadNumber(3)),
+        (&[0, 2, 2, 5, usize::MAX], Judgement::BadNumber(4)),
+        (&[5, 5, 2, 2, 0], Judgement::Repeat(2)),
+        (&[5, 5, 5, 5, 5], Judgement::Repeat(5)),
+        (&[6, 5, 2, 0, 3], Judgement::OutOfTurn(0, 2)),
+        (&[3, 6, 5, 0, 2], Judgement::OutOfTurn(5, 6)),
+        (&[5, 6, 0, 3, 2], Judgement::WrongValue(3)),
+        (&[5, 0, 2, 3, 6], Judgement::WrongValue(5)),
+    ] {
+        assert_eq!(judgement(&trace, 1, list), Ok(wanted), "{list:?}");
+        assert_eq!(judge(&trace, 1, list), Ok(wanted == Judgement::Valid), "{list:?}");
+    }
+    let mut bad = trace.clone();
+    bad.count = MOST_RECORDS + 1;
+    assert_eq!([judgement(&bad, 0, &[]), judgement(&bad, 1, &[])], [Err(9), Err(10)]);
+}
+
+/// Of two pairs with one first record the one with the lower second; and swaps read too.
+#[test]
+fn the_lowest_pair_and_the_lowest_value() {
+    let trace = trace("0: M[0] == 0\n0: M[1] := 1\n0: { M[1] == 1; M[1] := 2 }\n1: M[1] == 2\n");
+    for (list, wanted) in [
+        (&[0, 1, 2, 3][..], Judgement::Valid),
+        (&[2, 1, 0, 3], Judgement::OutOfTurn(0, 1)),
+        (&[2, 0, 1, 3], Judgement::OutOfTurn(0, 2)),
+        (&[0, 2, 1, 3], Judgement::OutOfTurn(1, 2)),
+        (&[0, 1, 3, 2], Judgement::WrongValue(3)),
+    ] {
+        assert_eq!(judgement(&trace, 1, list), Ok(wanted), "{list:?}");
     }
 }
 

@@ -4,10 +4,10 @@ use crate::call::{Call, LAST_MODEL, OTHER_MODELS};
 use crate::case::Case;
 use crate::desk::Desk;
 use crate::lent::Lent;
-use second::chance::Chance;
 use second::desk::{lay_verdict, number_at, NONE_LEFT, OPERATIONS_AT, ORDER, RULES_AT, VERDICT};
+use second::lists::drawn;
 use second::report::NOT_KNOWN;
-use second::trace::{Model, MODELS, MOST_RECORDS};
+use second::trace::{Model, Trace, MODELS, MOST_RECORDS};
 use second::verdict::Verdict;
 use wheelotter::REPORT;
 
@@ -101,56 +101,10 @@ fn judged<D: Desk>(case: &mut Case<'_, D>) -> bool {
 
 fn list<D: Desk>(case: &mut Case<'_, D>) -> Vec<u16> {
     let model = *case.chance.of(Model::all());
-    let numbers = |list: &[usize]| list.iter().map(|&x| x as u16).collect();
-    let found = match case.page.verdict_under(model) {
-        Some(Verdict::Order(list)) => Some(numbers(list)),
+    let order = match case.page.verdict_under(model) {
+        Some(Verdict::Order(list)) => Some(&list[..]),
         _ => None,
     };
-    let operations = case.page.trace().map_or(vec![], |trace| numbers(&trace.operations()));
-    let chance = &mut case.chance;
-    let mut list: Vec<u16> = match found {
-        Some(list) if chance.percent(85) => list,
-        _ => operations,
-    };
-    match chance.below(10) {
-        0..=3 => {}
-        4..=7 => (0..chance.between(1, 2)).for_each(|_| damage(chance, &mut list)),
-        8 => chance.shuffle(&mut list),
-        _ => {
-            let length = *chance.of(&[0, 1, 2, 4, MOST_RECORDS - 1, MOST_RECORDS, MOST_RECORDS + 1, 2 * MOST_RECORDS, 300]);
-            list = (0..length).map(|_| any_number(chance, 70)).collect();
-        }
-    }
-    list
-}
-
-/// So many times in a hundred one that a record could have, or nearly; seldom one that would be a record's if its higher byte were lost.
-fn any_number(chance: &mut Chance, percent: usize) -> u16 {
-    let near = chance.below(MOST_RECORDS + 2) as u16;
-    if chance.percent(percent) {
-        near
-    } else if chance.percent(30) {
-        near + 256
-    } else {
-        chance.draw() as u16
-    }
-}
-
-/// Two change places, which may be neighbours; one goes, comes twice, comes in, or is another number.
-fn damage(chance: &mut Chance, list: &mut Vec<u16>) {
-    let (length, number) = (list.len(), any_number(chance, 70));
-    if length < 2 {
-        list.push(number);
-        return;
-    }
-    let (here, there) = (chance.below(length), chance.below(length));
-    match chance.below(9) {
-        0 | 1 => list.swap(here, there),
-        2 | 3 => list.swap(here, (here + 1) % length),
-        4 => drop(list.remove(here)),
-        5 => list[here] = list[there],
-        6 => list.insert(here, number),
-        7 => list[here] |= 256,
-        _ => list[here] = number,
-    }
+    let nothing = Trace::empty();
+    drawn(&mut case.chance, case.page.trace().unwrap_or(&nothing), order)
 }
