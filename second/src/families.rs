@@ -18,6 +18,9 @@ pub struct Family {
 /// Families that are drawn often have at most so many records, but for those that look at the bound itself.
 pub const USUAL: usize = 64;
 
+/// The long ones have at most so many: lower it where what is compared with takes too long on them.
+pub const LONGEST: usize = MOST_RECORDS;
+
 /// The long ones only where a trace may be long.
 pub const FAMILIES: &[Family] = if MOST_RECORDS > USUAL { ALL } else { ALL.split_at(ALL.len() - LONG).0 };
 

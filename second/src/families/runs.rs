@@ -1,6 +1,6 @@
 //! Texts that the reader takes: runs of the simulated machines, runs with changed reads, traces by chance.
 
-use super::USUAL;
+use super::{LONGEST, USUAL};
 use crate::chance::Chance;
 use crate::machine::{rewritten, run, run_under, Shape, Values};
 use crate::reader;
@@ -81,7 +81,7 @@ pub(super) fn weaker_changed(chance: &mut Chance) -> Vec<u8> {
 }
 
 fn ran_long(chance: &mut Chance) -> Vec<Record> {
-    let records = chance.between(USUAL + 1, MOST_RECORDS);
+    let records = chance.between(USUAL + 1, LONGEST);
     let (shape, model) = (shape_of(chance, records), *chance.of(Model::all()));
     let records = run_under(chance, &shape, model);
     rewritten(chance, records)
