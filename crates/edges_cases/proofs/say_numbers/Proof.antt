@@ -20,8 +20,8 @@ shared-slice-read-n c = search needs
 slice-aggregate-say-number : tie.Need-slice-aggregate-say-number Inv-loop μ-loop
 slice-aggregate-say-number c = search needs
 
-wide8-requires : tie.Need-wide8-requires Inv-loop μ-loop
-wide8-requires c κs = search needs
+wide16-requires : tie.Need-wide16-requires Inv-loop μ-loop
+wide16-requires c κs = search needs
 
 say-number-requires : tie.Need-say-number-requires Inv-loop μ-loop
 say-number-requires c κs = search needs
@@ -47,7 +47,7 @@ say-numbers-spec =
     loop-holds
     shared-slice-read-n
     slice-aggregate-say-number
-    wide8-requires
+    wide16-requires
     say-number-requires
     add-i
     loop-less
