@@ -14,6 +14,9 @@ abbrev μ-loop : tie.MeasureT-loop
 loop-holds : tie.Need-loop-holds Inv-loop μ-loop
 loop-holds c = search needs
 
+mul-n : tie.Need-mul-n Inv-loop μ-loop
+mul-n c = search needs
+
 shared-slice-read-n : tie.Need-shared-slice-read-n Inv-loop μ-loop
 shared-slice-read-n c = search needs
 
@@ -45,6 +48,7 @@ say-numbers-spec =
     Inv-loop
     μ-loop
     loop-holds
+    mul-n
     shared-slice-read-n
     slice-aggregate-say-number
     wide16-requires
