@@ -4,12 +4,23 @@
 
 #include <stdio.h>
 
-static uint8_t text[8193];
+static uint8_t text[WHEELOTTER_TEXT + 1];
 static size_t text_len;
 
-static void print_list(const uint8_t *list, size_t len) {
-    for (size_t i = 0; i < len; i++) {
-        printf(" %u", list[i]);
+/* A number of two bytes, the low one first. */
+static unsigned number(const uint8_t *bytes) {
+    return bytes[0] + 256u * bytes[1];
+}
+
+static void print_operations(const uint8_t *verdict) {
+    for (size_t i = 0; i < number(verdict); i++) {
+        printf(" %u", number(verdict + WHEELOTTER_OPERATIONS + 2 * i));
+    }
+}
+
+static void print_rules(const uint8_t *verdict) {
+    for (size_t i = 0; i < number(verdict); i++) {
+        printf(" %u", verdict[WHEELOTTER_RULES + i]);
     }
 }
 
@@ -20,13 +31,13 @@ static void print_answer(void) {
 
 /* The bad line is a part of our own text: nothing is copied. */
 static void print_bad_line(void) {
-    uint8_t number = wheelotter_number(text, text_len);
-    if (number == WHEELOTTER_DONE) {
+    uint8_t wrong = wheelotter_number(text, text_len);
+    if (wrong == WHEELOTTER_DONE) {
         printf("the text is good\n");
         return;
     }
     size_t start = wheelotter_start(text, text_len), end = wheelotter_end(text, text_len);
-    printf("number %u on line %zu, bytes %zu to %zu: ", number, wheelotter_line(text, text_len), start, end);
+    printf("number %u on line %zu, bytes %zu to %zu: ", wrong, wheelotter_line(text, text_len), start, end);
     fwrite(text + start, 1, end - start, stdout);
     printf("\n");
 }
@@ -38,16 +49,16 @@ static void print_verdict(uint8_t model) {
     switch (answer) {
     case WHEELOTTER_ORDER:
         printf("order");
-        print_list(out + WHEELOTTER_OPERATIONS, out[0]);
+        print_operations(out);
         break;
     case WHEELOTTER_CIRCLE:
         printf("circle");
-        print_list(out + WHEELOTTER_OPERATIONS, out[0]);
+        print_operations(out);
         printf(" by");
-        print_list(out + WHEELOTTER_RULES, out[0]);
+        print_rules(out);
         break;
     case WHEELOTTER_NO_SOURCE:
-        printf("no source %u", out[WHEELOTTER_OPERATIONS]);
+        printf("no source %u", number(out + WHEELOTTER_OPERATIONS));
         break;
     case WHEELOTTER_NONE_LEFT:
         printf("none left");
@@ -55,8 +66,8 @@ static void print_verdict(uint8_t model) {
     default:
         printf("refused %u", answer);
     }
-    const uint8_t list[] = {1, 2, 3, 0};
-    printf("; is 1 2 3 0 an order: %s\n", wheelotter_judge(text, text_len, model, list, sizeof list) ? "yes" : "no");
+    const uint16_t list[] = {1, 2, 3, 0};
+    printf("; is 1 2 3 0 an order: %s\n", wheelotter_judge(text, text_len, model, list, 4) ? "yes" : "no");
 }
 
 static const char *word(uint8_t answer) {
@@ -99,8 +110,9 @@ int main(void) {
     text_len = fread(text, 1, sizeof text, stdin);
     print_answer();
     print_bad_line();
-    print_verdict(WHEELOTTER_SC);
-    print_verdict(WHEELOTTER_TSO);
+    for (uint8_t model = 1; model <= WHEELOTTER_MODELS; model++) {
+        print_verdict(model);
+    }
     talk();
     return 0;
 }

@@ -1,13 +1,8 @@
-//! The whole output of the program at the bench.
+//! The program at the bench: what it reads, and its whole output.
 
 use crate::desk::Page;
-use crate::reader::{Refusal, MOST_TEXT};
-use crate::trace::Model;
-use crate::verdict::Verdict;
+use crate::reader::MOST_TEXT;
 use std::io::{self, Read};
-
-/// What a line says where this program does not know; the document has no such line.
-pub const NOT_KNOWN: &str = "not known";
 
 /// Up to one byte more than a text may have, which is enough to see that it is too long.
 pub fn standard_input() -> io::Result<Vec<u8>> {
@@ -18,27 +13,4 @@ pub fn standard_input() -> io::Result<Vec<u8>> {
 
 pub fn output(text: &[u8], most_steps: u64) -> String {
     Page::new(text, most_steps).output()
-}
-
-pub fn refused(refusal: &Refusal<'_>) -> String {
-    format!("refused {} line {}\n", refusal.number, refusal.line)
-}
-
-pub fn line(model: Model, verdict: &Verdict) -> String {
-    format!("{}: {}\n", model.name(), told(verdict))
-}
-
-fn told(verdict: &Verdict) -> String {
-    match verdict {
-        Verdict::NoSource(load) => format!("no order, no source {load}"),
-        Verdict::Circle(circle) => format!("no order, circle{} by{}", listed(&circle.operations), listed(&circle.rules)),
-        Verdict::Order(list) => format!("order{}", listed(list)),
-        Verdict::NoneLeft => "no order, none left".to_string(),
-        Verdict::NotKnown => NOT_KNOWN.to_string(),
-    }
-}
-
-/// Each number with a space before it, so that an empty list leaves no space.
-fn listed<T: ToString>(numbers: &[T]) -> String {
-    numbers.iter().map(|number| format!(" {}", number.to_string())).collect()
 }

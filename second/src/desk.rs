@@ -4,47 +4,71 @@
 //! |---|---|
 //! | 0 | done, or nothing is wrong |
 //! | 1 to 16 | the document's numbers |
-//! | 17 | no room in the lent memory, which stays as it was |
-//! | 18, 19, 20 | the verdict: order, circle, none left |
-//! | 21, 22, 23 | asked: held, not held, contradicted |
+//! | 21 | no room in the lent memory, which stays as it was; whatever is wrong with the input is told before it |
+//! | 64, 65, 66 | the verdict: order, circle, none left |
+//! | 67, 68, 69 | asked: held, not held, contradicted |
+//! | 70 to 75 | a list judged: valid, wrong length, bad number, repeat, out of turn, wrong value |
 //!
-//! A session in bytes: the model; how many pairs stand; sixteen pairs, first then second, unused ones 0; 1 where contradicted; a byte for
-//! each x and each y, 1 where x before y is held; then the text of its trace up to the end.
+//! Numbers of records, and how many are told, are laid down in two bytes, the low one first.
+//!
+//! A session in bytes: the model; how many pairs stand, in one byte; sixteen pairs, first then second, unused ones 0; 1 where contradicted; a
+//! bit for each x and each y, eight to a byte from the lowest on, 1 where x before y is held; then the text of its trace up to the end.
 
-use crate::bench;
-use crate::orders;
+use crate::orders::{self, Judgement};
 use crate::reader::{self, Refusal};
+use crate::report;
 use crate::rules::Pair;
 use crate::session::{self, Answer, Session, Talk, MOST_PAIRS};
-use crate::trace::{Model, Trace, MOST_RECORDS};
-use crate::verdict::{verdict, Verdict};
+use crate::trace::{Model, Trace, MODELS, MOST_RECORDS};
+use crate::verdict::{judgement, verdict, Verdict};
 use std::cell::OnceCell;
 
 pub const DONE: u8 = 0;
 pub const NO_MODEL: u8 = 9;
 pub const NO_SOURCE: u8 = 11;
 pub const NO_SESSION: u8 = 12;
-pub const NO_ROOM: u8 = 17;
-pub const ORDER: u8 = 18;
-pub const CIRCLE: u8 = 19;
-pub const NONE_LEFT: u8 = 20;
-pub const HELD: u8 = 21;
-pub const NOT_HELD: u8 = 22;
-pub const CONTRADICTED: u8 = 23;
+pub const NO_ROOM: u8 = 21;
+pub const ORDER: u8 = 64;
+pub const CIRCLE: u8 = 65;
+pub const NONE_LEFT: u8 = 66;
+pub const HELD: u8 = 67;
+pub const NOT_HELD: u8 = 68;
+pub const CONTRADICTED: u8 = 69;
+pub const VALID: u8 = 70;
+pub const WRONG_LENGTH: u8 = 71;
+pub const BAD_NUMBER: u8 = 72;
+pub const REPEAT: u8 = 73;
+pub const OUT_OF_TURN: u8 = 74;
+pub const WRONG_VALUE: u8 = 75;
 
 /// A verdict in bytes: how many operations it names, the operations, the rules of a circle.
-pub const VERDICT: usize = 1 + 2 * MOST_RECORDS;
+pub const VERDICT: usize = RULES_AT + MOST_RECORDS;
+pub const OPERATIONS_AT: usize = 2;
+pub const RULES_AT: usize = OPERATIONS_AT + 2 * MOST_RECORDS;
 
-const PAIRS_AT: usize = 2;
-const CONTRADICTED_AT: usize = PAIRS_AT + 2 * MOST_PAIRS;
-const TABLE_AT: usize = CONTRADICTED_AT + 1;
+/// What a judged list comes with: the place or the record, of a pair both records; unused ones 0.
+pub const JUDGEMENT: usize = 4;
+
+pub const PAIRS_AT: usize = 2;
+pub const CONTRADICTED_AT: usize = PAIRS_AT + 4 * MOST_PAIRS;
+pub const TABLE_AT: usize = CONTRADICTED_AT + 1;
 
 /// What stands in a session before its text.
-pub const HEAD: usize = TABLE_AT + MOST_RECORDS * MOST_RECORDS;
+pub const HEAD: usize = TABLE_AT + MOST_RECORDS * MOST_RECORDS / 8;
 
-/// Where the table says whether a pair is held.
-pub fn place_of((x, y): Pair) -> usize {
-    TABLE_AT + MOST_RECORDS * x + y
+/// The byte and the bit of it where the table says whether a pair is held.
+pub fn place_of((x, y): Pair) -> (usize, u8) {
+    let bit = MOST_RECORDS * x + y;
+    (TABLE_AT + bit / 8, 1 << (bit % 8))
+}
+
+pub fn put_number(place: &mut [u8], number: usize) {
+    let number = u16::try_from(number).expect("record numbers fit into two bytes");
+    place[..2].copy_from_slice(&number.to_le_bytes());
+}
+
+pub fn number_at(place: &[u8]) -> usize {
+    u16::from_le_bytes([place[0], place[1]]).into()
 }
 
 // ---- a text ----
@@ -54,12 +78,12 @@ pub struct Page<'a> {
     text: &'a [u8],
     most_steps: u64,
     reading: Result<Trace, Refusal<'a>>,
-    verdicts: [OnceCell<Verdict>; 2],
+    verdicts: [OnceCell<Verdict>; MODELS],
 }
 
 impl<'a> Page<'a> {
     pub fn new(text: &'a [u8], most_steps: u64) -> Page<'a> {
-        Page { text, most_steps, reading: reader::read(text), verdicts: [OnceCell::new(), OnceCell::new()] }
+        Page { text, most_steps, reading: reader::read(text), verdicts: [const { OnceCell::new() }; MODELS] }
     }
 
     pub fn trace(&self) -> Option<&Trace> {
@@ -69,15 +93,15 @@ impl<'a> Page<'a> {
     /// Of a good text, under a model that there is.
     pub fn verdict_under(&self, model: Model) -> Option<&Verdict> {
         let trace = self.trace()?;
-        let number = model as usize;
-        Some(self.verdicts[number].get_or_init(|| verdict(trace, 1 + number as u64, self.most_steps).expect("a good trace")))
+        let found = || verdict(trace, model.number(), self.most_steps).expect("a good trace");
+        Some(self.verdicts[model as usize].get_or_init(found))
     }
 
     /// What the program at the bench prints for this text.
     pub fn output(&self) -> String {
         match &self.reading {
-            Err(refusal) => bench::refused(refusal),
-            Ok(_) => [Model::Sc, Model::Tso].map(|model| bench::line(model, self.verdict_under(model).expect("a good text"))).concat(),
+            Err(refusal) => report::refused(refusal),
+            Ok(_) => Model::all().iter().map(|&model| report::line(model, self.verdict_under(model).expect("a good text"))).collect(),
         }
     }
 
@@ -110,30 +134,26 @@ impl<'a> Page<'a> {
 
     /// None, and nothing laid down, where this package does not know.
     pub fn verdict(&self, model: u8, lent: &mut [u8]) -> Option<u8> {
+        let model = match (self.number(), Model::numbered(model.into())) {
+            (DONE, None) => return Some(NO_MODEL),
+            (DONE, Some(model)) => model,
+            (refused, _) => return Some(refused),
+        };
         if lent.len() < VERDICT {
             return Some(NO_ROOM);
         }
-        let (answer, operations, rules) = match (self.number(), Model::numbered(model.into())) {
-            (DONE, None) => (NO_MODEL, vec![], &[][..]),
-            (DONE, Some(model)) => match self.verdict_under(model).expect("a good text") {
-                Verdict::NoSource(load) => (NO_SOURCE, vec![*load], &[][..]),
-                Verdict::Circle(circle) => (CIRCLE, circle.operations.clone(), &circle.rules[..]),
-                Verdict::Order(list) => (ORDER, list.clone(), &[][..]),
-                Verdict::NoneLeft => (NONE_LEFT, vec![], &[][..]),
-                Verdict::NotKnown => return None,
-            },
-            (refused, _) => (refused, vec![], &[][..]),
+        let (answer, operations, rules) = match self.verdict_under(model).expect("a good text") {
+            Verdict::NoSource(load) => (NO_SOURCE, vec![*load], &[][..]),
+            Verdict::Circle(circle) => (CIRCLE, circle.operations.clone(), &circle.rules[..]),
+            Verdict::Order(list) => (ORDER, list.clone(), &[][..]),
+            Verdict::NoneLeft => (NONE_LEFT, vec![], &[][..]),
+            Verdict::NotKnown => return None,
         };
-        lent[..VERDICT].fill(0);
-        lent[0] = operations.len() as u8;
-        for (place, x) in operations.into_iter().enumerate() {
-            lent[1 + place] = x as u8;
-        }
-        lent[1 + MOST_RECORDS..][..rules.len()].copy_from_slice(rules);
+        lay_verdict(&mut lent[..VERDICT], &operations, rules);
         Some(answer)
     }
 
-    pub fn judge(&self, model: u8, list: &[u8]) -> bool {
+    pub fn judge(&self, model: u8, list: &[u16]) -> bool {
         let list: Vec<usize> = list.iter().copied().map(usize::from).collect();
         match (self.trace(), Model::numbered(model.into())) {
             (Some(trace), Some(model)) => orders::judge(trace, model, &list),
@@ -141,25 +161,55 @@ impl<'a> Page<'a> {
         }
     }
 
-    /// The answer, and the session that then stands in front of the lent memory.
+    /// Why a list is no order, with the place or the records concerned.
+    pub fn judgement(&self, model: u8, list: &[u16], lent: &mut [u8]) -> u8 {
+        let list: Vec<usize> = list.iter().copied().map(usize::from).collect();
+        let judged = match &self.reading {
+            Err(refusal) => Err(refusal.number),
+            Ok(trace) => judgement(trace, model.into(), &list),
+        };
+        let (answer, first, second) = match judged {
+            Err(number) => return number,
+            Ok(Judgement::Valid) => (VALID, 0, 0),
+            Ok(Judgement::WrongLength) => (WRONG_LENGTH, 0, 0),
+            Ok(Judgement::BadNumber(place)) => (BAD_NUMBER, place, 0),
+            Ok(Judgement::Repeat(record)) => (REPEAT, record, 0),
+            Ok(Judgement::OutOfTurn(first, second)) => (OUT_OF_TURN, first, second),
+            Ok(Judgement::WrongValue(record)) => (WRONG_VALUE, record, 0),
+        };
+        let Some(place) = lent.get_mut(..JUDGEMENT) else { return NO_ROOM };
+        put_number(place, first);
+        put_number(&mut place[2..], second);
+        answer
+    }
+
+    /// The answer, and the session that then stands in front of the lent memory, if any does.
     pub fn open(&self, model: u8, lent: &mut [u8]) -> (u8, Option<Talk>) {
-        if lent.len() < HEAD + self.text.len() {
-            return (NO_ROOM, None);
-        }
         let opened = match &self.reading {
             Err(refusal) => Err(refusal.number),
             Ok(trace) => Talk::open(trace, model.into()).map_err(|refused| refused.number),
         };
-        let (answer, talk) = match opened {
-            Ok(talk) => {
-                lent[HEAD..][..self.text.len()].copy_from_slice(self.text);
-                (DONE, talk)
-            }
-            Err(number) => (number, Talk::of_nothing()),
+        let (answer, talk, text) = match opened {
+            Ok(talk) => (DONE, talk, self.text),
+            Err(number) => (number, Talk::of_nothing(), &[][..]),
         };
-        lent[..HEAD].copy_from_slice(&head_of(talk.session()));
+        let Some(place) = lent.get_mut(..HEAD + text.len()) else {
+            return (if answer == DONE { NO_ROOM } else { answer }, None);
+        };
+        place[..HEAD].copy_from_slice(&head_of(talk.session()));
+        place[HEAD..].copy_from_slice(text);
         (answer, Some(talk))
     }
+}
+
+/// All of a verdict's bytes.
+pub fn lay_verdict(place: &mut [u8], operations: &[usize], rules: &[u8]) {
+    place.fill(0);
+    put_number(place, operations.len());
+    for (operation, &x) in place[OPERATIONS_AT..RULES_AT].chunks_mut(2).zip(operations) {
+        put_number(operation, x);
+    }
+    place[RULES_AT..][..rules.len()].copy_from_slice(rules);
 }
 
 // ---- sessions ----
@@ -169,13 +219,14 @@ pub fn head_of(session: &Session) -> [u8; HEAD] {
     let mut head = [0; HEAD];
     head[0] = session.model as u8;
     head[1] = session.pairs.len() as u8;
-    for (pair, place) in session.pairs.iter().zip(head[PAIRS_AT..CONTRADICTED_AT].chunks_mut(2)) {
-        place[0] = pair.0 as u8;
-        place[1] = pair.1 as u8;
+    for (pair, place) in session.pairs.iter().zip(head[PAIRS_AT..CONTRADICTED_AT].chunks_mut(4)) {
+        put_number(place, pair.0);
+        put_number(&mut place[2..], pair.1);
     }
     head[CONTRADICTED_AT] = u8::from(session.contradicted);
     for &pair in &session.held {
-        head[place_of(pair)] = 1;
+        let (byte, bit) = place_of(pair);
+        head[byte] |= bit;
     }
     head
 }
@@ -183,19 +234,20 @@ pub fn head_of(session: &Session) -> [u8; HEAD] {
 /// The session that some bytes are, sound or not; None where they are no session's.
 pub fn taken(bytes: &[u8]) -> Option<Session> {
     let (head, text) = bytes.split_at_checked(HEAD)?;
-    let is_a_mark = |byte: &u8| *byte <= 1;
-    if !head[CONTRADICTED_AT..].iter().all(is_a_mark) {
-        return None;
-    }
-    let places: Vec<Pair> = head[PAIRS_AT..CONTRADICTED_AT].chunks(2).map(|pair| (pair[0].into(), pair[1].into())).collect();
+    let contradicted = match head[CONTRADICTED_AT] {
+        0 => false,
+        1 => true,
+        _ => return None,
+    };
+    let places: Vec<Pair> = head[PAIRS_AT..CONTRADICTED_AT].chunks(4).map(|pair| (number_at(pair), number_at(&pair[2..]))).collect();
     let (pairs, unused) = places.split_at_checked(head[1].into())?;
     if unused.iter().any(|pair| *pair != (0, 0)) {
         return None;
     }
     let trace = reader::read(text).ok()?;
-    let all = (0..MOST_RECORDS).flat_map(|x| (0..MOST_RECORDS).map(move |y| (x, y)));
-    let held = all.filter(|pair| head[place_of(*pair)] == 1).collect();
-    let contradicted = head[CONTRADICTED_AT] == 1;
+    let bits = head[TABLE_AT..].iter().enumerate().filter(|(_, byte)| **byte != 0);
+    let bits = bits.flat_map(|(place, byte)| (0..8).filter(move |bit| byte >> bit & 1 == 1).map(move |bit| 8 * place + bit));
+    let held = bits.map(|bit| (bit / MOST_RECORDS, bit % MOST_RECORDS)).collect();
     Some(Session { trace, model: head[0].into(), pairs: pairs.to_vec(), contradicted, held })
 }
 

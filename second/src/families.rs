@@ -1,6 +1,7 @@
 //! Families of texts to compare on. A family, a seed and a case number give one text.
 
 use crate::chance::Chance;
+use crate::trace::MOST_RECORDS;
 
 mod knot;
 mod runs;
@@ -10,31 +11,54 @@ pub struct Family {
     pub name: &'static str,
     pub what: &'static str,
     pub draw: fn(&mut Chance) -> Vec<u8>,
+    /// Its cases take long.
+    pub seldom: bool,
 }
 
-pub const FAMILIES: [Family; 17] = [
-    Family { name: "stated", what: "the traces of document 01, in other text orders too", draw: runs::stated },
-    Family { name: "sc", what: "runs of a simulated SC machine", draw: runs::sc },
-    Family { name: "tso", what: "runs of a simulated TSO machine", draw: runs::tso },
-    Family { name: "weak", what: "short TSO runs that are slow to drain, a third with a read changed", draw: runs::weak },
-    Family { name: "sc-changed", what: "the same with one or two reads changed", draw: runs::sc_changed },
-    Family { name: "tso-changed", what: "the same with one or two reads changed", draw: runs::tso_changed },
-    Family { name: "knot", what: "KNOT's shape: renamed, merged, dropped, added, padded, copied", draw: knot::knot },
-    Family { name: "dense", what: "2 to 8 operations on 1 or 2 addresses, reads by chance", draw: runs::dense },
-    Family { name: "middle", what: "9 to 16 operations on 1 to 3 addresses, reads by chance", draw: runs::middle },
-    Family { name: "rounds", what: "runs on 1 to 3 crowded addresses, a read changed to a neighbouring value", draw: runs::rounds },
-    Family { name: "edges", what: "one line of a good text on either side of a refusal's edge", draw: texts::edges },
-    Family { name: "numbers", what: "lines of the forms with numbers at and past their bounds", draw: texts::numbers },
-    Family { name: "ranks", what: "a line to which several numbers apply, often as the 65th record", draw: texts::ranks },
-    Family { name: "sizes", what: "80 and 81 bytes, 64 and 65 records, 8,192 and 8,193 bytes", draw: texts::sizes },
-    Family { name: "damaged", what: "a good text with one to three bytes put in, taken out or changed", draw: texts::damaged },
-    Family {
-        name: "edges-damaged",
-        what: "a text at a number's edge with one byte put in, taken out or changed",
-        draw: texts::edges_damaged,
-    },
-    Family { name: "bytes", what: "random bytes, and random pieces of the forms", draw: texts::bytes },
+/// Families that are drawn often have at most so many records, but for those that look at the bound itself.
+pub const USUAL: usize = 64;
+
+/// The long ones have at most so many: lower it where what is compared with takes too long on them.
+pub const LONGEST: usize = MOST_RECORDS;
+
+/// The long ones only where a trace may be long.
+pub const FAMILIES: &[Family] = if MOST_RECORDS > USUAL { ALL } else { ALL.split_at(ALL.len() - LONG).0 };
+
+/// So many of them stand last and are long.
+const LONG: usize = 2;
+
+const ALL: &[Family] = &[
+    often("stated", "the traces of document 01, in other text orders too", runs::stated),
+    often("sc", "runs of a simulated SC machine", runs::sc),
+    often("tso", "runs of a simulated TSO machine", runs::tso),
+    often("pso", "runs of a simulated PSO machine", runs::pso),
+    often("wmo", "runs of a simulated WMO machine", runs::wmo),
+    often("weak", "short runs under TSO, PSO or WMO that are slow to drain, a third with a read changed", runs::weak),
+    often("sc-changed", "the same with one or two reads changed", runs::sc_changed),
+    often("tso-changed", "the same with one or two reads changed", runs::tso_changed),
+    often("weaker-changed", "PSO and WMO runs with one or two reads changed", runs::weaker_changed),
+    often("knot", "KNOT's shape: renamed, merged, dropped, added, padded, copied", knot::knot),
+    often("dense", "2 to 8 operations on 1 or 2 addresses, reads by chance", runs::dense),
+    often("middle", "9 to 16 operations on 1 to 3 addresses, reads by chance", runs::middle),
+    often("rounds", "runs on 1 to 3 crowded addresses, a read changed to a neighbouring value", runs::rounds),
+    often("edges", "one line of a good text on either side of a refusal's edge", texts::edges),
+    often("numbers", "lines of the forms with numbers at and past their bounds", texts::numbers),
+    often("ranks", "a line to which several numbers apply, often one record past the bound", texts::ranks),
+    often("sizes", "lines, records and bytes at their bounds and one past", texts::sizes),
+    often("damaged", "a good text with one to three bytes put in, taken out or changed", texts::damaged),
+    often("edges-damaged", "a text at a number's edge with one byte put in, taken out or changed", texts::edges_damaged),
+    often("bytes", "random bytes, and random pieces of the forms", texts::bytes),
+    seldom("long", "runs of more than 64 records, under any model that there is", runs::long),
+    seldom("long-changed", "the same with one or two reads changed", runs::long_changed),
 ];
+
+const fn often(name: &'static str, what: &'static str, draw: fn(&mut Chance) -> Vec<u8>) -> Family {
+    Family { name, what, draw, seldom: false }
+}
+
+const fn seldom(name: &'static str, what: &'static str, draw: fn(&mut Chance) -> Vec<u8>) -> Family {
+    Family { name, what, draw, seldom: true }
+}
 
 pub fn family(name: &str) -> Option<&'static Family> {
     FAMILIES.iter().find(|family| family.name == name)

@@ -5,25 +5,30 @@
 //!
 //! | Module | Its part of the document |
 //! |---|---|
+//! | `bounds` | the bounds |
 //! | `trace` | what the bench records, models, kept pairs, well formed |
 //! | `reader` | the four line forms, numbers 1 to 8 |
 //! | `rules` | the edges that the rules force, rounds, held, the circle shown |
 //! | `orders` | valid orders, the judge, the first order in dictionary order |
 //! | `verdict` | the verdict, numbers 9 and 10 |
 //! | `session` | suppose, take back, ask, numbers 9 to 16 |
-//! | `bench` | the output of the program at the bench |
+//! | `report` | the lines of an answer |
 //! | `desk` | the entries of the library, in bytes (their form is ours; what they say is the document's) |
-//! | `chance`, `machine`, `families`, `script`, `plan` | texts and session words to compare on (these are ours, not the document's) |
+//! | `bench` | the program at the bench |
+//! | `chance`, `machine`, `families`, `lists`, `script`, `plan` | texts, lists and session words to compare on (these are ours, not the document's) |
 //! | `stated` | the document's own traces with the outputs it states |
 
 pub mod bench;
+pub mod bounds;
 pub mod chance;
 pub mod desk;
 pub mod families;
+pub mod lists;
 pub mod machine;
 pub mod orders;
 pub mod plan;
 pub mod reader;
+pub mod report;
 pub mod rules;
 pub mod script;
 pub mod session;

@@ -1,11 +1,16 @@
-//! Two simulated machines whose traces keep their model by construction.
+//! Simulated machines whose traces keep their model by construction.
 //!
 //! SC: one memory, each operation at once. TSO: each core has a buffer of its stores, first in first out; a load looks into its own
-//! buffer first; swaps and fences wait for their own buffer to be empty. The order in which loads and swaps are done and stores reach
-//! memory is then a valid order: of program order only "plain store, later plain load, no fence between" can be turned round.
+//! buffer first; swaps and fences wait for their own buffer to be empty. PSO: the same, but a core has such a buffer for each address, and a swap
+//! waits for that of its own address only. The order in which loads and swaps are done and stores reach memory is then a valid order: of program
+//! order only "plain store, later plain load" can be turned round, and under PSO "plain store, later write elsewhere", no fence between.
+//!
+//! WMO: a core begins its operations in program order and does them when it likes, but one address's in turn, and none across a fence; a load may
+//! take its value from the newest store of its core to its address that was begun before it and is not done. The order in which they are done is
+//! a valid order.
 
 use crate::chance::Chance;
-use crate::trace::{Record, BEGINNING, LAST_VALUE};
+use crate::trace::{Model, Record, BEGINNING, LAST_VALUE};
 use std::collections::{BTreeMap, BTreeSet, VecDeque};
 
 /// What a chance program looks like.
@@ -54,14 +59,25 @@ impl Values {
     }
 }
 
+/// What all but WMO's have: buffers of stores, which are empty after every step under SC.
 struct Machine {
+    model: Model,
     memory: BTreeMap<u64, u64>,
     buffers: BTreeMap<u64, VecDeque<(u64, u64)>>,
 }
 
 impl Machine {
-    fn drain_one(&mut self, thread: u64) -> bool {
-        match self.buffers.entry(thread).or_default().pop_front() {
+    /// Under PSO the oldest of some address; otherwise the oldest of all.
+    fn drain_one(&mut self, chance: &mut Chance, thread: u64) -> bool {
+        let buffer = self.buffers.entry(thread).or_default();
+        let place = match self.model {
+            Model::Pso if !buffer.is_empty() => {
+                let address = buffer[chance.below(buffer.len())].0;
+                buffer.iter().position(|(to, _)| *to == address)
+            }
+            _ => Some(0),
+        };
+        match place.and_then(|place| buffer.remove(place)) {
             Some((address, value)) => {
                 self.memory.insert(address, value);
                 true
@@ -70,47 +86,156 @@ impl Machine {
         }
     }
 
-    fn drain_all(&mut self, thread: u64) {
-        while self.drain_one(thread) {}
+    fn drain_all(&mut self, chance: &mut Chance, thread: u64) {
+        while self.drain_one(chance, thread) {}
+    }
+
+    /// What a swap at this address waits for.
+    fn drain_for_swap(&mut self, chance: &mut Chance, thread: u64, address: u64) {
+        if self.model != Model::Pso {
+            return self.drain_all(chance, thread);
+        }
+        let buffer = self.buffers.entry(thread).or_default();
+        let newest = buffer.iter().rev().find(|(to, _)| *to == address).map(|(_, value)| *value);
+        buffer.retain(|(to, _)| *to != address);
+        if let Some(value) = newest {
+            self.memory.insert(address, value);
+        }
     }
 
     fn load(&self, thread: u64, address: u64) -> u64 {
         let own = self.buffers.get(&thread).and_then(|buffer| buffer.iter().rev().find(|(to, _)| *to == address));
         own.map(|&(_, value)| value).or_else(|| self.memory.get(&address).copied()).unwrap_or(BEGINNING)
     }
+
+    fn waiting(&self, thread: u64) -> Vec<u64> {
+        self.buffers.get(&thread).into_iter().flatten().map(|&(address, _)| address).collect()
+    }
 }
 
-/// A trace of a run, in the order in which the operations were begun.
+/// A trace of a run under SC or TSO, in the order in which the operations were begun.
 pub fn run(chance: &mut Chance, shape: &Shape, buffered: bool) -> Vec<Record> {
-    let mut machine = Machine { memory: BTreeMap::new(), buffers: BTreeMap::new() };
+    run_under(chance, shape, if buffered { Model::Tso } else { Model::Sc })
+}
+
+/// The same under any model.
+pub fn run_under(chance: &mut Chance, shape: &Shape, model: Model) -> Vec<Record> {
+    if model == Model::Wmo {
+        return run_wmo(chance, shape);
+    }
+    let mut machine = Machine { model, memory: BTreeMap::new(), buffers: BTreeMap::new() };
     let mut values = Values::default();
     let mut records = Vec::new();
     while records.len() < shape.records {
         if chance.percent(shape.drains) {
-            machine.drain_one(*chance.of(&shape.threads));
+            let thread = *chance.of(&shape.threads);
+            machine.drain_one(chance, thread);
             continue;
         }
         let thread = *chance.of(&shape.threads);
-        let stores = if 2 * records.len() < shape.records { shape.stores } else { shape.late_stores };
-        let kind = kind(chance, shape, stores);
-        let address = some_address(chance, shape, &machine, &kind, thread);
+        let kind = kind(chance, shape, records.len());
+        let address = some_address(chance, shape, &machine.waiting(thread), &kind, thread);
         let record = step(chance, kind, &mut machine, &mut values, thread, address);
         records.push(record);
-        if !buffered {
-            machine.drain_all(thread);
+        if model == Model::Sc {
+            machine.drain_all(chance, thread);
         }
     }
     records
 }
 
+/// WMO's machine: for each core the records that were begun and not yet done. A read is settled when it is done.
+struct Wmo {
+    memory: BTreeMap<u64, u64>,
+    records: Vec<Record>,
+    begun: BTreeMap<u64, Vec<usize>>,
+}
+
+fn run_wmo(chance: &mut Chance, shape: &Shape) -> Vec<Record> {
+    let mut machine = Wmo { memory: BTreeMap::new(), records: Vec::new(), begun: BTreeMap::new() };
+    let mut values = Values::default();
+    while machine.records.len() < shape.records {
+        let thread = *chance.of(&shape.threads);
+        if chance.percent(shape.drains.max(5)) {
+            machine.do_one(chance, thread);
+            continue;
+        }
+        let kind = kind(chance, shape, machine.records.len());
+        let address = some_address(chance, shape, &machine.waiting(thread), &kind, thread);
+        machine.begin(match kind {
+            Kind::Load => Record::Load { thread, address, read: BEGINNING },
+            Kind::Store => Record::Store { thread, address, written: values.fresh(chance, address) },
+            Kind::Swap => Record::Swap { thread, address, read: BEGINNING, written: values.fresh(chance, address) },
+            Kind::Fence => Record::Fence { thread },
+        });
+    }
+    while let Some(thread) = machine.some_thread(chance) {
+        machine.do_one(chance, thread);
+    }
+    machine.records
+}
+
+impl Wmo {
+    fn begin(&mut self, record: Record) {
+        self.begun.entry(record.thread()).or_default().push(self.records.len());
+        self.records.push(record);
+    }
+
+    /// One that has something begun.
+    fn some_thread(&self, chance: &mut Chance) -> Option<u64> {
+        let threads: Vec<u64> = self.begun.iter().filter(|(_, begun)| !begun.is_empty()).map(|(&thread, _)| thread).collect();
+        (!threads.is_empty()).then(|| *chance.of(&threads))
+    }
+
+    fn waiting(&self, thread: u64) -> Vec<u64> {
+        let stores = self.begun.get(&thread).into_iter().flatten().filter(|&&x| self.records[x].is_plain_store());
+        stores.filter_map(|&x| self.records[x].address()).collect()
+    }
+
+    /// Does one of the core's that have nothing to wait for; the first never has.
+    fn do_one(&mut self, chance: &mut Chance, thread: u64) {
+        let Some(begun) = self.begun.get(&thread) else { return };
+        let free: Vec<usize> = (0..begun.len()).filter(|&place| !self.waits(begun, place)).collect();
+        if free.is_empty() {
+            return;
+        }
+        let place = *chance.of(&free);
+        let earlier = begun[..place].to_vec();
+        let x = self.begun.get_mut(&thread).expect("it has some").remove(place);
+        self.done(x, &earlier);
+    }
+
+    /// A fence waits for all before it, and all behind it wait for the fence. Otherwise only what goes to one address waits, and a plain load
+    /// not for a plain store.
+    fn waits(&self, begun: &[usize], place: usize) -> bool {
+        let record = &self.records[begun[place]];
+        begun[..place].iter().map(|&x| &self.records[x]).any(|earlier| {
+            let early = earlier.is_plain_store() && record.is_plain_load();
+            record.is_fence() || earlier.is_fence() || earlier.address() == record.address() && !early
+        })
+    }
+
+    fn done(&mut self, x: usize, earlier: &[usize]) {
+        let Some(address) = self.records[x].address() else { return };
+        let own = earlier.iter().rev().map(|&w| &self.records[w]).find(|r| r.is_plain_store() && r.address() == Some(address));
+        let now = own.and_then(Record::written).or_else(|| self.memory.get(&address).copied()).unwrap_or(BEGINNING);
+        match &mut self.records[x] {
+            Record::Load { read, .. } | Record::Swap { read, .. } => *read = now,
+            Record::Store { .. } | Record::Fence { .. } => {}
+        }
+        if let Some(value) = self.records[x].written() {
+            self.memory.insert(address, value);
+        }
+    }
+}
+
 /// Going back to one's own waiting stores is what makes a core see them early.
-fn some_address(chance: &mut Chance, shape: &Shape, machine: &Machine, kind: &Kind, thread: u64) -> u64 {
+fn some_address(chance: &mut Chance, shape: &Shape, waiting: &[u64], kind: &Kind, thread: u64) -> u64 {
     if matches!(kind, Kind::Store) && chance.percent(shape.home) {
         return shape.addresses[thread as usize % shape.addresses.len()];
     }
-    let waiting: Vec<u64> = machine.buffers.get(&thread).into_iter().flatten().map(|&(address, _)| address).collect();
     if !waiting.is_empty() && chance.percent(shape.own) {
-        *chance.of(&waiting)
+        *chance.of(waiting)
     } else {
         *chance.of(&shape.addresses)
     }
@@ -123,7 +248,9 @@ enum Kind {
     Fence,
 }
 
-fn kind(chance: &mut Chance, shape: &Shape, stores: usize) -> Kind {
+/// The kind of the next record, after so many.
+fn kind(chance: &mut Chance, shape: &Shape, records: usize) -> Kind {
+    let stores = if 2 * records < shape.records { shape.stores } else { shape.late_stores };
     let drawn = chance.below(100);
     if drawn < stores {
         Kind::Store
@@ -145,14 +272,14 @@ fn step(chance: &mut Chance, kind: Kind, machine: &mut Machine, values: &mut Val
             Record::Store { thread, address, written }
         }
         Kind::Swap => {
-            machine.drain_all(thread);
+            machine.drain_for_swap(chance, thread, address);
             let read = machine.load(thread, address);
             let written = values.fresh(chance, address);
             machine.memory.insert(address, written);
             Record::Swap { thread, address, read, written }
         }
         Kind::Fence => {
-            machine.drain_all(thread);
+            machine.drain_all(chance, thread);
             Record::Fence { thread }
         }
     }

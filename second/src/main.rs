@@ -2,6 +2,7 @@
 //! `not known` and the exit status is 3.
 
 use second::bench;
+use second::report::NOT_KNOWN;
 use second::verdict::MOST_STEPS;
 use std::io::{self, Write};
 use std::process::ExitCode;
@@ -17,5 +18,5 @@ fn main() -> io::Result<ExitCode> {
     };
     let output = bench::output(&bench::standard_input()?, most_steps);
     io::stdout().write_all(output.as_bytes())?;
-    Ok(if output.contains(bench::NOT_KNOWN) { ExitCode::from(3) } else { ExitCode::SUCCESS })
+    Ok(if output.contains(NOT_KNOWN) { ExitCode::from(3) } else { ExitCode::SUCCESS })
 }

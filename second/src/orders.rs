@@ -2,8 +2,8 @@
 //!
 //! Nothing here looks at the rules' edges, so that an order found here is a test of the rules, and the other way round.
 
-use crate::trace::{kept, Model, Trace, BEGINNING};
-use std::collections::HashSet;
+use crate::trace::{kept, Model, Trace, BEGINNING, LAST_ADDRESS, MOST_RECORDS};
+use std::collections::HashMap;
 
 /// The first valid order, the knowledge that there is none, or neither.
 #[derive(Clone, Debug, PartialEq, Eq)]
@@ -60,6 +60,48 @@ fn value_at(trace: &Trace, list: &[usize], at: usize) -> u64 {
         .map_or(BEGINNING, |i| trace.places[list[i]].written().expect("a writer writes"))
 }
 
+// ---- why a list is no order ----
+
+/// Which condition fails first, with the place or the records concerned.
+#[derive(Clone, Copy, Debug, PartialEq, Eq, PartialOrd, Ord)]
+pub enum Judgement {
+    Valid,
+    /// Not as many numbers as there are operations.
+    WrongLength,
+    /// The first place, from 0, where a number stands that is a fence's or past the end.
+    BadNumber(usize),
+    /// The lowest record that stands there more than once.
+    Repeat(usize),
+    /// A kept pair the wrong way round: the lowest first record, and with it the lowest second.
+    OutOfTurn(usize, usize),
+    /// The lowest record that would have to read another value.
+    WrongValue(usize),
+}
+
+/// Nothing is expected of the list. Each condition is looked at only where those before it hold.
+pub fn judgement(trace: &Trace, model: Model, list: &[usize]) -> Judgement {
+    if list.len() != trace.operations().len() {
+        return Judgement::WrongLength;
+    }
+    if let Some(place) = list.iter().position(|&x| !trace.is_operation(x)) {
+        return Judgement::BadNumber(place);
+    }
+    let mut sorted = list.to_vec();
+    sorted.sort_unstable();
+    if let Some(two) = sorted.windows(2).find(|two| two[0] == two[1]) {
+        return Judgement::Repeat(two[0]);
+    }
+    // Sorted, they are the operations; and each has one place in the list.
+    let place = |x: usize| list.iter().position(|&y| y == x).expect("all there");
+    let turned = |x: usize, y: usize| kept(trace, model, x, y) && place(y) < place(x);
+    let second_of = |x: usize| sorted.iter().copied().find(|&y| turned(x, y)).map(|y| Judgement::OutOfTurn(x, y));
+    if let Some(pair) = sorted.iter().find_map(|&x| second_of(x)) {
+        return pair;
+    }
+    let wrong = |x: &usize| trace.places[*x].read().is_some_and(|read| read != value_at(trace, list, place(*x)));
+    sorted.iter().copied().find(wrong).map_or(Judgement::Valid, Judgement::WrongValue)
+}
+
 // ---- all permutations ----
 
 pub fn first_permutation(trace: &Trace, model: Model) -> First {
@@ -103,8 +145,8 @@ fn plainly(board: &Board, list: &mut Vec<usize>, state: State, steps: &mut u64) 
     if board.is_full(&state) {
         return Some(true);
     }
-    for y in board.unplaced(&state) {
-        if !board.is_ready(&state, y) || !board.reads_rightly(&state, y) {
+    for &y in &board.operations {
+        if state.placed.has(y) || !board.is_ready(&state, y) || !board.reads_rightly(&state, y) {
             continue;
         }
         *steps = steps.checked_sub(1)?;
@@ -119,24 +161,55 @@ fn plainly(board: &Board, list: &mut Vec<usize>, state: State, steps: &mut u64) 
 
 // ---- a list so far ----
 
-/// What matters of a list so far: who stands in it, and which writer of each address stands last.
+/// A set of records.
+#[derive(Clone, Copy, PartialEq, Eq, Hash)]
+struct Set {
+    words: [u64; MOST_RECORDS.div_ceil(64)],
+}
+
+impl Set {
+    const EMPTY: Set = Set { words: [0; MOST_RECORDS.div_ceil(64)] };
+
+    fn of(records: impl Iterator<Item = usize>) -> Set {
+        records.fold(Set::EMPTY, Set::with)
+    }
+
+    fn with(mut self, x: usize) -> Set {
+        self.words[x / 64] |= 1 << (x % 64);
+        self
+    }
+
+    fn has(&self, x: usize) -> bool {
+        self.words[x / 64] >> (x % 64) & 1 == 1
+    }
+
+    fn has_all(&self, others: &Set) -> bool {
+        self.words.iter().zip(&others.words).all(|(mine, theirs)| theirs & !mine == 0)
+    }
+
+    fn count(&self) -> usize {
+        self.words.iter().map(|word| word.count_ones() as usize).sum()
+    }
+}
+
+const ADDRESSES: usize = LAST_ADDRESS as usize + 1;
+
+/// What matters of a list so far: who stands in it, and which writer of each address stands last, if any does.
 ///
 /// Nothing else does: whether y may follow, and what it then reads, is told from these two (`is_ready`, `reads_rightly`), and so is the
 /// state after it. Hence two lists with the same state can be completed in the same ways.
 #[derive(Clone, Copy, PartialEq, Eq, Hash)]
 struct State {
-    placed: u64,
-    latest: [u8; 16],
+    placed: Set,
+    latest: [Option<u16>; ADDRESSES],
 }
-
-const NOBODY: u8 = u8::MAX;
 
 /// The trace, laid out for placing operations one after the other.
 struct Board<'a> {
     trace: &'a Trace,
     operations: Vec<usize>,
     /// For each record, those that a kept pair puts before it.
-    needs: Vec<u64>,
+    needs: Vec<Set>,
     /// For each record that reads, the writers of its address before it in program order, first to last.
     own_writers: Vec<Vec<usize>>,
     /// For each address, the records that read it.
@@ -146,26 +219,18 @@ struct Board<'a> {
 impl<'a> Board<'a> {
     fn new(trace: &'a Trace, model: Model) -> Board<'a> {
         let operations = trace.operations();
-        let needs = (0..trace.count).map(|y| (0..y).filter(|&x| kept(trace, model, x, y)).map(|x| 1 << x).sum()).collect();
+        let needs = (0..trace.count).map(|y| Set::of((0..y).filter(|&x| kept(trace, model, x, y)))).collect();
         let own_writers = (0..trace.count).map(|load| own_writers(trace, load)).collect();
-        let readers = (0..16).map(|address| readers(trace, address)).collect();
+        let readers = (0..=LAST_ADDRESS).map(|address| readers(trace, address)).collect();
         Board { trace, operations, needs, own_writers, readers }
     }
 
     fn start(&self) -> State {
-        State { placed: 0, latest: [NOBODY; 16] }
-    }
-
-    fn is_placed(&self, state: &State, x: usize) -> bool {
-        state.placed >> x & 1 == 1
+        State { placed: Set::EMPTY, latest: [None; ADDRESSES] }
     }
 
     fn is_full(&self, state: &State) -> bool {
-        state.placed.count_ones() as usize == self.operations.len()
-    }
-
-    fn unplaced(&self, state: &State) -> Vec<usize> {
-        self.operations.iter().copied().filter(|&x| !self.is_placed(state, x)).collect()
+        state.placed.count() == self.operations.len()
     }
 
     fn address(&self, x: usize) -> usize {
@@ -174,28 +239,28 @@ impl<'a> Board<'a> {
 
     /// All that a kept pair puts before y stands in the list.
     fn is_ready(&self, state: &State, y: usize) -> bool {
-        self.needs[y] & !state.placed == 0
+        state.placed.has_all(&self.needs[y])
     }
 
     /// What y would read if it came next is settled already, whatever follows. Writers that count are those in the list and those before
     /// y in program order. Of the latter any that is still to come stands later than the whole list so far; of several the last in
-    /// program order stands last, since both models keep a pair of two writers. If none is to come, the list's latest is the latest.
+    /// program order stands last, since every model keeps a pair of two writers of one address. If none is to come, the list's latest is the latest.
     fn reads_rightly(&self, state: &State, y: usize) -> bool {
         let Some(read) = self.trace.places[y].read() else { return true };
-        let to_come = self.own_writers[y].iter().rev().copied().find(|&w| !self.is_placed(state, w));
+        let to_come = self.own_writers[y].iter().rev().copied().find(|&w| !state.placed.has(w));
         let writer = to_come.or_else(|| self.latest(state, self.address(y)));
         read == writer.map_or(BEGINNING, |w| self.trace.places[w].written().expect("a writer writes"))
     }
 
     fn latest(&self, state: &State, address: usize) -> Option<usize> {
-        Some(state.latest[address]).filter(|&w| w != NOBODY).map(usize::from)
+        state.latest[address].map(usize::from)
     }
 
     fn placed(&self, state: &State, y: usize) -> State {
         let mut next = *state;
-        next.placed |= 1 << y;
+        next.placed = next.placed.with(y);
         if self.trace.places[y].written().is_some() {
-            next.latest[self.address(y)] = y as u8;
+            next.latest[self.address(y)] = Some(y as u16);
         }
         next
     }
@@ -211,12 +276,12 @@ impl<'a> Board<'a> {
         let covered = self.latest(state, address).map_or(BEGINNING, |w| self.trace.places[w].written().expect("a writer writes"));
         self.readers[address].iter().any(|&load| {
             let read = self.trace.places[load].read();
-            load != y && !self.is_placed(state, load) && (read == Some(covered) || read == Some(BEGINNING))
+            load != y && !state.placed.has(load) && (read == Some(covered) || read == Some(BEGINNING))
         })
     }
 
     fn may_follow(&self, state: &State, y: usize) -> bool {
-        self.is_ready(state, y) && self.reads_rightly(state, y) && !self.spoils(state, y)
+        !state.placed.has(y) && self.is_ready(state, y) && self.reads_rightly(state, y) && !self.spoils(state, y)
     }
 }
 
@@ -234,16 +299,21 @@ fn readers(trace: &Trace, address: u64) -> Vec<usize> {
 
 // ---- the search ----
 
-/// Can this list be completed? Remembers the states that cannot.
+/// Can this list be completed? Remembers of every state that was tried whether it can.
 struct Search<'a> {
     board: Board<'a>,
-    dead: HashSet<State>,
+    loads: Vec<usize>,
+    /// The stores and swaps, each with those that read what it writes.
+    writers: Vec<(usize, Vec<usize>)>,
+    known: HashMap<State, bool>,
     steps: u64,
+    /// What a step takes of `steps`: on a long trace it is more work.
+    cost: u64,
 }
 
 /// The first valid order in dictionary order: place after place, the lowest operation with which the list can still be completed.
 pub fn search(trace: &Trace, model: Model, most_steps: u64) -> First {
-    let mut search = Search { board: Board::new(trace, model), dead: HashSet::new(), steps: most_steps };
+    let mut search = Search::new(trace, model, most_steps);
     let mut state = search.board.start();
     match search.can_be_completed(state) {
         None => return First::NotKnown,
@@ -259,10 +329,20 @@ pub fn search(trace: &Trace, model: Model, most_steps: u64) -> First {
     First::Order(list)
 }
 
-impl Search<'_> {
+impl<'a> Search<'a> {
+    fn new(trace: &'a Trace, model: Model, steps: u64) -> Search<'a> {
+        let loads = trace.operations().into_iter().filter(|&x| trace.places[x].is_plain_load()).collect();
+        let writers = trace.operations().into_iter().filter(|&x| trace.places[x].written().is_some());
+        let writers =
+            writers.map(|y| (y, trace.operations().into_iter().filter(|&load| trace.source(load) == Some(y)).collect())).collect();
+        let cost = 1 + trace.count as u64 / 65;
+        Search { board: Board::new(trace, model), loads, writers, known: HashMap::new(), steps, cost }
+    }
+
     /// None when the steps are used up. The state can be completed, so some operation is found.
     fn lowest_next(&mut self, state: &State) -> Option<usize> {
-        for y in self.board.unplaced(state) {
+        for i in 0..self.board.operations.len() {
+            let y = self.board.operations[i];
             if self.board.may_follow(state, y) && self.can_be_completed(self.board.placed(state, y))? {
                 return Some(y);
             }
@@ -271,32 +351,58 @@ impl Search<'_> {
     }
 
     fn can_be_completed(&mut self, state: State) -> Option<bool> {
-        let state = self.with_loads_that_fit(state);
+        let state = self.with_what_fits(state);
         if self.board.is_full(&state) {
             return Some(true);
         }
-        if self.dead.contains(&state) {
-            return Some(false);
+        if let Some(&known) = self.known.get(&state) {
+            return Some(known);
         }
-        self.steps = self.steps.checked_sub(1)?;
-        for y in self.board.unplaced(&state) {
+        self.steps = self.steps.checked_sub(self.cost)?;
+        let mut found = false;
+        for i in 0..self.board.operations.len() {
+            let y = self.board.operations[i];
             if self.board.may_follow(&state, y) && self.can_be_completed(self.board.placed(&state, y))? {
-                return Some(true);
+                found = true;
+                break;
             }
         }
-        self.dead.insert(state);
-        Some(false)
+        self.known.insert(state, found);
+        Some(found)
     }
 
-    /// Places every plain load that may follow at once. That loses no completion: in any completion move the load to the front. It is
-    /// ready, so no kept pair breaks; it reads rightly there; and it writes nothing, so nobody else's value changes.
-    fn with_loads_that_fit(&self, mut state: State) -> State {
+    /// Places at once what can only be right there.
+    fn with_what_fits(&self, mut state: State) -> State {
         loop {
-            let fits = |x: &usize| self.board.trace.places[*x].is_plain_load() && self.board.may_follow(&state, *x);
-            match self.board.unplaced(&state).into_iter().find(fits) {
-                Some(load) => state = self.board.placed(&state, load),
-                None => return state,
+            let before = state.placed;
+            for &load in &self.loads {
+                if self.board.may_follow(&state, load) {
+                    state = self.board.placed(&state, load);
+                }
+            }
+            for (y, readers) in &self.writers {
+                state = self.with_readers(&state, *y, readers).unwrap_or(state);
+            }
+            if state.placed == before {
+                return state;
             }
         }
+    }
+
+    /// A plain load that may follow can be placed at once, and no completion is lost: in any completion move the load to the front. It is ready, so
+    /// no kept pair breaks; it reads rightly there; and it writes nothing, so nobody else's value changes.
+    ///
+    /// So can a writer y that may follow, together with all that read from it, where these are plain loads that may follow it. In any completion
+    /// move y and behind it its readers to the front. They are ready, and read rightly. Take any other load at that address. It reads neither
+    /// the beginning nor what stands there now, for y would spoil it; nor from y. So it reads from a writer that is still to come, and y is
+    /// before that one now, as it was or not: the latest that counts for this load is the same as before, whether y counts or not.
+    fn with_readers(&self, state: &State, y: usize, readers: &[usize]) -> Option<State> {
+        if !self.board.may_follow(state, y) {
+            return None;
+        }
+        readers.iter().filter(|&&load| !state.placed.has(load)).try_fold(self.board.placed(state, y), |state, &load| {
+            let fits = self.board.trace.places[load].is_plain_load() && self.board.may_follow(&state, load);
+            fits.then(|| self.board.placed(&state, load))
+        })
     }
 }

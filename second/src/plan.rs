@@ -7,6 +7,9 @@ use std::sync::atomic::{AtomicU64, Ordering};
 use std::thread;
 use std::time::{Duration, Instant};
 
+/// After so many rounds of the other families comes a case of each that is drawn seldom.
+const SELDOM: u64 = 40;
+
 pub struct Plan {
     pub seed: u64,
     pub time: Option<Duration>,
@@ -68,14 +71,21 @@ impl Plan {
     }
 
     /// The next case, for whichever thread asks; None when there is none or the time is up. Cases go round the families, so that every family
-    /// gets its share however early the time ends.
+    /// gets its share however early the time ends; those that are drawn seldom have their turn after so many rounds of the others.
     pub fn next(&self) -> Option<(&'static Family, u64)> {
         let number = self.next.fetch_add(1, Ordering::Relaxed);
         if number >= self.cases || self.time.is_some_and(|time| self.begun.elapsed() >= time) {
             return None;
         }
-        let count = self.families.len() as u64;
-        Some((self.families[(number % count) as usize], number / count))
+        let (often, seldom): (Vec<&'static Family>, Vec<&'static Family>) = self.families.iter().partition(|family| !family.seldom);
+        let (rounds, in_rounds) = if often.is_empty() { (1, 0) } else { (SELDOM, SELDOM * often.len() as u64) };
+        let (turn, place) = (number / (in_rounds + seldom.len() as u64), number % (in_rounds + seldom.len() as u64));
+        if place < in_rounds {
+            let count = often.len() as u64;
+            Some((often[(place % count) as usize], turn * rounds + place / count))
+        } else {
+            Some((seldom[(place - in_rounds) as usize], turn))
+        }
     }
 
     /// Every case, on as many threads as were asked for.

@@ -2,8 +2,7 @@
 
 use crate::trace::{within_bounds, Record, Trace, BEGINNING, MOST_RECORDS};
 
-pub const MOST_TEXT: usize = 8_192;
-pub const MOST_LINE: usize = 80;
+pub use crate::bounds::{MOST_LINE, MOST_TEXT};
 
 /// The part is borrowed from the caller's text, never a copy of it. It begins at `start`, which is 0 where no line is to blame.
 #[derive(Clone, Copy, Debug, PartialEq, Eq)]

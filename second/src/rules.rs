@@ -179,31 +179,55 @@ pub fn chains(edges: &Edges) -> Pairs {
 /// The shortest circle; written from its lowest number; of several the first in dictionary order. Just so it is looked for: one length after the
 /// other, one start after the other, and from each start every list of higher numbers in dictionary order. The first that closes is the one.
 ///
-/// An edge lies on a circle only where a chain leads back from its end to its beginning: other edges are left out, or there would be too many lists.
+/// There would be too many lists, so those are left out that cannot close: where even the fewest edges that lead back to the start are too many.
 pub fn first_shortest_circle(edges: &Edges) -> Option<Vec<usize>> {
-    let back = chains(edges);
-    let on_circles: Edges = edges.iter().filter(|((x, y), _)| back.contains(&(*y, *x))).map(|(&pair, &rule)| (pair, rule)).collect();
-    let followers = followers(&on_circles);
+    let followers = followers(edges);
     let mut ends: [&[usize]; MOST_RECORDS] = [&[]; MOST_RECORDS];
     followers.iter().for_each(|(x, next)| ends[*x] = next);
+    let back: Vec<Vec<Option<usize>>> = followers.iter().map(|(start, _)| ways_back(edges, *start)).collect();
     (1..=followers.len()).find_map(|length| {
-        followers.iter().find_map(|(start, _)| {
+        followers.iter().zip(&back).find_map(|((start, _), back)| {
             let mut list = vec![*start];
-            closes(&ends, &mut list, length).then_some(list)
+            closes(&ends, back, &mut list, length).then_some(list)
         })
     })
 }
 
+/// For each operation the fewest edges, one at the least, that lead from it to the start; None where none do.
+fn ways_back(edges: &Edges, start: usize) -> Vec<Option<usize>> {
+    let mut before = vec![Vec::new(); MOST_RECORDS];
+    edges.keys().for_each(|&(x, y)| before[y].push(x));
+    let mut fewest = vec![None; MOST_RECORDS];
+    let mut reached = vec![start];
+    for count in 1.. {
+        let next: Vec<usize> = reached.iter().flat_map(|&y| &before[y]).copied().collect();
+        reached.clear();
+        for x in next {
+            if fewest[x].is_none() {
+                fewest[x] = Some(count);
+                reached.push(x);
+            }
+        }
+        if reached.is_empty() {
+            break;
+        }
+    }
+    fewest
+}
+
 /// Makes the list longer, in dictionary order, until it has this length and an edge leads from its last to its first; false where that cannot be.
-fn closes(ends: &[&[usize]; MOST_RECORDS], list: &mut Vec<usize>, length: usize) -> bool {
+fn closes(ends: &[&[usize]; MOST_RECORDS], back: &[Option<usize>], list: &mut Vec<usize>, length: usize) -> bool {
     let (first, last) = (list[0], list[list.len() - 1]);
+    if back[last].is_none_or(|fewest| list.len() - 1 + fewest > length) {
+        return false;
+    }
     if list.len() == length {
         return ends[last].contains(&first);
     }
     for &next in ends[last] {
         if next > first && !list.contains(&next) {
             list.push(next);
-            if closes(ends, list, length) {
+            if closes(ends, back, list, length) {
                 return true;
             }
             list.pop();

@@ -3,7 +3,7 @@
 use crate::chance::Chance;
 use crate::rules::Pairs;
 use crate::session::{ask, open, suppose, take_back, Answer, Session};
-use crate::trace::Trace;
+use crate::trace::{Trace, MOST_RECORDS};
 
 pub fn told_pairs(held: &Pairs) -> String {
     held.iter().fold("held".to_string(), |told, (x, y)| format!("{told} {x}-{y}"))
@@ -93,7 +93,7 @@ fn command(chance: &mut Chance, trace: &Trace, supposes: usize) -> Vec<String> {
 fn number(chance: &mut Chance, trace: &Trace) -> usize {
     let operations = trace.operations();
     if operations.is_empty() || chance.percent(3) {
-        *chance.of(&[0, trace.count, trace.count + 1, 63, 64, 65])
+        *chance.of(&[0, trace.count, trace.count + 1, MOST_RECORDS - 1, MOST_RECORDS, MOST_RECORDS + 1])
     } else if chance.percent(3) {
         chance.below(trace.count)
     } else {

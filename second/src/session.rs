@@ -4,7 +4,7 @@ use crate::rules::{last_round, Pair, Pairs};
 use crate::trace::{Model, Trace};
 use crate::verdict::{good, lowest_without_source};
 
-pub const MOST_PAIRS: usize = 16;
+pub use crate::bounds::MOST_PAIRS;
 
 /// The fields are open: a caller may hand in a session that nobody opened, and number 12 has to tell.
 /// The document's unused places have no counterpart, since the pairs are a `Vec`.

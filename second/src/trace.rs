@@ -3,10 +3,7 @@
 use std::collections::BTreeSet;
 use std::fmt;
 
-pub const MOST_RECORDS: usize = 64;
-pub const LAST_THREAD: u64 = 7;
-pub const LAST_ADDRESS: u64 = 15;
-pub const LAST_VALUE: u64 = 65_535;
+pub use crate::bounds::{LAST_ADDRESS, LAST_THREAD, LAST_VALUE, MODELS, MOST_RECORDS};
 
 /// The value of every address before anything is written.
 pub const BEGINNING: u64 = 0;
@@ -83,7 +80,7 @@ pub fn text_of(records: &[Record]) -> Vec<u8> {
 
 pub const UNUSED: Record = Record::Fence { thread: 0 };
 
-/// Sixty-four places, of which the first `count` are records. Anyone can build one, well formed or not.
+/// As many places as there may be records, of which the first `count` are records. Anyone can build one, well formed or not.
 #[derive(Clone, Debug, PartialEq, Eq)]
 pub struct Trace {
     pub count: usize,
@@ -95,7 +92,7 @@ impl Trace {
         Trace { count: 0, places: [UNUSED; MOST_RECORDS] }
     }
 
-    /// Panics past 64 records: callers have counted.
+    /// Panics past the most records: callers have counted.
     pub fn of(records: &[Record]) -> Trace {
         let mut trace = Trace::empty();
         trace.places[..records.len()].copy_from_slice(records);
@@ -166,21 +163,33 @@ pub fn within_bounds(record: &Record) -> bool {
 pub enum Model {
     Sc,
     Tso,
+    Pso,
+    Wmo,
 }
 
 impl Model {
+    /// By their numbers, whether the program has them or not.
+    pub const KNOWN: [Model; 4] = [Model::Sc, Model::Tso, Model::Pso, Model::Wmo];
+
+    /// Those that there are.
+    pub fn all() -> &'static [Model] {
+        &Model::KNOWN[..MODELS]
+    }
+
+    pub fn number(self) -> u64 {
+        self as u64 + 1
+    }
+
     pub fn numbered(number: u64) -> Option<Model> {
-        match number {
-            1 => Some(Model::Sc),
-            2 => Some(Model::Tso),
-            _ => None,
-        }
+        Model::all().iter().copied().find(|model| model.number() == number)
     }
 
     pub fn name(self) -> &'static str {
         match self {
             Model::Sc => "SC",
             Model::Tso => "TSO",
+            Model::Pso => "PSO",
+            Model::Wmo => "WMO",
         }
     }
 }
@@ -190,6 +199,17 @@ pub fn kept(trace: &Trace, model: Model, x: usize, y: usize) -> bool {
     trace.is_operation(x) && trace.is_operation(y) && trace.before_in_program(x, y) && !let_off(trace, model, x, y)
 }
 
+/// No model lets a pair off that has a fence between.
 fn let_off(trace: &Trace, model: Model, x: usize, y: usize) -> bool {
-    model == Model::Tso && trace.places[x].is_plain_store() && trace.places[y].is_plain_load() && !trace.fence_between(x, y)
+    let (first, second) = (&trace.places[x], &trace.places[y]);
+    let store_then_load = first.is_plain_store() && second.is_plain_load();
+    let store_then_write = first.is_plain_store() && second.written().is_some();
+    let one_address = first.address() == second.address();
+    let without_fence = match model {
+        Model::Sc => false,
+        Model::Tso => store_then_load,
+        Model::Pso => store_then_load || store_then_write && !one_address,
+        Model::Wmo => !one_address || store_then_load,
+    };
+    without_fence && !trace.fence_between(x, y)
 }

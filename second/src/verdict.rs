@@ -1,6 +1,6 @@
 //! The verdict on a trace under a model, and the judge as an entry of its own; both may be handed anything (numbers 9 and 10).
 
-use crate::orders::{self, First};
+use crate::orders::{self, First, Judgement};
 use crate::rules::{self, Circle};
 use crate::trace::{Model, Trace, BEGINNING};
 
@@ -25,6 +25,12 @@ pub fn verdict(trace: &Trace, model: u64, most_steps: u64) -> Result<Verdict, u8
 pub fn judge(trace: &Trace, model: u64, list: &[usize]) -> Result<bool, u8> {
     let model = good(trace, model)?;
     Ok(orders::judge(trace, model, list))
+}
+
+/// The same, and why a list is no order.
+pub fn judgement(trace: &Trace, model: u64, list: &[usize]) -> Result<Judgement, u8> {
+    let model = good(trace, model)?;
+    Ok(orders::judgement(trace, model, list))
 }
 
 /// The model, or the lower of 9 and 10 that applies.

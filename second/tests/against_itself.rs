@@ -1,15 +1,17 @@
 //! One way of finding an answer against another, on many texts drawn by chance.
 
-use second::families::{family, text};
-use second::orders::{first_permutation, judge, plain_search, search, First};
+use second::families::{family, text, FAMILIES, USUAL};
+use second::lists::drawn;
+use second::orders::{first_permutation, judge, judgement, plain_search, search, First, Judgement};
 use second::reader::read;
 use second::rules::{around, chains, circle, last_round, Edges, Pair};
 use second::session::{ask, open, suppose, take_back, Answer};
 use second::trace::{kept, text_of, Model, Trace};
-use second::verdict::lowest_without_source;
+use second::verdict::{lowest_without_source, MOST_STEPS};
 use std::collections::{BTreeMap, BTreeSet};
 
-const MODELS: [Model; 2] = [Model::Sc, Model::Tso];
+/// All four, whether the program has them or not.
+const MODELS: [Model; 4] = Model::KNOWN;
 
 /// The traces among a family's first cases.
 fn traces(name: &str, cases: u64) -> Vec<Trace> {
@@ -48,7 +50,7 @@ fn permutations_of_eight_and_the_search_agree() {
 #[test]
 fn the_search_agrees_with_the_plain_one_on_longer_traces() {
     let mut compared = 0;
-    for name in ["middle", "weak", "knot", "rounds", "tso-changed", "sc"] {
+    for name in ["middle", "weak", "knot", "rounds", "tso-changed", "sc", "weaker-changed", "wmo"] {
         for trace in traces(name, 600) {
             for model in MODELS {
                 let wanted = plain_search(&trace, model, 20_000);
@@ -65,7 +67,9 @@ fn the_search_agrees_with_the_plain_one_on_longer_traces() {
 #[test]
 fn what_the_rules_hold_is_kept_by_every_order_found() {
     let (mut orders, mut circles) = (0, 0);
-    for name in ["dense", "weak", "middle", "rounds", "knot", "sc", "tso", "sc-changed", "tso-changed", "stated"] {
+    for name in
+        ["dense", "weak", "middle", "rounds", "knot", "sc", "tso", "pso", "wmo", "sc-changed", "tso-changed", "weaker-changed", "stated"]
+    {
         for trace in traces(name, 500) {
             if lowest_without_source(&trace).is_some() {
                 continue;
@@ -86,6 +90,28 @@ fn what_the_rules_hold_is_kept_by_every_order_found() {
         }
     }
     assert!(orders > 1_000 && circles > 500, "{orders} orders, {circles} circles");
+}
+
+/// Where the bound allows traces of more than 64 records: the search comes to an end on them, and its orders keep what the rules hold.
+#[test]
+fn long_traces() {
+    let families = FAMILIES.iter().filter(|family| family.seldom);
+    let (mut told, mut not_known) = (0, 0);
+    for trace in families.flat_map(|family| traces(family.name, 30)) {
+        assert!(trace.count > USUAL);
+        for model in MODELS {
+            match search(&trace, model, MOST_STEPS) {
+                First::Order(list) => {
+                    told += 1;
+                    assert!(judge(&trace, model, &list), "{model:?}\n{}", shown(&trace));
+                    assert!(keeps(&list, last_round(&trace, model, &[]).chains.iter()), "{model:?}\n{}", shown(&trace));
+                }
+                First::None => told += 1,
+                First::NotKnown => not_known += 1,
+            }
+        }
+    }
+    assert!(not_known * 20 <= told, "{not_known} not known, {told} told");
 }
 
 fn keeps<'a>(list: &[usize], mut pairs: impl Iterator<Item = &'a Pair>) -> bool {
@@ -116,15 +142,17 @@ fn every_valid_order_keeps_what_is_held() {
 }
 
 #[test]
-fn an_order_under_sc_is_one_under_tso() {
-    for trace in traces("sc", 400) {
-        let First::Order(list) = search(&trace, Model::Sc, 100_000) else { panic!("an SC run has an order\n{}", shown(&trace)) };
-        assert!(judge(&trace, Model::Tso, &list));
+fn a_run_has_an_order_under_its_model_and_every_weaker_one() {
+    let mut parted = 0;
+    for (model, name) in MODELS.into_iter().zip(["sc", "tso", "pso", "wmo"]) {
+        for trace in traces(name, 400) {
+            let First::Order(list) = search(&trace, model, 100_000) else { panic!("a run of {name} has an order\n{}", shown(&trace)) };
+            let keeping = MODELS.map(|other| judge(&trace, other, &list));
+            assert!(keeping[model as usize..].iter().all(|&yes| yes), "{name} {keeping:?}\n{}", shown(&trace));
+            parted += usize::from(!keeping[0]);
+        }
     }
-    for trace in traces("tso", 400).iter() {
-        let wanted = search(trace, Model::Tso, 100_000);
-        assert!(matches!(wanted, First::Order(_)), "a TSO run has an order\n{}", shown(trace));
-    }
+    assert!(parted > 200, "{parted}");
 }
 
 // ---- the rules, as a question about one edge ----
@@ -190,7 +218,7 @@ fn asked_last_round(trace: &Trace, model: Model) -> (Edges, BTreeSet<Pair>) {
 #[test]
 fn rounds_agree_with_the_rules_asked_edge_by_edge() {
     let mut rules_seen = BTreeSet::new();
-    for name in ["dense", "weak", "middle", "rounds", "stated", "tso-changed"] {
+    for name in ["dense", "weak", "middle", "rounds", "stated", "tso-changed", "weaker-changed"] {
         for trace in traces(name, 300) {
             if trace.operations().len() > 24 || lowest_without_source(&trace).is_some() {
                 continue;
@@ -311,6 +339,62 @@ fn every_refusal_and_its_edge_is_drawn() {
     assert_eq!(seen, (1..=8).collect());
 }
 
+// ---- lists ----
+
+/// Everything that is wrong with a list, asked one by one; the lowest comes first, as the conditions stand in order.
+fn asked_judgement(trace: &Trace, model: Model, list: &[usize]) -> Judgement {
+    let operations = trace.operations();
+    if list.len() != operations.len() {
+        return Judgement::WrongLength;
+    }
+    let mut wrong = vec![];
+    let known = |x: &usize| *x < trace.count && !trace.places[*x].is_fence();
+    wrong.extend((0..list.len()).filter(|&place| !known(&list[place])).map(Judgement::BadNumber));
+    let times = |x: usize| list.iter().filter(|&&y| x == y).count();
+    wrong.extend(list.iter().filter(|&&x| times(x) > 1).map(|&x| Judgement::Repeat(x)));
+    if wrong.is_empty() {
+        let before = |x: usize, y: usize| list.iter().find(|&&z| z == x || z == y) == Some(&x);
+        let pairs = operations.iter().flat_map(|&x| operations.iter().map(move |&y| (x, y)));
+        wrong.extend(pairs.filter(|&(x, y)| kept(trace, model, x, y) && before(y, x)).map(|(x, y)| Judgement::OutOfTurn(x, y)));
+        let counts =
+            |s: usize, l: usize| s != l && trace.places[s].written().is_some() && trace.places[s].address() == trace.places[l].address();
+        for &l in operations.iter().filter(|&&l| trace.places[l].read().is_some()) {
+            let po = |s: usize| s < l && trace.places[s].thread() == trace.places[l].thread();
+            let counted: Vec<usize> = operations.iter().copied().filter(|&s| counts(s, l) && (before(s, l) || po(s))).collect();
+            let latest = counted.iter().find(|&&s| counted.iter().all(|&other| other == s || before(other, s)));
+            if trace.places[l].read() != Some(latest.map_or(0, |&s| trace.places[s].written().expect("it writes"))) {
+                wrong.push(Judgement::WrongValue(l));
+            }
+        }
+    }
+    wrong.into_iter().min().unwrap_or(Judgement::Valid)
+}
+
+#[test]
+fn judgements_agree_with_the_conditions_asked_one_by_one() {
+    let mut chance = second::chance::Chance::new(23);
+    let mut seen: BTreeMap<String, usize> = BTreeMap::new();
+    for name in ["dense", "weak", "middle", "stated", "knot", "sc", "tso", "pso", "wmo"] {
+        for trace in traces(name, 150) {
+            for model in MODELS {
+                let order = match search(&trace, model, 10_000) {
+                    First::Order(list) => Some(list),
+                    _ => None,
+                };
+                for _ in 0..4 {
+                    let list: Vec<usize> = drawn(&mut chance, &trace, order.as_deref()).into_iter().map(usize::from).collect();
+                    let told = judgement(&trace, model, &list);
+                    assert_eq!(told, asked_judgement(&trace, model, &list), "{model:?} {list:?}\n{}", shown(&trace));
+                    assert_eq!(told == Judgement::Valid, judge(&trace, model, &list), "{model:?} {list:?}\n{}", shown(&trace));
+                    let kind = format!("{told:?}");
+                    *seen.entry(kind.split('(').next().expect("a word").to_string()).or_default() += 1;
+                }
+            }
+        }
+    }
+    assert!(seen.len() == 6 && seen.values().all(|&times| times > 300), "{seen:?}");
+}
+
 // ---- sessions ----
 
 #[test]
@@ -322,8 +406,8 @@ fn sessions_hold_what_all_orders_with_their_pairs_keep() {
         if !(2..=6).contains(&operations.len()) || lowest_without_source(trace).is_some() {
             continue;
         }
-        for model in [1, 2] {
-            let kind = Model::numbered(model).expect("a model");
+        for &kind in Model::all() {
+            let model = kind.number();
             let mut stack = vec![open(trace, model).expect("opens")];
             for _ in 0..6 {
                 let session = &stack[stack.len() - 1];

@@ -3,9 +3,10 @@
 use second::chance::Chance;
 use second::desk::{ask, head_of, place_of, suppose, take_back, taken, told, Page, DONE, HEAD, VERDICT};
 use second::families::{family, text, FAMILIES};
+use second::reader::MOST_TEXT;
 use second::session::{self, Answer, Talk};
-use second::stated::KNOT;
-use second::trace::text_of;
+use second::stated::{KNOT, STATED};
+use second::trace::{text_of, MODELS, MOST_RECORDS};
 use second::verdict::MOST_STEPS;
 use std::collections::BTreeSet;
 
@@ -19,42 +20,46 @@ fn page(text: &str) -> Page<'_> {
 }
 
 /// The answer, the operations, the rules, and whether all other bytes are as they should be.
-fn verdict_in(text: &str, model: u8, room: usize) -> (u8, Vec<u8>, Vec<u8>, bool) {
+fn verdict_in(text: &str, model: u8, room: usize) -> (u8, Vec<usize>, Vec<u8>, bool) {
     let mut lent = vec![BEFORE; room];
     let answer = page(text).verdict(model, &mut lent).expect("known");
+    if answer < 11 || answer == 21 {
+        return (answer, vec![], vec![], lent == vec![BEFORE; room]);
+    }
     let (front, rest) = lent.split_at(VERDICT);
-    let named = usize::from(front[0]);
-    let (operations, rules) = front[1..].split_at(64);
-    let rules_named = if answer == 19 { named } else { 0 };
-    let unused = operations[named..].iter().chain(&rules[rules_named..]).all(|&byte| byte == 0);
+    let number = |place: usize| usize::from(front[place]) + 256 * usize::from(front[place + 1]);
+    let named = number(0);
+    let (operations, rules) = front[2..].split_at(2 * MOST_RECORDS);
+    let rules_named = if answer == 65 { named } else { 0 };
+    let unused = operations[2 * named..].iter().chain(&rules[rules_named..]).all(|&byte| byte == 0);
     let stays = rest.iter().all(|&byte| byte == BEFORE);
-    (answer, operations[..named].to_vec(), rules[..rules_named].to_vec(), unused && stays)
+    (answer, (0..named).map(|i| number(2 + 2 * i)).collect(), rules[..rules_named].to_vec(), unused && stays)
 }
 
 #[test]
 fn a_verdict_in_bytes() {
-    assert_eq!(VERDICT, 129);
-    for room in [129, 130, 200] {
-        assert_eq!(verdict_in(BUFFERS, 1, room), (19, vec![0, 1, 2, 3], vec![1, 4, 1, 4], true));
-        assert_eq!(verdict_in(BUFFERS, 2, room), (18, vec![1, 2, 3, 0], vec![], true));
-        assert_eq!(verdict_in(KNOT, 2, room), (20, vec![], vec![], true));
+    assert_eq!(VERDICT, 2 + 3 * MOST_RECORDS);
+    for room in [VERDICT, VERDICT + 1, VERDICT + 71] {
+        assert_eq!(verdict_in(BUFFERS, 1, room), (65, vec![0, 1, 2, 3], vec![1, 4, 1, 4], true));
+        assert_eq!(verdict_in(BUFFERS, 2, room), (64, vec![1, 2, 3, 0], vec![], true));
+        assert_eq!(verdict_in(KNOT, 2, room), (66, vec![], vec![], true));
         assert_eq!(verdict_in("0: M[0] := 1\n0: sync\n0: M[0] == 2\n", 1, room), (11, vec![2], vec![], true));
-        assert_eq!(verdict_in("", 2, room), (18, vec![], vec![], true));
-        assert_eq!(verdict_in(BUFFERS, 0, room), (9, vec![], vec![], true));
-        assert_eq!(verdict_in(BUFFERS, 3, room), (9, vec![], vec![], true));
-        assert_eq!(verdict_in("0: syn\n", 3, room), (3, vec![], vec![], true), "a refused text is told before a bad model");
+        assert_eq!(verdict_in("", 2, room), (64, vec![], vec![], true));
     }
-    for room in [0, 1, 128] {
-        let mut lent = vec![BEFORE; room];
-        assert_eq!(page("0: syn\n").verdict(3, &mut lent), Some(17));
-        assert_eq!(lent, vec![BEFORE; room]);
+    for room in [0, 1, VERDICT - 1, VERDICT, VERDICT + 9] {
+        assert_eq!(verdict_in(BUFFERS, 0, room), (9, vec![], vec![], true));
+        assert_eq!(verdict_in(BUFFERS, 255, room), (9, vec![], vec![], true));
+        assert_eq!(verdict_in("0: syn\n", 255, room), (3, vec![], vec![], true), "a refused text is told before a bad model");
+    }
+    for room in [0, 1, VERDICT - 1] {
+        assert_eq!(verdict_in(BUFFERS, 1, room), (21, vec![], vec![], true), "room is asked for last");
     }
 }
 
 #[test]
 fn a_report_in_bytes() {
-    let wanted = b"SC: no order, circle 0 1 2 3 by 1 4 1 4\nTSO: order 1 2 3 0\n";
-    for (room, length) in [(wanted.len() - 1, 0), (wanted.len(), wanted.len()), (1116, wanted.len()), (0, 0)] {
+    let wanted = STATED.iter().find(|stated| stated.text == BUFFERS).expect("stated").output().into_bytes();
+    for (room, length) in [(wanted.len() - 1, 0), (wanted.len(), wanted.len()), (wanted.len() + 1000, wanted.len()), (0, 0)] {
         let mut lent = vec![BEFORE; room];
         assert_eq!(page(BUFFERS).report(&mut lent), length);
         assert_eq!(lent[..length], wanted[..length]);
@@ -74,20 +79,47 @@ fn where_the_bad_line_lies() {
     assert_eq!(place("0: M[0] := 1\n0: M[1] == 0"), (3, 2, 13, 25), "no ending line feed");
     assert_eq!(place("0: sync\n\n0: sync\n"), (3, 2, 8, 8), "an empty line lies somewhere too");
     assert_eq!(place("\n"), (3, 1, 0, 0));
-    assert_eq!(place(&"\n".repeat(8_193)), (1, 0, 0, 0));
+    assert_eq!(place(&"\n".repeat(MOST_TEXT + 1)), (1, 0, 0, 0));
     assert_eq!(place(&"8".repeat(81)), (2, 1, 0, 81));
 }
 
 #[test]
 fn lists_judged() {
-    let judged = |text: &str, model, list: &[u8]| page(text).judge(model, list);
+    let judged = |text: &str, model, list: &[u16]| page(text).judge(model, list);
     assert!(judged(BUFFERS, 2, &[1, 2, 3, 0]));
     assert!(!judged(BUFFERS, 1, &[1, 2, 3, 0]));
-    assert!(!judged(BUFFERS, 3, &[1, 2, 3, 0]));
+    assert!(!judged(BUFFERS, 255, &[1, 2, 3, 0]));
     assert!(!judged(BUFFERS, 2, &[1, 2, 3, 0, 0]));
     assert!(!judged(BUFFERS, 2, &[1, 2, 3, 255]));
+    assert!(!judged(BUFFERS, 2, &[1, 2, 3, 256]), "both bytes count");
     assert!(judged("", 1, &[]));
     assert!(!judged("\n", 1, &[]));
+}
+
+#[test]
+fn a_judgement_in_bytes() {
+    let judged = |text: &str, model, list: &[u16], room: usize| {
+        let mut lent = vec![BEFORE; room];
+        (page(text).judgement(model, list, &mut lent), lent)
+    };
+    for (list, answer, bytes) in [
+        (&[1, 2, 3, 0][..], 70, [0, 0, 0, 0]),
+        (&[1, 2, 3], 71, [0, 0, 0, 0]),
+        (&[1, 2, 3, 256], 72, [3, 0, 0, 0]),
+        (&[1, 3, 3, 1], 73, [1, 0, 0, 0]),
+        (&[1, 0, 2, 3], 75, [3, 0, 0, 0]),
+    ] {
+        assert_eq!(judged(BUFFERS, 2, list, 6), (answer, [&bytes[..], &[BEFORE; 2]].concat()), "{list:?}");
+        assert_eq!(judged(BUFFERS, 2, list, 4), (answer, bytes.to_vec()), "{list:?}");
+        assert_eq!(judged(BUFFERS, 2, list, 3), (21, vec![BEFORE; 3]), "{list:?}");
+    }
+    assert_eq!(judged(BUFFERS, 1, &[1, 2, 3, 0], 4), (74, vec![0, 0, 1, 0]));
+    assert_eq!(judged(BUFFERS, 1, &[0, 1, 3, 2], 4), (74, vec![2, 0, 3, 0]));
+    for room in [0, 3, 4, 9] {
+        assert_eq!(judged("0: syn\n", 255, &[], room), (3, vec![BEFORE; room]));
+        assert_eq!(judged(BUFFERS, 255, &[], room), (9, vec![BEFORE; room]));
+    }
+    assert_eq!(judged("", 1, &[], 4), (70, vec![0; 4]));
 }
 
 /// A session on the store buffers under TSO, as it is opened.
@@ -98,40 +130,44 @@ fn opened() -> Vec<u8> {
 }
 
 /// Model, count, the pairs that stand, contradicted, what is held.
-type Told = (u8, u8, Vec<(u8, u8)>, u8, Vec<(usize, usize)>);
+type Told = (u8, u8, Vec<(usize, usize)>, u8, Vec<(usize, usize)>);
 
 /// All of a head, byte for byte by its places; whatever lies elsewhere and is not 0 fails.
 fn told_head(bytes: &[u8]) -> Told {
     let count = usize::from(bytes[1]);
-    let pairs = (0..count).map(|i| (bytes[2 + 2 * i], bytes[3 + 2 * i])).collect();
-    assert!(bytes[2 + 2 * count..34].iter().all(|&byte| byte == 0));
-    assert!(bytes[35..4131].iter().all(|&byte| byte <= 1));
-    let held = (0..4096).filter(|i| bytes[35 + i] == 1).map(|i| (i / 64, i % 64)).collect();
-    (bytes[0], bytes[1], pairs, bytes[34], held)
+    let number = |place: usize| usize::from(bytes[place]) + 256 * usize::from(bytes[place + 1]);
+    let pairs = (0..count).map(|i| (number(2 + 4 * i), number(4 + 4 * i))).collect();
+    assert!(bytes[2 + 4 * count..66].iter().all(|&byte| byte == 0));
+    let row = MOST_RECORDS / 8;
+    let all = (0..MOST_RECORDS).flat_map(|x| (0..MOST_RECORDS).map(move |y| (x, y)));
+    let held = all.filter(|(x, y)| bytes[67 + x * row + y / 8] >> (y % 8) & 1 == 1).collect();
+    (bytes[0], bytes[1], pairs, bytes[66], held)
 }
 
 #[test]
 fn a_session_in_bytes() {
-    assert_eq!((HEAD, place_of((0, 0)), place_of((1, 2)), place_of((63, 63))), (4131, 35, 101, 4130));
+    let last = MOST_RECORDS - 1;
+    assert_eq!(HEAD, 67 + MOST_RECORDS * MOST_RECORDS / 8);
+    assert_eq!([place_of((0, 0)), place_of((0, 9)), place_of((last, last))], [(67, 1), (68, 2), (HEAD - 1, 128)]);
     let mut lent = opened();
     let fresh = lent.clone();
-    assert_eq!(&lent[4131..], BUFFERS.as_bytes());
+    assert_eq!(&lent[HEAD..], BUFFERS.as_bytes());
     assert_eq!(told_head(&lent), (2, 0, vec![], 0, vec![(1, 2), (3, 0)]));
-    assert_eq!(ask(&lent, 3, 2), 22);
+    assert_eq!(ask(&lent, 3, 2), 68);
     assert_eq!(suppose(&mut lent, 0, 1), 0);
     let held = vec![(0, 1), (0, 2), (1, 2), (3, 0), (3, 1), (3, 2)];
     assert_eq!(told_head(&lent), (2, 1, vec![(0, 1)], 0, held));
-    assert_eq!(ask(&lent, 3, 2), 21);
+    assert_eq!(ask(&lent, 3, 2), 67);
     let first = lent.clone();
     assert_eq!(suppose(&mut lent, 2, 3), 0);
     assert_eq!(told_head(&lent), (2, 2, vec![(0, 1), (2, 3)], 1, vec![]));
-    assert_eq!(ask(&lent, 3, 2), 23);
+    assert_eq!(ask(&lent, 3, 2), 69);
     assert_eq!(take_back(&mut lent), 0);
     assert_eq!(lent, first);
     assert_eq!(take_back(&mut lent), 0);
     assert_eq!(lent, fresh);
     assert_eq!(
-        [take_back(&mut lent), suppose(&mut lent, 0, 4), suppose(&mut lent, 1, 1), ask(&lent, 256, 1), ask(&lent, 2, 2)],
+        [take_back(&mut lent), suppose(&mut lent, 0, 4), suppose(&mut lent, 1, 1), ask(&lent, 65_536, 1), ask(&lent, 2, 2)],
         [16, 13, 14, 13, 14]
     );
     for _ in 0..16 {
@@ -150,7 +186,16 @@ fn memory_and_openings() {
         assert_eq!(lent[..HEAD], nothing);
         assert!(lent[HEAD..].iter().all(|&byte| byte == BEFORE), "the rest stays");
         assert_eq!([ask(&lent[..HEAD], 0, 1), suppose(&mut lent[..HEAD], 0, 1), take_back(&mut lent[..HEAD])], [13, 13, 16]);
-        assert_eq!(page(text).open(model, &mut lent[..HEAD + text.len() - 1]).0, 17);
+        for room in [0, 1, HEAD - 1, HEAD] {
+            let mut lent = vec![BEFORE; room];
+            assert_eq!(page(text).open(model, &mut lent).0, answer, "room is asked for last");
+            assert_eq!(lent, if room == HEAD { nothing.clone() } else { vec![BEFORE; room] });
+        }
+    }
+    for room in [0, HEAD, HEAD + BUFFERS.len() - 1] {
+        let mut lent = vec![BEFORE; room];
+        assert_eq!(page(BUFFERS).open(2, &mut lent).0, 21);
+        assert_eq!(lent, vec![BEFORE; room]);
     }
     let mut lent = vec![BEFORE; HEAD + BUFFERS.len() + 3];
     assert_eq!(page(BUFFERS).open(2, &mut lent).0, 0);
@@ -168,16 +213,17 @@ fn any_other_byte_is_no_session() {
             let mut other = lent.clone();
             other[place] = byte;
             if other != lent && ask(&other, 3, 2) != 12 {
-                sessions.insert((place - HEAD, byte));
+                sessions.insert((place, byte));
             }
         }
         assert_eq!(ask(&lent[..place], 3, 2), 12, "cut off at {place}");
     }
-    // Nothing in front of the text may be another byte. In the text each record may be some further thread's, as TSO keeps no pair of this trace;
-    // record 2 also thread 0's, for 0 before 2 and 1 before 2 are held already; and the two stores may write other values, which nobody reads.
+    // In front of the text only the model may be another, where there is PSO, which keeps no more of this trace than TSO does. In the text each
+    // record may be some further thread's, as TSO keeps no pair of this trace; record 2 also thread 0's, for 0 before 2 and 1 before 2 are held already; and the two stores may write other values, which nobody reads.
     let threads = [0, 13, 26, 39].into_iter().flat_map(|place| [(place, b'3'), (place, b'7')]);
     let values = [11, 37].into_iter().flat_map(|place| [(place, b'3'), (place, b'7')]);
-    assert_eq!(sessions, threads.chain(values).chain([(26, b'0')]).collect());
+    let texts = threads.chain(values).chain([(26, b'0')]).map(|(place, byte)| (HEAD + place, byte));
+    assert_eq!(sessions, texts.chain((MODELS > 2).then_some((0, 3))).collect());
 }
 
 #[test]
@@ -185,14 +231,14 @@ fn bytes_that_are_taken_are_laid_down_the_same() {
     let mut chance = Chance::new(3);
     let mut taken_apart = 0;
     for case in 0..3_000 {
-        let family = chance.of(&FAMILIES);
+        let family = chance.of(FAMILIES);
         let text = text(family, 21, case);
         let mut lent = vec![0; HEAD + text.len()];
-        if Page::new(&text, 1).open(chance.between(1, 2) as u8, &mut lent).0 != DONE {
+        if Page::new(&text, 1).open(chance.between(1, MODELS) as u8, &mut lent).0 != DONE {
             continue;
         }
         for _ in 0..chance.below(4) {
-            let place = if chance.percent(50) { chance.below(40) } else { chance.below(lent.len()) };
+            let place = if chance.percent(50) { chance.below(72) } else { chance.below(lent.len()) };
             lent[place] = chance.below(3) as u8;
         }
         if let Some(session) = taken(&lent) {
@@ -213,7 +259,7 @@ fn a_talk_and_the_plain_functions_agree() {
         let text = text(family(name).expect("a family"), 5, case);
         let page = Page::new(&text, 1);
         let trace = page.trace().expect("good");
-        let model = chance.between(1, 2) as u64;
+        let model = chance.between(1, MODELS) as u64;
         let (Ok(mut talk), Ok(mut plain)) = (Talk::open(trace, model), session::open(trace, model)) else { continue };
         let supposes = *chance.of(&[40, 90]);
         for _ in 0..22 {
@@ -230,8 +276,8 @@ fn a_talk_and_the_plain_functions_agree() {
             answers.insert(got);
         }
     }
-    assert_eq!(answers, [0, 13, 14, 15, 16, 21, 22, 23].into());
-    assert_eq!([Answer::Held, Answer::NotHeld, Answer::Contradicted].map(told), [21, 22, 23]);
+    assert_eq!(answers, [0, 13, 14, 15, 16, 67, 68, 69].into());
+    assert_eq!([Answer::Held, Answer::NotHeld, Answer::Contradicted].map(told), [67, 68, 69]);
 }
 
 fn moved(session: &mut session::Session, change: impl Fn(&session::Session) -> Result<session::Session, (u8, session::Session)>) -> u8 {

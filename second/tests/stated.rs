@@ -1,11 +1,14 @@
 //! What document 01 states outright: its traces, its bounds, its session on KNOT.
 
 use second::bench::output;
-use second::reader::read;
+use second::orders::{search, First, Judgement};
+use second::reader::{read, MOST_TEXT};
+use second::report;
+use second::rules::circle;
 use second::session::{ask, open, suppose, take_back, Answer};
 use second::stated::{KNOT, STATED};
-use second::trace::{Record, Trace, UNUSED};
-use second::verdict::{judge, verdict, MOST_STEPS};
+use second::trace::{kept, Model, Record, Trace, MODELS, MOST_RECORDS, UNUSED};
+use second::verdict::{judge, judgement, lowest_without_source, verdict, Verdict, MOST_STEPS};
 
 fn told(text: &str) -> String {
     output(text.as_bytes(), MOST_STEPS)
@@ -22,26 +25,44 @@ fn trace(text: &str) -> Trace {
 #[test]
 fn traces_to_try() {
     for stated in &STATED {
-        assert_eq!(told(stated.text), stated.output, "{}", stated.name);
+        assert_eq!(told(stated.text), stated.output(), "{}", stated.name);
+    }
+}
+
+/// Under all four models, whether the program has them or not.
+#[test]
+fn traces_to_try_under_every_model() {
+    for stated in STATED.iter().filter(|stated| lowest_without_source(&trace(stated.text)).is_none()) {
+        let trace = trace(stated.text);
+        for (model, line) in Model::KNOWN.into_iter().zip(stated.lines) {
+            let verdict = match (circle(&trace, model), search(&trace, model, MOST_STEPS)) {
+                (Some(circle), First::None) => Verdict::Circle(circle),
+                (None, First::None) => Verdict::NoneLeft,
+                (None, First::Order(list)) => Verdict::Order(list),
+                other => panic!("{} under {model:?}: {other:?}", stated.name),
+            };
+            assert_eq!(report::line(model, &verdict), format!("{}: {line}\n", model.name()), "{}", stated.name);
+        }
     }
 }
 
 #[test]
 fn refusals_are_told_in_one_line() {
     assert_eq!(told("0: sync\n0: syn\n"), "refused 3 line 2\n");
-    assert_eq!(output(&[b'\n'; 8_193], MOST_STEPS), "refused 1 line 0\n");
+    assert_eq!(output(&[b'\n'; MOST_TEXT + 1], MOST_STEPS), "refused 1 line 0\n");
 }
 
 #[test]
-fn sixty_four_and_sixty_five_records() {
-    let fences = "0: sync\n".repeat(64);
-    assert_eq!(trace(&fences).count, 64);
+fn the_most_records_and_one_more() {
+    let past = MOST_RECORDS + 1;
+    let fences = "0: sync\n".repeat(MOST_RECORDS);
+    assert_eq!(trace(&fences).count, MOST_RECORDS);
     let one_more = |line: &str| refused(format!("{fences}{line}").as_bytes());
-    assert_eq!(one_more("0: sync\n"), Some((7, 65, b"0: sync".to_vec())));
-    assert_eq!(one_more("0: sync"), Some((3, 65, b"0: sync".to_vec())), "3 ranks before 7");
-    assert_eq!(one_more("0: M[0] := 0\n"), Some((6, 65, b"0: M[0] := 0".to_vec())), "6 ranks before 7");
-    let stores: String = (1..=64).map(|value| format!("0: M[0] := {value}\n")).collect();
-    assert_eq!(trace(&stores).count, 64);
+    assert_eq!(one_more("0: sync\n"), Some((7, past, b"0: sync".to_vec())));
+    assert_eq!(one_more("0: sync"), Some((3, past, b"0: sync".to_vec())), "3 ranks before 7");
+    assert_eq!(one_more("0: M[0] := 0\n"), Some((6, past, b"0: M[0] := 0".to_vec())), "6 ranks before 7");
+    let stores: String = (1..=MOST_RECORDS).map(|value| format!("0: M[0] := {value}\n")).collect();
+    assert_eq!(trace(&stores).count, MOST_RECORDS);
     assert_eq!(refused(format!("{stores}0: M[0] := 1\n").as_bytes()).map(|r| r.0), Some(7), "7 ranks before 8");
 }
 
@@ -55,9 +76,9 @@ fn lines_of_eighty_and_eighty_one_bytes() {
 }
 
 #[test]
-fn texts_of_8192_and_8193_bytes() {
-    let text: Vec<u8> = b"0: sync\n".iter().copied().cycle().take(8_193).collect();
-    assert_eq!(refused(&text[..8_192]), Some((7, 65, b"0: sync".to_vec())));
+fn the_longest_text_and_one_byte_more() {
+    let text: Vec<u8> = b"0: sync\n".iter().copied().cycle().take(MOST_TEXT + 1).collect();
+    assert_eq!(refused(&text[..MOST_TEXT]), Some((7, MOST_RECORDS + 1, b"0: sync".to_vec())));
     assert_eq!(refused(&text), Some((1, 0, Vec::new())));
 }
 
@@ -99,13 +120,36 @@ fn a_value_written_twice_at_one_address() {
 fn models_and_traces_handed_in() {
     let good = trace("0: M[0] := 1\n");
     let mut bad = good.clone();
-    bad.places[63] = Record::Fence { thread: 1 };
+    bad.places[MOST_RECORDS - 1] = Record::Fence { thread: 1 };
     assert_eq!(verdict(&good, 0, 1), Err(9));
-    assert_eq!(verdict(&good, 3, 1), Err(9));
-    assert_eq!(verdict(&bad, 3, 1), Err(9));
+    let past = MODELS as u64 + 1;
+    assert_eq!(verdict(&good, past, 1), Err(9));
+    assert_eq!(verdict(&bad, past, 1), Err(9));
+    assert!((1..past).all(|model| verdict(&good, model, 1).is_ok()));
     assert_eq!(verdict(&bad, 1, 1), Err(10));
     assert_eq!(judge(&bad, 2, &[]), Err(10));
     assert!(verdict(&good, 2, 1).is_ok());
+}
+
+/// Of two records of one thread by first kind, second kind and whether they go to one address: which models keep the pair without a fence.
+#[test]
+fn kept_pairs_one_by_one() {
+    let kinds = ["M[0] == 0", "M[0] := 1", "{ M[0] == 0; M[0] := 1 }"];
+    let elsewhere = ["M[1] == 0", "M[1] := 1", "{ M[1] == 0; M[1] := 1 }"];
+    let there = ["M[0] == 0", "M[0] := 2", "{ M[0] == 0; M[0] := 2 }"];
+    // Load, store, swap first; in each row load, store, swap second. A letter for each model that keeps the pair: s, t, p, w.
+    let at_two = [["stp", "stp", "stp"], ["s", "st", "st"], ["stp", "stp", "stp"]];
+    let at_one = [["stpw", "stpw", "stpw"], ["s", "stpw", "stpw"], ["stpw", "stpw", "stpw"]];
+    for (a, first) in kinds.iter().enumerate() {
+        for (second, wanted) in (0..3).flat_map(|b| [(elsewhere[b], at_two[a][b]), (there[b], at_one[a][b])]) {
+            let free = trace(&format!("0: {first}\n1: sync\n0: {second}\n"));
+            let fenced = trace(&format!("0: {first}\n0: sync\n0: {second}\n"));
+            for (model, letter) in Model::KNOWN.into_iter().zip("stpw".chars()) {
+                assert_eq!(kept(&free, model, 0, 2), wanted.contains(letter), "{model:?} {first} {second}");
+                assert!(kept(&fenced, model, 0, 2) && !kept(&free, model, 2, 0));
+            }
+        }
+    }
 }
 
 #[test]
@@ -118,8 +162,8 @@ fn what_spoils_the_form() {
     assert!(!well(&[store(0, 0)]));
     assert!(!well(&[store(0, 1), Record::Swap { thread: 1, address: 0, read: 0, written: 1 }]));
     assert!(!well(&[Record::Fence { thread: 8 }]));
-    assert!(!Trace { count: 65, places: [UNUSED; 64] }.well_formed());
-    assert!(Trace { count: 64, places: [UNUSED; 64] }.well_formed());
+    assert!(!Trace { count: MOST_RECORDS + 1, places: [UNUSED; MOST_RECORDS] }.well_formed());
+    assert!(Trace { count: MOST_RECORDS, places: [UNUSED; MOST_RECORDS] }.well_formed());
 }
 
 #[test]
@@ -136,6 +180,50 @@ fn lists_judged() {
         (&[], false),
     ] {
         assert_eq!(judge(&trace, 1, list), Ok(yes), "{list:?}");
+    }
+}
+
+/// Records 0 and 2 of thread 0, 3 of thread 1, 5 and 6 of thread 2; 1 and 4 are fences.
+#[test]
+fn why_a_list_is_no_order() {
+    let trace = trace("0: M[0] := 1\n0: sync\n0: M[1] := 1\n1: M[1] == 1\n2: sync\n2: M[0] == 1\n2: M[0] == 1\n");
+    for (list, wanted) in [
+        (&[0, 2, 3, 5, 6][..], Judgement::Valid),
+        (&[0, 5, 6, 2, 3], Judgement::Valid),
+        (&[], Judgement::WrongLength),
+        (&[0, 2, 3, 5], Judgement::WrongLength),
+        (&[0, 2, 3, 5, 6, 9], Judgement::WrongLength),
+        (&[1, 1, 9], Judgement::WrongLength),
+        (&[0, 2, 9, 4, 2], Judgement::BadNumber(2)),
+        (&[0, 2, 2, 4, 7], Judgement::BadNumber(3)),
+        (&[0, 2, 2, 5, usize::MAX], Judgement::BadNumber(4)),
+        (&[5, 5, 2, 2, 0], Judgement::Repeat(2)),
+        (&[5, 5, 5, 5, 5], Judgement::Repeat(5)),
+        (&[6, 5, 2, 0, 3], Judgement::OutOfTurn(0, 2)),
+        (&[3, 6, 5, 0, 2], Judgement::OutOfTurn(5, 6)),
+        (&[5, 6, 0, 3, 2], Judgement::WrongValue(3)),
+        (&[5, 0, 2, 3, 6], Judgement::WrongValue(5)),
+    ] {
+        assert_eq!(judgement(&trace, 1, list), Ok(wanted), "{list:?}");
+        assert_eq!(judge(&trace, 1, list), Ok(wanted == Judgement::Valid), "{list:?}");
+    }
+    let mut bad = trace.clone();
+    bad.count = MOST_RECORDS + 1;
+    assert_eq!([judgement(&bad, 0, &[]), judgement(&bad, 1, &[])], [Err(9), Err(10)]);
+}
+
+/// Of two pairs with one first record the one with the lower second; and swaps read too.
+#[test]
+fn the_lowest_pair_and_the_lowest_value() {
+    let trace = trace("0: M[0] == 0\n0: M[1] := 1\n0: { M[1] == 1; M[1] := 2 }\n1: M[1] == 2\n");
+    for (list, wanted) in [
+        (&[0, 1, 2, 3][..], Judgement::Valid),
+        (&[2, 1, 0, 3], Judgement::OutOfTurn(0, 1)),
+        (&[2, 0, 1, 3], Judgement::OutOfTurn(0, 2)),
+        (&[0, 2, 1, 3], Judgement::OutOfTurn(1, 2)),
+        (&[0, 1, 3, 2], Judgement::WrongValue(3)),
+    ] {
+        assert_eq!(judgement(&trace, 1, list), Ok(wanted), "{list:?}");
     }
 }
 
@@ -193,11 +281,11 @@ fn sessions_that_nobody_opened() {
     let mut changed = vec![good.clone(); 8];
     changed[0].held.clear();
     changed[1].contradicted = true;
-    changed[2].model = 7;
+    changed[2].model = MODELS as u64 + 1;
     changed[3].model = 0;
     changed[4].pairs.push((0, 0));
     changed[5].pairs = vec![(0, 1); 17];
-    changed[6].trace.count = 65;
+    changed[6].trace.count = MOST_RECORDS + 1;
     changed[7].trace.places[1] = Record::Load { thread: 1, address: 1, read: 5 };
     for session in changed {
         assert_eq!(ask(&session, 9, 9), Err((12, session.clone())), "12 ranks before 13");

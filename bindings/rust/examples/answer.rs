@@ -2,15 +2,14 @@
 //! 1 2 3 0 is an order, and a short talk with a session under TSO.
 
 use std::io::{self, Read};
-use wheelotter::{check, judge, report, verdict, Answer, Asked, Model, Session, Verdict};
+use wheelotter::{check, judge, report, verdict, Answer, Asked, Model, Session, Verdict, MODELS};
 
 fn main() -> io::Result<()> {
     let mut text = Vec::new();
     io::stdin().read_to_end(&mut text)?;
     print!("{}", report(&text));
     print_bad_line(&text);
-    print_verdict(&text, Model::Sc);
-    print_verdict(&text, Model::Tso);
+    MODELS.iter().for_each(|&model| print_verdict(&text, model));
     match Session::open(&text, Model::Tso) {
         Err(_) => println!("open: refused"),
         Ok(session) => {
@@ -34,11 +33,14 @@ fn print_bad_line(text: &[u8]) {
     }
 }
 
+fn listed<T: std::fmt::Display>(numbers: &[T]) -> String {
+    numbers.iter().map(|number| format!(" {number}")).collect()
+}
+
 fn print_verdict(text: &[u8], model: Model) {
-    let list = |numbers: &[u8]| numbers.iter().map(|number| format!(" {number}")).collect::<String>();
     let told = match verdict(text, model) {
-        Ok(Verdict::Order(operations)) => format!("order{}", list(&operations)),
-        Ok(Verdict::Circle { operations, rules }) => format!("circle{} by{}", list(&operations), list(&rules)),
+        Ok(Verdict::Order(operations)) => format!("order{}", listed(&operations)),
+        Ok(Verdict::Circle { operations, rules }) => format!("circle{} by{}", listed(&operations), listed(&rules)),
         Ok(Verdict::NoSource(load)) => format!("no source {load}"),
         Ok(Verdict::NoneLeft) => "none left".to_string(),
         Err(refusal) => format!("refused {}", refusal.answer as u8),

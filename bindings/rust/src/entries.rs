@@ -10,7 +10,7 @@ mod linked {
         pub fn wheelotter_start(text: *const u8, text_len: usize) -> usize;
         pub fn wheelotter_end(text: *const u8, text_len: usize) -> usize;
         pub fn wheelotter_verdict(text: *const u8, text_len: usize, model: u8, out: *mut u8, out_len: usize) -> u8;
-        pub fn wheelotter_judge(text: *const u8, text_len: usize, model: u8, list: *const u8, list_len: usize) -> bool;
+        pub fn wheelotter_judge(text: *const u8, text_len: usize, model: u8, list: *const u16, list_len: usize) -> bool;
         pub fn wheelotter_open(text: *const u8, text_len: usize, model: u8, session: *mut u8, session_len: usize) -> u8;
         pub fn wheelotter_suppose(session: *mut u8, session_len: usize, x: usize, y: usize) -> u8;
         pub fn wheelotter_take_back(session: *mut u8, session_len: usize) -> u8;
@@ -19,7 +19,8 @@ mod linked {
 }
 
 // SAFETY, for each call below: a slice's pointer is never null and is lent with its own length for the time of the call, and the library reads
-// and writes nothing else. A slice that is lent for reading it does not write.
+// and writes nothing else. A slice that is lent for reading it does not write; one that is lent for writing overlaps no other, since Rust lends
+// it to nobody else.
 
 /// Writes the whole answer to a text into `out` and gives back how many bytes it has; 0, and `out` as it was, where it is too short.
 pub fn report(text: &[u8], out: &mut [u8]) -> usize {
@@ -46,19 +47,22 @@ pub fn end(text: &[u8]) -> usize {
     unsafe { linked::wheelotter_end(text.as_ptr(), text.len()) }
 }
 
-/// The verdict under a model, in the first [`VERDICT`](crate::VERDICT) bytes of `out`: how many operations it names, the operations, and from
-/// byte 65 on the rules of a circle; unused places are 0. Where `out` is shorter it stays as it was.
+/// The verdict under a model, in the first [`VERDICT`](crate::VERDICT) bytes of `out`: how many operations it names, from
+/// [`OPERATIONS`](crate::OPERATIONS) on the operations, and from [`RULES`](crate::RULES) on the rules of a circle; numbers of records, and how many
+/// there are, in two bytes, the low one first; unused places are 0. Where the text or the model is turned back, or else `out` is shorter, it stays
+/// as it was.
 pub fn verdict(text: &[u8], model: u8, out: &mut [u8]) -> u8 {
     unsafe { linked::wheelotter_verdict(text.as_ptr(), text.len(), model, out.as_mut_ptr(), out.len()) }
 }
 
 /// Whether a list of record numbers is a valid order of the trace that a text writes, under a model.
-pub fn judge(text: &[u8], model: u8, list: &[u8]) -> bool {
+pub fn judge(text: &[u8], model: u8, list: &[u16]) -> bool {
     unsafe { linked::wheelotter_judge(text.as_ptr(), text.len(), model, list.as_ptr(), list.len()) }
 }
 
-/// Opens a session on a text in the first [`HEAD`](crate::HEAD) and as many bytes more as the text has; the rest of `session` stays. Refused,
-/// the first HEAD bytes are the session of the empty text under model 1. Where `session` is too short it stays as it was.
+/// Opens a session on a text in the first [`HEAD`](crate::HEAD) and as many bytes more as the text has; the rest of `session` stays. Where the text,
+/// the model or a missing source forbids it, the first HEAD bytes, if there are so many, are the session of the empty text under model 1. Where
+/// else `session` is too short it stays as it was.
 pub fn open(text: &[u8], model: u8, session: &mut [u8]) -> u8 {
     unsafe { linked::wheelotter_open(text.as_ptr(), text.len(), model, session.as_mut_ptr(), session.len()) }
 }

@@ -5,71 +5,11 @@
 //! library's own, which take any memory, any model and any session that the caller lends.
 
 pub mod entries;
+mod numbers;
+
+pub use numbers::*;
 
 use std::fmt;
-
-/// A buffer of this many bytes holds any answer in words.
-pub const REPORT: usize = 1116;
-
-/// A verdict in bytes: how many operations it names, the operations, the rules.
-pub const VERDICT: usize = 1 + 2 * RECORDS;
-
-/// What stands in a session before its text.
-pub const HEAD: usize = 4131;
-
-/// A trace has at most so many records.
-const RECORDS: usize = 64;
-
-/// What orders a memory may show.
-#[derive(Clone, Copy, Debug, PartialEq, Eq)]
-pub enum Model {
-    Sc = 1,
-    Tso = 2,
-}
-
-/// One table of answers for every entry; its numbers up to 16 are those of docs/GUIDE.md. (10 is for traces that were not read from a text: no
-/// entry gives it.)
-#[derive(Clone, Copy, Debug, PartialEq, Eq)]
-pub enum Answer {
-    /// The text is good; or opened, supposed, taken back.
-    Done = 0,
-    LongText = 1,
-    LongLine = 2,
-    NoForm = 3,
-    PastBound = 4,
-    TwoAddresses = 5,
-    ZeroWritten = 6,
-    ManyRecords = 7,
-    WrittenBefore = 8,
-    NoModel = 9,
-    /// Somebody reads what nobody wrote: a verdict, and no session is opened.
-    NoSource = 11,
-    /// The bytes are not a session that opening and supposing make.
-    NoSession = 12,
-    /// A fence, or past the end.
-    NoOperation = 13,
-    SameTwice = 14,
-    ManyPairs = 15,
-    NoPair = 16,
-    /// The lent memory is too short, and stays as it was.
-    NoRoom = 17,
-    Order = 18,
-    Circle = 19,
-    NoneLeft = 20,
-    Held = 21,
-    NotHeld = 22,
-    Contradicted = 23,
-}
-
-// In the order of their numbers.
-#[rustfmt::skip]
-const ANSWERS: [Answer; 23] = {
-    use Answer::*;
-    [
-        Done, LongText, LongLine, NoForm, PastBound, TwoAddresses, ZeroWritten, ManyRecords, WrittenBefore, NoModel, NoSource, NoSession,
-        NoOperation, SameTwice, ManyPairs, NoPair, NoRoom, Order, Circle, NoneLeft, Held, NotHeld, Contradicted,
-    ]
-};
 
 impl Answer {
     /// The answer with a number; None where the table has no such row.
@@ -104,11 +44,11 @@ impl std::error::Error for Refusal<'_> {}
 #[derive(Clone, Debug, PartialEq, Eq)]
 pub enum Verdict {
     /// This record read a value that nobody wrote.
-    NoSource(u8),
+    NoSource(u16),
     /// The rules run in a circle: each operation before the next and the last before the first, by the rules in the same places.
-    Circle { operations: Vec<u8>, rules: Vec<u8> },
+    Circle { operations: Vec<u16>, rules: Vec<u8> },
     /// The first valid order.
-    Order(Vec<u8>),
+    Order(Vec<u16>),
     /// Every order was ruled out.
     NoneLeft,
 }
@@ -132,19 +72,20 @@ pub fn check(text: &[u8]) -> Result<(), Refusal<'_>> {
 pub fn verdict(text: &[u8], model: Model) -> Result<Verdict, Refusal<'_>> {
     let mut out = [0; VERDICT];
     let answer = Answer::of(entries::verdict(text, model as u8, &mut out));
-    let named = usize::from(out[0]);
-    let operations = out[1..][..named].to_vec();
+    let number = |place: usize| u16::from_le_bytes([out[place], out[place + 1]]);
+    let named = usize::from(number(0));
+    let operations: Vec<u16> = (0..named).map(|i| number(OPERATIONS + 2 * i)).collect();
     match answer {
         Answer::NoSource => Ok(Verdict::NoSource(operations[0])),
-        Answer::Circle => Ok(Verdict::Circle { operations, rules: out[1 + RECORDS..][..named].to_vec() }),
+        Answer::Circle => Ok(Verdict::Circle { operations, rules: out[RULES..][..named].to_vec() }),
         Answer::Order => Ok(Verdict::Order(operations)),
         Answer::NoneLeft => Ok(Verdict::NoneLeft),
-        _ => check(text).map(|()| unreachable!("a good text has a verdict under either model")),
+        _ => check(text).map(|()| unreachable!("a good text has a verdict under every model")),
     }
 }
 
 /// Whether a list of record numbers is a valid order of the trace that a text writes. A text that is turned back has none.
-pub fn judge(text: &[u8], model: Model, list: &[u8]) -> bool {
+pub fn judge(text: &[u8], model: Model, list: &[u16]) -> bool {
     entries::judge(text, model as u8, list)
 }
 
@@ -170,7 +111,7 @@ impl Session {
         Ok(Session { bytes })
     }
 
-    /// Supposes that x came before y; at most 16 pairs stand. Refused, the session stays as it was.
+    /// Supposes that x came before y; at most [`PAIRS`] pairs stand. Refused, the session stays as it was.
     pub fn suppose(&mut self, x: usize, y: usize) -> Result<(), Answer> {
         done(entries::suppose(&mut self.bytes, x, y))
     }

@@ -1,6 +1,7 @@
 //! Each kind of answer through the safe functions, worked out from document 01.
 
-use wheelotter::{check, entries, judge, report, verdict, Answer, Asked, Model, Refusal, Session, Verdict, HEAD, REPORT, VERDICT};
+use wheelotter::{check, entries, judge, report, verdict, Answer, Asked, Model, Refusal, Session, Verdict};
+use wheelotter::{HEAD, MARK, MODELS, OPERATIONS, PAIRS, RECORDS, REPORT, RULES, STANDING, TABLE, TEXT, VERDICT};
 
 const BUFFERS: &[u8] = b"0: M[0] := 1\n0: M[1] == 0\n1: M[1] := 1\n1: M[0] == 0\n";
 const NO_SOURCE: &[u8] = b"0: M[0] := 1\n0: sync\n0: M[0] == 2\n";
@@ -13,22 +14,24 @@ fn the_numbers_of_the_header() {
         let line = header.lines().find(|line| line.starts_with(&format!("#define WHEELOTTER_{name} "))).expect("defined");
         line.split_whitespace().nth(2).and_then(|number| number.parse::<usize>().ok()).expect("a number")
     };
-    assert_eq!([number("REPORT"), number("VERDICT"), number("HEAD")], [REPORT, VERDICT, HEAD]);
-    assert_eq!([number("SC"), number("TSO")], [Model::Sc as usize, Model::Tso as usize]);
+    assert_eq!([number("RECORDS"), number("PAIRS"), number("TEXT"), number("REPORT")], [RECORDS, PAIRS, TEXT, REPORT]);
+    assert_eq!([number("VERDICT"), number("OPERATIONS"), number("RULES")], [VERDICT, OPERATIONS, RULES]);
+    assert_eq!([number("HEAD"), number("STANDING"), number("MARK"), number("TABLE")], [HEAD, STANDING, MARK, TABLE]);
+    assert_eq!([number("SC"), number("TSO"), number("MODELS")], [Model::Sc as usize, Model::Tso as usize, MODELS.len()]);
     for answer in (0..=255).filter_map(Answer::numbered) {
         let large = |c: char| if c.is_uppercase() { format!("_{c}") } else { c.to_uppercase().to_string() };
         let name: String = format!("{answer:?}").chars().map(large).collect();
         assert_eq!(number(&name[1..]), answer as usize, "{answer:?}");
     }
-    assert_eq!((0..=255).filter_map(Answer::numbered).count(), 23);
 }
 
 #[test]
 fn texts() {
-    assert_eq!(report(BUFFERS), "SC: no order, circle 0 1 2 3 by 1 4 1 4\nTSO: order 1 2 3 0\n");
+    assert!(report(BUFFERS).starts_with("SC: no order, circle 0 1 2 3 by 1 4 1 4\nTSO: order 1 2 3 0\n"));
+    assert_eq!(report(BUFFERS).lines().count(), MODELS.len());
     assert_eq!(check(BUFFERS), Ok(()));
     assert_eq!(check(b"0: sync\n8: sync\n"), Err(Refusal { answer: Answer::PastBound, line: 2, part: b"8: sync" }));
-    assert_eq!(check(&[b'\n'; 8_193]), Err(Refusal { answer: Answer::LongText, line: 0, part: b"" }));
+    assert_eq!(check(&[b'\n'; TEXT + 1]), Err(Refusal { answer: Answer::LongText, line: 0, part: b"" }));
     assert_eq!(check(b"0").map_err(|refusal| refusal.to_string()), Err("refused 3 line 1".to_string()));
     assert!(judge(BUFFERS, Model::Tso, &[1, 2, 3, 0]) && !judge(BUFFERS, Model::Sc, &[1, 2, 3, 0]));
 }
@@ -58,7 +61,7 @@ fn sessions() {
     assert_eq!(session.ask(0, 1), Ok(Asked::Held), "by the core's own order");
     let refused = [session.take_back(), session.suppose(0, 4), session.suppose(3, 3)];
     assert_eq!(refused, [Answer::NoPair, Answer::NoOperation, Answer::SameTwice].map(Err));
-    (0..16).for_each(|_| assert_eq!(session.suppose(0, 1), Ok(())));
+    (0..PAIRS).for_each(|_| assert_eq!(session.suppose(0, 1), Ok(())));
     assert_eq!(session.suppose(0, 1), Err(Answer::ManyPairs));
     assert_eq!(Session::open(NO_SOURCE, Model::Sc), Err(Answer::NoSource));
     assert_eq!(Session::open(b"0", Model::Sc), Err(Answer::NoForm));
@@ -70,12 +73,32 @@ fn bytes_from_anywhere() {
     assert_eq!(session.as_bytes().len(), HEAD + BUFFERS.len());
     let mut bytes = session.as_bytes().to_vec();
     assert_eq!(Session::from(bytes.clone()).ask(1, 2), Ok(Asked::Held));
-    bytes[34] = 1;
+    bytes[MARK] = 1;
     let mut forged = Session::from(bytes.clone());
     assert_eq!(forged.ask(1, 2), Err(Answer::NoSession));
     assert_eq!([forged.suppose(0, 1), forged.take_back()], [Err(Answer::NoSession); 2]);
     assert_eq!(forged.as_bytes(), bytes);
     assert_eq!(Session::from(vec![]).ask(0, 1), Err(Answer::NoSession));
+    let no_model = MODELS.len() as u8 + 1;
     assert_eq!(entries::open(BUFFERS, 2, &mut bytes[1..]), Answer::NoRoom as u8);
-    assert_eq!(entries::verdict(BUFFERS, 3, &mut [0; VERDICT]), Answer::NoModel as u8);
+    assert_eq!(entries::open(BUFFERS, no_model, &mut []), Answer::NoModel as u8, "what is wrong with the input comes first");
+    assert_eq!(entries::verdict(BUFFERS, no_model, &mut [0; VERDICT]), Answer::NoModel as u8);
+    assert_eq!(entries::verdict(b"0", no_model, &mut []), Answer::NoForm as u8);
+    assert_eq!(entries::verdict(BUFFERS, 1, &mut [0; VERDICT - 1]), Answer::NoRoom as u8);
+}
+
+/// The bytes of a session by the places that the header gives them.
+#[test]
+fn a_session_in_bytes() {
+    let mut session = Session::open(BUFFERS, Model::Tso).expect("opens");
+    assert_eq!(session.suppose(0, 1), Ok(()));
+    let bytes = session.as_bytes();
+    assert_eq!([bytes[0], bytes[1], bytes[MARK]], [2, 1, 0]);
+    assert_eq!(bytes[STANDING..][..6], [0, 0, 1, 0, 0, 0]);
+    for (x, y) in (0..RECORDS).flat_map(|x| (0..RECORDS).map(move |y| (x, y))) {
+        let held = x < 4 && y < 4 && x != y && session.ask(x, y) == Ok(Asked::Held);
+        assert_eq!(bytes[TABLE + x * (RECORDS / 8) + y / 8] >> (y % 8) & 1 == 1, held, "{x} {y}");
+    }
+    assert_eq!(session.ask(3, 2), Ok(Asked::Held));
+    assert_eq!(&bytes[HEAD..], BUFFERS);
 }

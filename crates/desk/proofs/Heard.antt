@@ -3,11 +3,11 @@
 --   verdict-says == read back, the answer and the bytes about a good text tell the verdict on its trace, as document 01 says it
 use mathlib.Core.Path.{_≡_, refl, sym, ap, ap₂, _∙_, subst}
 use mathlib.Core.Bool.{So, false≢true}
-use mathlib.Core.List.{List, _++_, append-assoc}
-use Prim.Native.Nat.{ℕ, suc, _*_, _-_, _≤_}
+use mathlib.Core.List.{List, [], _∷_, _++_}
+use Prim.Native.Nat.{ℕ, _+_, _*_, _/_, _%_, _-_, _≤_}
 use native.Mathlib.Omega.{arith}
-use lib.ListN.{length, take, drop, replicate, length-append, length-replicate}
-use lib.Seq.{take-append-seam, take-at, drop-at}
+use lib.ListN.{length, getD, take, drop, replicate, length-append, length-replicate}
+use lib.Seq.{take-at, drop-at}
 use Rattle.trace.specs.Bounds.{RECORDS}
 use Rattle.trace.specs.Meaning.{frameOf}
 use Rattle.trace.specs.WellFormed.{wellFormed}
@@ -21,12 +21,12 @@ use Rattle.orders.specs.Verdict as said
 use Rattle.orders.proofs.Accepted.{well-fits, well-kept, valid-short}
 use Rattle.reader.specs.Read.{readText}
 use Rattle.reader.proofs.RoundTrip.{read-well}
-use Rattle.verdict.specs.Told.{padded, laid}
-use Rattle.verdict.specs.declared.Verdict.{Verdict}
-use Rattle.desk.specs.Answers.{outcomeNumber}
+use Rattle.verdict.specs.Told.{padded}
+use Rattle.desk.specs.Answers.{answerTo}
 use Rattle.desk.specs.Text.{numberOf}
-use Rattle.desk.specs.Verdict.{VERDICT, spelled, bytesOf, Answered}
-use Rattle.desk.specs.Heard.{heard}
+use Rattle.desk.specs.Verdict.{VERDICT, wide, operationsOf, rulesOf, bytesOf, Answered}
+use Rattle.desk.specs.Heard.{narrow, told, heard}
+use Rattle.desk.proofs.Spelling.{wide-long}
 
 -- the lists of a verdict have places, and a circle has a rule for each of its edges
 abbrev Fits : said.Verdict → Type 0
@@ -51,49 +51,62 @@ module _ (m : ℕ) (t : Trace) (w : So (wellFormed t)) where
 padded-long : (xs : List ℕ) → length xs ≤ RECORDS → length (padded xs) ≡ RECORDS
 padded-long xs h = omega (arith, length-append xs (replicate (RECORDS - length xs) 0), length-replicate {A = ℕ} (RECORDS - length xs) 0)
 
-both-long : (os rs : List ℕ) → length os ≡ RECORDS → length rs ≡ RECORDS → length (os ++ rs) ≡ 2 * RECORDS
-both-long os rs p q = omega (arith, length-append os rs)
+-- a number is what its two bytes say
+narrow-wide : (ns : List ℕ) → narrow (wide ns) ≡ ns
+unfolding narrow wide
+narrow-wide [] = refl
+narrow-wide (n ∷ ns) = ap₂ _∷_ (let e : n % 256 + 256 * (n / 256) ≡ n = omega arith in e) (narrow-wide ns)
 
-bytes-long : (v : said.Verdict) → Fits v → length (bytesOf (spelled (laid v))) ≡ VERDICT
-unfolding bytesOf spelled
-bytes-long (said.noSource x) h = refl
-bytes-long (said.circle c rs) h = ap suc (both-long (padded c) (padded rs) (padded-long c (h .0)) (padded-long rs (omega arith)))
-bytes-long (said.order xs) h = ap suc (both-long (padded xs) (replicate RECORDS 0) (padded-long xs h) refl)
-bytes-long said.noneLeft h = refl
+-- the lists that are told have places
+lists-fit : (v : said.Verdict) → Fits v → (length (operationsOf v) ≤ RECORDS) × (length (rulesOf v) ≤ RECORDS)
+lists-fit (said.noSource x) h = (omega arith, omega arith)
+lists-fit (said.circle c rs) h = (h .0, omega (arith, h .0, h .1))
+lists-fit (said.order xs) h = (h, omega arith)
+lists-fit said.noneLeft h = (omega arith, omega arith)
 
--- the operations at their place, and the rules at theirs
-operations-back : (c rest : List ℕ) → take (length c) (padded c ++ rest) ≡ c
-operations-back c rest =
-    let zeros : List ℕ = replicate (RECORDS - length c) 0 in
-    ap (take (length c)) (append-assoc c zeros rest) ∙ take-append-seam c (zeros ++ rest)
+module _ (v : said.Verdict) (h : Fits v) where
+  -- the count and the operations in numbers, and how many bytes they have
+  abbrev numbers : List ℕ
+  numbers = length (operationsOf v) ∷ padded (operationsOf v)
 
-rules-back : (c rs : List ℕ) → length c ≤ RECORDS → length rs ≡ length c → take (length c) (drop RECORDS (padded c ++ padded rs)) ≡ rs
-rules-back c rs h e =
-    ap (take (length c)) (drop-at (padded c) (padded rs) RECORDS (padded-long c h)) ∙ take-at rs (replicate (RECORDS - length rs) 0) (length c) e
+  numbers-long : length (wide numbers) ≡ 2 + 2 * RECORDS
+  numbers-long = omega (arith, wide-long numbers, padded-long (operationsOf v) (lists-fit v h .0))
 
-heard-back : (v : said.Verdict) → Fits v → heard (outcomeNumber (laid v .outcome)) (bytesOf (spelled (laid v))) ≡ v
-unfolding bytesOf spelled heard
-heard-back (said.noSource x) h = refl
-heard-back (said.circle c rs) h = ap₂ said.circle (operations-back c (padded rs)) (rules-back c rs (h .0) (h .1))
-heard-back (said.order xs) h = ap said.order (operations-back xs (replicate RECORDS 0))
+  bytes-long : length (bytesOf v) ≡ VERDICT
+  unfolding bytesOf
+  bytes-long = omega (arith, length-append (wide numbers) (padded (rulesOf v)), numbers-long, padded-long (rulesOf v) (lists-fit v h .1))
+
+  told-back : told (bytesOf v) ≡ numbers
+  unfolding bytesOf
+  told-back = ap narrow (take-at (wide numbers) (padded (rulesOf v)) (2 + 2 * RECORDS) numbers-long) ∙ narrow-wide numbers
+
+  rules-back : drop (2 + 2 * RECORDS) (bytesOf v) ≡ padded (rulesOf v)
+  unfolding bytesOf
+  rules-back = drop-at (wide numbers) (padded (rulesOf v)) (2 + 2 * RECORDS) numbers-long
+
+-- the first of a padded list
+padded-back : (xs : List ℕ) (n : ℕ) → length xs ≡ n → take n (padded xs) ≡ xs
+padded-back xs n e = take-at xs (replicate (RECORDS - length xs) 0) n e
+
+heard-back : (v : said.Verdict) → Fits v → heard (answerTo v) (bytesOf v) ≡ v
+unfolding heard
+heard-back (said.noSource x) h = ap (λ (ns : List ℕ). said.noSource (getD ns 1 0)) (told-back (said.noSource x) h)
+heard-back (said.circle c rs) h =
+    let v = said.circle c rs in
+    ap₂ (λ (ns bytes : List ℕ). said.circle (take (getD ns 0 0) (drop 1 ns)) (take (getD ns 0 0) bytes)) (told-back v h) (rules-back v h)
+    ∙ ap₂ said.circle (padded-back c (length c) refl) (padded-back rs (length c) (h .1))
+heard-back (said.order xs) h = ap (λ (ns : List ℕ). said.order (take (getD ns 0 0) (drop 1 ns))) (told-back (said.order xs) h) ∙ ap said.order (padded-back xs (length xs) refl)
 heard-back said.noneLeft h = refl
 
-module _ (text : List ℕ) (m : ℕ) (before after : List ℕ) (r : ℕ) (h : Answered text m before after r) (l : VERDICT ≤ length before) (z : numberOf text ≡ 0) where
+module _ (text : List ℕ) (m : ℕ) (before after : List ℕ) (r : ℕ) (h : Answered text m before after r) where
   -- the trace that the text writes
   abbrev trace : Trace
   trace = readText text .trace
 
-  -- the verdict on it, with its bytes and all behind them
-  module _ (k : So (modelled m)) where
-    said-of : (v : said.Verdict) × said.Says (frameOf trace) (keptOf m trace) v × (length (bytesOf (spelled (laid v))) ≡ VERDICT) × (r ≡ outcomeNumber (laid v .outcome)) × (after ≡ bytesOf (spelled (laid v)) ++ drop VERDICT before)
-    said-of =
-        let (w, t, e, f) = h .told l z in
-        let (v, s, q) = t .says k (read-well text) in
-        (v, s, bytes-long v (says-fits m trace (read-well text) v s), e ∙ ap (λ (w : Verdict). outcomeNumber (w .outcome)) q, f ∙ ap (λ (w : Verdict). bytesOf (spelled w) ++ drop VERDICT before) q)
-
-    pub verdict-says : said.Says (frameOf trace) (keptOf m trace) (heard r (take VERDICT after))
-    verdict-says =
-        let (v, s, n, e, f) = said-of in
-        let front = ap (take VERDICT) f ∙ take-at (bytesOf (spelled (laid v))) (drop VERDICT before) VERDICT n in
-        let same : heard r (take VERDICT after) ≡ v = ap₂ heard e front ∙ heard-back v (says-fits m trace (read-well text) v s) in
-        subst (said.Says (frameOf trace) (keptOf m trace)) (sym same) s
+  pub verdict-says : numberOf text ≡ 0 → So (modelled m) → VERDICT ≤ length before → said.Says (frameOf trace) (keptOf m trace) (heard r (take VERDICT after))
+  verdict-says z k l =
+      let (v, s, e, f) = h .says z k l in
+      let fits = says-fits m trace (read-well text) v s in
+      let front = ap (take VERDICT) f ∙ take-at (bytesOf v) (drop VERDICT before) VERDICT (bytes-long v fits) in
+      let same : heard r (take VERDICT after) ≡ v = ap₂ heard e front ∙ heard-back v fits in
+      subst (said.Says (frameOf trace) (keptOf m trace)) (sym same) s

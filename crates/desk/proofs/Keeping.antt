@@ -12,7 +12,7 @@ use mathlib.Core.Path.{_≡_, refl, sym, ap, ap₂, _∙_, subst}
 use mathlib.Core.Logic.{_≢_, _↔_}
 use mathlib.Core.Bool.{Bool, true, false, So, false≢true}
 use mathlib.Core.List.{List, _++_}
-use Prim.Native.Nat.{ℕ, _+_, _*_, _-_, _/_, _<_, _≤_}
+use Prim.Native.Nat.{ℕ, _+_, _*_, _-_, _/_, _%_, _<_, _≤_}
 use native.Mathlib.Omega.{arith}
 use lib.ListN.{length, getD, take, drop, take-append-drop, length-append, length-drop, List·getD-append}
 use lib.Seq.{take-all, take-at, drop-at, ext-getD}
@@ -38,10 +38,10 @@ use Rattle.session.proofs.Sessions.{intact-stands}
 use Rattle.session.proofs.Answering.{afresh-done, afresh-allows}
 use Rattle.session.proofs.Lasting.{made-intact}
 use Rattle.desk.specs.Text.{numberOf}
-use Rattle.desk.specs.Head.{FRONT, MARKS, HEAD, frontAt, markAt, headOf}
-use Rattle.desk.specs.Kept.{textIn, pairIn, stackIn, madeIn, sessionIn, like, keptOf}
+use Rattle.desk.specs.Head.{BYTE, FRONT, TABLE, HEAD, numberAt, frontAt, tableAt, headOf}
+use Rattle.desk.specs.Kept.{textIn, twoIn, pairIn, stackIn, madeIn, sessionIn, like, keptOf}
 use Rattle.desk.specs.declared.sessions.Lent.{Lent}
-use Rattle.desk.proofs.Laying.{pair-first, pair-second, front-model, front-count, front-pair, head-long}
+use Rattle.desk.proofs.Laying.{number-first, number-second, byte-lower, byte-upper, front-model, front-count, front-pair, head-long}
 
 -- whether bytes are those of a session, and which
 abbrev both : Bool → Session → Lent
@@ -121,24 +121,39 @@ module _ (s : Session) (text : List ℕ) where
   front-place j h =
       let n = row-long (frontAt s) 0 FRONT in
       List·getD-append (headOf s) text 0 j (omega (arith, head-long s))
-      ∙ List·getD-append (row (frontAt s) 0 FRONT) (row (markAt (s .held)) 0 MARKS) 0 j (omega arith)
+      ∙ List·getD-append (row (frontAt s) 0 FRONT) (row (tableAt (s .held)) 0 TABLE) 0 j (omega arith)
       ∙ row-place (frontAt s) 0 FRONT j h
+
+  -- two bytes of the front are a number of the pairs
+  number-again : (j : ℕ) → j < 2 * PAIRS → twoIn whole (2 + 2 * j) ≡ numberAt (s .stack) j
+  unfolding twoIn
+  number-again j h =
+      let k = s .stack in
+      let l : (2 + 2 * j - 2) / 2 ≡ j = omega arith in
+      let u : (2 + 2 * j + 1 - 2) / 2 ≡ j = omega arith in
+      let z : numberAt k j % BYTE + BYTE * (numberAt k j / BYTE) ≡ numberAt k j = omega arith in
+      ap₂ (λ (x y : ℕ). x + BYTE * y)
+      (front-place (2 + 2 * j) (omega arith)
+      ∙ front-pair s (2 + 2 * j) (λ e. omega arith) (λ e. omega arith) (omega arith)
+      ∙ byte-lower k (2 + 2 * j - 2) (omega arith)
+      ∙ ap (λ (i : ℕ). numberAt k i % BYTE) l)
+      (front-place (2 + 2 * j + 1) (omega arith)
+      ∙ front-pair s (2 + 2 * j + 1) (λ e. omega arith) (λ e. omega arith) (omega arith)
+      ∙ byte-upper k (2 + 2 * j + 1 - 2) (λ e. omega arith)
+      ∙ ap (λ (i : ℕ). numberAt k i / BYTE) u)
+      ∙ z
 
   pair-again : (i : ℕ) → i < PAIRS → pairIn whole i ≡ pairAt (s .stack) i
   unfolding pairIn
   pair-again i h =
       let k = s .stack in
-      let e : (2 + 2 * i - 2) / 2 ≡ i = omega arith in
-      let o : (3 + 2 * i - 2) / 2 ≡ i = omega arith in
+      let e : 2 * i / 2 ≡ i = omega arith in
+      let o : (2 * i + 1) / 2 ≡ i = omega arith in
+      let f : 2 + 4 * i ≡ 2 + 2 * (2 * i) = omega arith in
+      let g : 4 + 4 * i ≡ 2 + 2 * (2 * i + 1) = omega arith in
       ap₂ (λ (x y : ℕ). record { first = x; second = y })
-      (front-place (2 + 2 * i) (omega arith)
-      ∙ front-pair s (2 + 2 * i) (λ z. omega arith) (λ z. omega arith) (omega arith)
-      ∙ pair-first k (2 + 2 * i - 2) (omega arith)
-      ∙ ap (λ (j : ℕ). pairAt k j .first) e)
-      (front-place (3 + 2 * i) (omega arith)
-      ∙ front-pair s (3 + 2 * i) (λ z. omega arith) (λ z. omega arith) (omega arith)
-      ∙ pair-second k (3 + 2 * i - 2) (λ z. omega arith)
-      ∙ ap (λ (j : ℕ). pairAt k j .second) o)
+      (ap (twoIn whole) f ∙ number-again (2 * i) (omega arith) ∙ number-first k (2 * i) (omega arith) ∙ ap (λ (j : ℕ). pairAt k j .first) e)
+      (ap (twoIn whole) g ∙ number-again (2 * i + 1) (omega arith) ∙ number-second k (2 * i + 1) (λ z. omega arith) ∙ ap (λ (j : ℕ). pairAt k j .second) o)
 
   stack-again : length (s .stack .pairs) ≡ PAIRS → stackIn whole ≡ s .stack
   unfolding stackIn

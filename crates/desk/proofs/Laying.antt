@@ -2,12 +2,15 @@
 --
 --   intact-fit                      == an intact session fits
 --   count-room, pair-below          == the numbers of a session that fits are small
---   pair-first, pair-second         == the bytes of a pair
+--   number-first, number-second     == the numbers of a pair
+--   byte-lower, byte-upper          == the bytes of a number
+--   number-below                    == a number of a session that fits is a record's
 --   front-model, front-count, front-pair, front-word == the bytes of the front
 --   head-long                       == how many bytes a head has
---   laid, laid-alone                == the front and the marks laid down in turn are the head
+--   room-behind                     == how many bytes are left for the table
+--   laid, laid-alone                == the front and the table laid down in turn are the head
 use mathlib.Core.Path.{_≡_, refl, sym, ap, ap₂, _∙_, subst}
-use mathlib.Core.Logic.{_≢_}
+use mathlib.Core.Logic.{_≢_, inl, inr}
 use mathlib.Core.List.{List, _++_, append-assoc, append-nil}
 use Prim.Native.Nat.{ℕ, _+_, _*_, _-_, _/_, _%_, _<_, _≤_}
 use native.Mathlib.Decide.{decLt}
@@ -17,6 +20,7 @@ use lib.Seq.{take-all, take-at, drop-at, drop-drop}
 use borrow.Author.Tests.{eq-eqb, ne-eqb, lt-ltb, le-ltb}
 use Rattle.laws.specs.Sums.{num}
 use Rattle.laws.specs.Warshall.{row}
+use Rattle.laws.proofs.Tests.{eq?}
 use Rattle.laws.proofs.Rows.{row-long}
 use Rattle.trace.specs.Bounds.{RECORDS}
 use Rattle.trace.proofs.WellFormed.{form-iff}
@@ -31,7 +35,7 @@ use Rattle.session.specs.declared.Session.{Session}
 use Rattle.session.proofs.Pairs.{supposable-iff}
 use Rattle.session.proofs.Openings.{openable-iff}
 use Rattle.session.proofs.Sessions.{intact-stands}
-use Rattle.desk.specs.Head.{Fit, FRONT, MARKS, HEAD, pairByte, frontAt, markAt, headOf}
+use Rattle.desk.specs.Head.{Fit, BYTE, FRONT, TABLE, HEAD, numberAt, pairByte, frontAt, tableAt, headOf}
 
 pub intact-fit : (C : Closings) (s : Session) → Intact C s → Fit s
 intact-fit C s i = (i .opens, intact-stands C s i)
@@ -55,13 +59,27 @@ module _ (s : Session) (i : Fit s) where
   ]
 
 module _ (k : Stack) (i : ℕ) where
-  pub pair-first : i % 2 ≡ 0 → pairByte k i ≡ pairAt k (i / 2) .first
-  unfolding pairByte
-  pair-first e = rw (eq-eqb _ _ e) refl
+  pub number-first : i % 2 ≡ 0 → numberAt k i ≡ pairAt k (i / 2) .first
+  unfolding numberAt
+  number-first e = rw (eq-eqb _ _ e) refl
 
-  pub pair-second : i % 2 ≢ 0 → pairByte k i ≡ pairAt k (i / 2) .second
+  pub number-second : i % 2 ≢ 0 → numberAt k i ≡ pairAt k (i / 2) .second
+  unfolding numberAt
+  number-second d = rw (ne-eqb _ _ d) refl
+
+  pub byte-lower : i % 2 ≡ 0 → pairByte k i ≡ numberAt k (i / 2) % BYTE
   unfolding pairByte
-  pair-second d = rw (ne-eqb _ _ d) refl
+  byte-lower e = rw (eq-eqb _ _ e) refl
+
+  pub byte-upper : i % 2 ≢ 0 → pairByte k i ≡ numberAt k (i / 2) / BYTE
+  unfolding pairByte
+  byte-upper d = rw (ne-eqb _ _ d) refl
+
+pub number-below : (s : Session) → Fit s → (j : ℕ) → j < 2 * PAIRS → numberAt (s .stack) j < RECORDS
+number-below s f j h = elim (eq? (j % 2) 0) [
+  | inl e ↦ rw (number-first (s .stack) j e) (pair-below s f (j / 2) (omega arith) .0)
+  | inr d ↦ rw (number-second (s .stack) j d) (pair-below s f (j / 2) (omega arith) .1)
+]
 
 module _ (s : Session) (i : ℕ) where
   pub front-model : i ≡ 0 → frontAt s i ≡ s .model
@@ -73,42 +91,49 @@ module _ (s : Session) (i : ℕ) where
   front-count e = rw (ne-eqb i 0 (λ z. omega arith), eq-eqb i 1 e) refl
 
   module _ (a : i ≢ 0) (b : i ≢ 1) where
-    pub front-pair : i < 2 + 2 * PAIRS → frontAt s i ≡ pairByte (s .stack) (i - 2)
+    pub front-pair : i < 2 + 4 * PAIRS → frontAt s i ≡ pairByte (s .stack) (i - 2)
     unfolding frontAt
-    front-pair h = rw (ne-eqb i 0 a, ne-eqb i 1 b, lt-ltb i (2 + 2 * PAIRS) h) refl
+    front-pair h = rw (ne-eqb i 0 a, ne-eqb i 1 b, lt-ltb i (2 + 4 * PAIRS) h) refl
 
-    pub front-word : 2 + 2 * PAIRS ≤ i → frontAt s i ≡ num (s .contradicted)
+    pub front-word : 2 + 4 * PAIRS ≤ i → frontAt s i ≡ num (s .contradicted)
     unfolding frontAt
-    front-word h = rw (ne-eqb i 0 a, ne-eqb i 1 b, le-ltb i (2 + 2 * PAIRS) h) refl
+    front-word h = rw (ne-eqb i 0 a, ne-eqb i 1 b, le-ltb i (2 + 4 * PAIRS) h) refl
 
 module _ (s : Session) where
   -- the two parts of a head
   abbrev front : List ℕ
   front = row (frontAt s) 0 FRONT
 
-  abbrev marks : List ℕ
-  marks = row (markAt (s .held)) 0 MARKS
+  abbrev table : List ℕ
+  table = row (tableAt (s .held)) 0 TABLE
 
   pub head-long : length (headOf s) ≡ HEAD
   unfolding headOf
-  head-long = length-append front marks ∙ ap₂ _+_ (row-long (frontAt s) 0 FRONT) (row-long (markAt (s .held)) 0 MARKS)
+  head-long = length-append front table ∙ ap₂ _+_ (row-long (frontAt s) 0 FRONT) (row-long (tableAt (s .held)) 0 TABLE)
 
-  module _ (before mid last : List ℕ) (e : mid ≡ front ++ drop FRONT before) (q : last ≡ marks ++ drop MARKS (take (length mid - FRONT) (drop FRONT mid))) where
-    -- behind the front, all is lent for the marks
-    lent : last ++ drop (length mid - FRONT) (drop FRONT mid) ≡ marks ++ drop MARKS (drop FRONT mid)
+  -- behind the front there is room for the table
+  pub room-behind : (before mid : List ℕ) → mid ≡ front ++ drop FRONT before → HEAD ≤ length before → TABLE ≤ length (take (length mid - FRONT) (drop FRONT mid))
+  room-behind before mid e h =
+      let n = length-drop FRONT mid in
+      subst (λ (l : List ℕ). TABLE ≤ length l) (sym (take-all (length mid - FRONT) (drop FRONT mid) (omega arith)))
+      (omega (arith, ap length e, length-append front (drop FRONT before), length-drop FRONT before, row-long (frontAt s) 0 FRONT))
+
+  module _ (before mid last : List ℕ) (e : mid ≡ front ++ drop FRONT before) (q : last ≡ table ++ drop TABLE (take (length mid - FRONT) (drop FRONT mid))) where
+    -- behind the front, all is lent for the table
+    lent : last ++ drop (length mid - FRONT) (drop FRONT mid) ≡ table ++ drop TABLE (drop FRONT mid)
     lent =
         let n : length (drop FRONT mid) ≤ length mid - FRONT = omega (arith, length-drop FRONT mid) in
-        ap₂ _++_ (q ∙ ap (λ (r : List ℕ). marks ++ drop MARKS r) (take-all (length mid - FRONT) (drop FRONT mid) n)) (drop-of-length-le (drop FRONT mid) {i = length mid - FRONT} n)
-        ∙ append-nil (marks ++ drop MARKS (drop FRONT mid))
+        ap₂ _++_ (q ∙ ap (λ (r : List ℕ). table ++ drop TABLE r) (take-all (length mid - FRONT) (drop FRONT mid) n)) (drop-of-length-le (drop FRONT mid) {i = length mid - FRONT} n)
+        ∙ append-nil (table ++ drop TABLE (drop FRONT mid))
 
     pub laid : take FRONT mid ++ (last ++ drop (length mid - FRONT) (drop FRONT mid)) ≡ headOf s ++ drop HEAD before
     unfolding headOf
     laid =
         ap₂ _++_
         (ap (take FRONT) e ∙ take-at front (drop FRONT before) FRONT (row-long (frontAt s) 0 FRONT))
-        (lent ∙ ap (λ (r : List ℕ). marks ++ drop MARKS r) (ap (drop FRONT) e ∙ drop-at front (drop FRONT before) FRONT (row-long (frontAt s) 0 FRONT)))
-        ∙ ap (λ (r : List ℕ). front ++ (marks ++ r)) (drop-drop MARKS FRONT before)
-        ∙ sym (append-assoc front marks (drop HEAD before))
+        (lent ∙ ap (λ (r : List ℕ). table ++ drop TABLE r) (ap (drop FRONT) e ∙ drop-at front (drop FRONT before) FRONT (row-long (frontAt s) 0 FRONT)))
+        ∙ ap (λ (r : List ℕ). front ++ (table ++ r)) (drop-drop TABLE FRONT before)
+        ∙ sym (append-assoc front table (drop HEAD before))
 
   -- bytes that are as many as a head has are the head
   pub laid-alone : (before last : List ℕ) → length before ≤ HEAD → last ≡ headOf s ++ drop HEAD before → last ≡ headOf s

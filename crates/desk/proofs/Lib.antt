@@ -1,6 +1,7 @@
 -- Laws of the entries.
 pub mod Spelling
 pub mod Laying
+pub mod Tabled
 pub mod Keeping
 pub mod Acting
 pub mod Opens

@@ -3,16 +3,17 @@
 --   bad-number, bad-session, good-number, good-session == by whether the text is good
 --   session-intact == the session laid down is intact
 --   never-ten      == 10 never comes
---   no-room, open-turned, open-done == the answer and the bytes, as the entry learns them
+--   no-room, open-short, open-turned, open-done == the answer and the bytes, as the entry learns them
 --   opened-bytes   == the bytes of an opened session
 --   after-bytes    == opened bytes after any calls are those of the session made afresh with the pairs still standing
 --   again-bytes    == hence those of opening afresh and supposing the pairs still standing in turn
 use mathlib.Core.Path.{_≡_, refl, sym, ap, ap₂, _∙_, subst}
 use mathlib.Core.Logic.{_≢_, inl, inr}
-use mathlib.Core.Bool.{So}
+use mathlib.Core.Bool.{false, So}
 use mathlib.Core.List.{List, [], _++_, append-assoc, append-nil}
 use Prim.Native.Nat.{ℕ, _+_, _<_, _≤_}
 use native.Mathlib.Omega.{arith}
+use lib.Dec.{eqb}
 use lib.ListN.{length, take, drop, drop-of-length-le, length-append, length-drop}
 use lib.Seq.{take-length, take-at, drop-at, drop-drop}
 use borrow.Author.Tests.{eq-eqb, ne-eqb, le-leb, lt-leb}
@@ -108,19 +109,28 @@ module _ (text : List ℕ) (m : ℕ) where
       bad-ten (turned.Refused Twice n) e = omega arith
 
   module _ (b : List ℕ) where
-    pub no-room : length b < HEAD + length text → (NO-ROOM ≡ openAnswer text m b) × ((C : Closings) → b ≡ openBytes C text m b)
-    unfolding openAnswer openBytes
-    no-room h = (rw (lt-leb _ _ h) refl, λ C. rw (lt-leb _ _ h) refl)
+    module _ (z : openNumber text m ≡ 0) where
+      pub no-room : length b < HEAD + length text → (NO-ROOM ≡ openAnswer text m b) × ((C : Closings) → b ≡ openBytes C text m b)
+      unfolding openAnswer openBytes
+      no-room h = (rw (eq-eqb _ _ z, lt-leb _ _ h) refl, λ C. rw (eq-eqb _ _ z, lt-leb _ _ h) refl)
+
+    module _ (n : ℕ) (e : n ≡ openNumber text m) (d : n ≢ 0) where
+      off-zero : eqb (openNumber text m) 0 ≡ false
+      off-zero = ne-eqb (openNumber text m) 0 (λ z. d (e ∙ z))
+
+      turned-answer : n ≡ openAnswer text m b
+      unfolding openAnswer
+      turned-answer = rw off-zero e
+
+      pub open-short : length b < HEAD → (n ≡ openAnswer text m b) × ((C : Closings) → b ≡ openBytes C text m b)
+      unfolding openBytes
+      open-short h = (turned-answer, λ C. rw (off-zero, lt-leb _ _ h) refl)
+
+      pub open-turned : HEAD ≤ length b → (now : List ℕ) → ((C : Closings) → now ≡ headOf (openSession C text m) ++ drop HEAD b) → (n ≡ openAnswer text m b) × ((C : Closings) → now ≡ openBytes C text m b)
+      unfolding openBytes
+      open-turned h now q = (turned-answer, λ C. rw (off-zero, le-leb _ _ h) (q C))
 
     module _ (h : HEAD + length text ≤ length b) where
-      room-answer : openAnswer text m b ≡ openNumber text m
-      unfolding openAnswer
-      room-answer = rw (le-leb _ _ h) refl
-
-      pub open-turned : (n : ℕ) (now : List ℕ) → n ≡ openNumber text m → n ≢ 0 → ((C : Closings) → now ≡ headOf (openSession C text m) ++ drop HEAD b) → (n ≡ openAnswer text m b) × ((C : Closings) → now ≡ openBytes C text m b)
-      unfolding openBytes
-      open-turned n now e d q = (e ∙ sym room-answer, λ C. rw (le-leb _ _ h, ne-eqb (openNumber text m) 0 (λ z. d (e ∙ z))) (q C))
-
       -- the text laid down behind the head
       module _ (C : Closings) (mid : List ℕ) (p : mid ≡ headOf (openSession C text m) ++ drop HEAD b) where
         abbrev head : List ℕ
@@ -150,8 +160,10 @@ module _ (text : List ℕ) (m : ℕ) where
 
       pub open-done : (n : ℕ) (mid now : List ℕ) → n ≡ openNumber text m → n ≡ 0 → ((C : Closings) → mid ≡ headOf (openSession C text m) ++ drop HEAD b) → now ≡ putAt text mid HEAD
           → (0 ≡ openAnswer text m b) × ((C : Closings) → now ≡ openBytes C text m b)
-      unfolding openBytes
-      open-done n mid now e z p q = (sym z ∙ e ∙ sym room-answer, λ C. rw (le-leb _ _ h, eq-eqb (openNumber text m) 0 (sym e ∙ z)) (q ∙ put-behind C mid (p C)))
+      unfolding openAnswer openBytes
+      open-done n mid now e z p q =
+          let y = eq-eqb (openNumber text m) 0 (sym e ∙ z) in
+          (rw (y, le-leb _ _ h) refl, λ C. rw (y, le-leb _ _ h) (q ∙ put-behind C mid (p C)))
 
     module _ (C : Closings) (g : numberOf text ≡ 0) (o : So (openable trace m)) (l : length b ≡ HEAD + length text) where
       done : openNumber text m ≡ 0
@@ -161,7 +173,7 @@ module _ (text : List ℕ) (m : ℕ) where
       pub opened-bytes : openBytes C text m b ≡ headOf (openOf C trace m .session) ++ text
       unfolding openBytes
       opened-bytes =
-          rw (le-leb (HEAD + length text) (length b) (omega arith), eq-eqb (openNumber text m) 0 done)
+          rw (eq-eqb (openNumber text m) 0 done, le-leb (HEAD + length text) (length b) (omega arith))
           (ap₂ (λ (s : Session) (r : List ℕ). headOf s ++ (text ++ r)) (good-session g C) (drop-of-length-le b {i = HEAD + length text} (omega arith))
           ∙ ap (λ (r : List ℕ). headOf (openOf C trace m .session) ++ r) (append-nil text))
 

@@ -1,14 +1,13 @@
 -- 11 from opening a session, and the verdict on the same trace under the same model.
 --
 --   eleven-told == an opening is turned back as 11 exactly where the verdict is no source, with the verdict's record
-use mathlib.Core.Path.{_≡_, refl, sym, ap, _∙_, subst}
+use mathlib.Core.Path.{_≡_, sym, ap, _∙_, subst}
 use mathlib.Core.Logic.{_↔_, inl, inr}
-use mathlib.Core.Bool.{false, So}
 use mathlib.Core.Option.{Option, none, some}
 use Prim.Native.Nat.{ℕ}
 use native.Mathlib.Omega.{arith}
 use Rattle.laws.specs.Lowest.{Lowest}
-use Rattle.laws.proofs.Tests.{test, and-iff, same-iff}
+use Rattle.laws.proofs.Tests.{test}
 use Rattle.trace.specs.WellFormed.{wellFormed}
 use Rattle.trace.specs.Meaning.{frameOf}
 use Rattle.trace.specs.declared.Trace.{Trace}
@@ -20,8 +19,6 @@ use Rattle.verdict.specs.Told.{bare, laid, Told}
 use Rattle.verdict.specs.declared.Outcome.{Outcome}
 use Rattle.verdict.specs.declared.Outcome.the-variants.{NoSource, Circle, Order, NoneLeft, NoModel, NotWellFormed}
 use Rattle.verdict.specs.declared.Verdict.{Verdict}
-use Rattle.verdict.proofs.Laying.{told-model, told-form}
-use Rattle.verdict.proofs.Owed.{says-laid}
 use Rattle.session.specs.Opening.{openingOf}
 use Rattle.session.specs.declared.Answer.the-variants as session
 use Rattle.session.proofs.Numbering.{number-eleven}
@@ -39,18 +36,6 @@ none-some : {x : ℕ} → _≡_ {A = Option ℕ} none (some x) → ⊥
 none-some {x} e = let z : _≡_ {A = ℕ} 0 1 = ap (λ (o : Option ℕ). elim o [ some y ↦ 1 | none ↦ 0 ]) e in omega arith
 
 module _ (t : Trace) (m : ℕ) (r : Verdict) (told : Told t m r) where
-  -- what a verdict promises, case by case
-  no-model : modelled m ≡ false → r ≡ bare NoModel
-  no-model e = told .is ∙ sym (told-model t m e .is)
-
-  no-form : So (modelled m) → wellFormed t ≡ false → r ≡ bare NotWellFormed
-  no-form k e = told .is ∙ sym (told-form t m k e .is)
-
-  says : So (modelled m) → So (wellFormed t) → (v : said.Verdict) × said.Says (frameOf t) (keptOf m t) v × (r ≡ laid v)
-  says k w =
-      let q = says-laid m t (and-iff (same-iff {a = wellFormed t}) (same-iff {a = modelled m}) .1 (w, k)) in
-      (q .0, q .1, told .is ∙ q .2)
-
   module _ (x : ℕ) (e : r .outcome ≡ NoSource x) where
     -- the record, where the verdict is known
     named : (v : Verdict) → r ≡ v → lacks (v .outcome) ≡ some x
@@ -64,10 +49,10 @@ module _ (t : Trace) (m : ℕ) (r : Verdict) (told : Told t m r) where
 
     opening-lacks : openingOf t m ≡ session.NoSource x
     opening-lacks = elim (test (modelled m)) [
-      | inr n ↦ absurd (none-some (named (bare NoModel) (no-model n)))
+      | inr n ↦ absurd (none-some (named (bare NoModel) (told .nine n)))
       | inl k ↦ elim (test (wellFormed t)) [
-        | inr n ↦ absurd (none-some (named (bare NotWellFormed) (no-form k n)))
-        | inl w ↦ let v = says k w in number-eleven t m x .1 ((k, w), lowest-named (v .0) (v .1) (v .2))
+        | inr n ↦ absurd (none-some (named (bare NotWellFormed) (told .ten k n)))
+        | inl w ↦ let v = told .says k w in number-eleven t m x .1 ((k, w), lowest-named (v .0) (v .1) (v .2))
       ]
     ]
 
@@ -75,7 +60,7 @@ module _ (t : Trace) (m : ℕ) (r : Verdict) (told : Told t m r) where
   eleven-told x = (
     λ e.
         let h = number-eleven t m x .0 e in
-        let v = says (h .0 .0) (h .0 .1) in
+        let v = told .says (h .0 .0) (h .0 .1) in
         ap (λ (u : Verdict). u .outcome) (v .2 ∙ ap laid (verdict-one (frameOf t) (keptOf m t) (v .0) (said.noSource x) (v .1) (h .1))),
     λ e. opening-lacks x e,
   )

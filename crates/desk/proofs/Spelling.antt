@@ -1,18 +1,22 @@
 -- A verdict in bytes: how it is spelled, laid down, and read off a text.
 --
+--   wide-long, wide-more     == how many bytes numbers have; one number more behind them
 --   spelled-by, spelled-fits == by its outcome; its operations have places
+--   spelled-laid             == the bytes of a verdict, as the code lays them
 --   source-below             == a record that lacks a source is one of the trace
 --   laid-down                == a count, operations and rules put one behind the other
---   told-short, told-refused, told-good == what is answered and left in the buffer: too short, for a refused text, for a good one
+--   told-refused, told-model, told-short, told-good == what is answered and left in the buffer: of a refused text, of no model, of too short a buffer, and else
 --   answered-one             == no second answer, and no second state of the buffer
 use mathlib.Core.Path.{_≡_, refl, sym, ap, _∙_}
 use mathlib.Core.Logic.{inl, inr}
-use mathlib.Core.Bool.{So}
+use mathlib.Core.Bool.{So, false, false≢true}
 use mathlib.Core.List.{List, [], _∷_, _++_}
-use Prim.Native.Nat.{ℕ, _+_, _≤_, _<_}
+use Prim.Native.Nat.{ℕ, _+_, _*_, _/_, _%_, _≤_, _<_}
+use native.Mathlib.Numerals.{add-one}
 use native.Mathlib.Decide.{decLt}
 use native.Mathlib.Omega.{arith}
-use lib.ListN.{length, drop, set, replicate, length-append}
+use lib.ListN.{length, getD, take, drop, length-append}
+use lib.Seq.{take-suc}
 use Rattle.laws.proofs.Tests.{test}
 use Rattle.trace.specs.Bounds.{RECORDS}
 use Rattle.trace.specs.WellFormed.{wellFormed}
@@ -21,18 +25,33 @@ use Rattle.trace.proofs.Meaning.{reads-iff}
 use Rattle.text.specs.Room.{putAt}
 use Rattle.text.proofs.Put.{put-front, put-then}
 use Rattle.reader.specs.Read.{readText}
+use Rattle.reader.proofs.RoundTrip.{read-well}
 use Rattle.pairs.specs.Kept.{modelled, keptOf}
 use Rattle.trace.specs.Meaning.{frameOf}
 use Rattle.orders.specs.Verdict as said
 use Rattle.orders.proofs.Accepted.{well-fits}
+use Rattle.orders.proofs.Says.{verdict-one}
 use Rattle.verdict.specs.Told.{laid, Told}
-use Rattle.verdict.proofs.One.{told-one}
 use Rattle.verdict.specs.declared.Outcome.{Outcome}
 use Rattle.verdict.specs.declared.Outcome.the-variants.{NoSource, Circle, Order, NoneLeft, NoModel, NotWellFormed}
 use Rattle.verdict.specs.declared.Verdict.{Verdict}
-use Rattle.desk.specs.Answers.{NO-ROOM, outcomeNumber}
+use Rattle.desk.specs.Answers.{NO-ROOM, NO-MODEL, answerTo, outcomeNumber}
 use Rattle.desk.specs.Text.{numberOf}
-use Rattle.desk.specs.Verdict.{VERDICT, lacking, spelledAs, spelled, bytesOf, Answered}
+use Rattle.desk.specs.Verdict.{VERDICT, wide, bytesOf, Answered}
+use Rattle.desk.specs.Spelled.{lacking, spelledAs, spelled, laidOut}
+
+pub wide-long : (ns : List ℕ) → length (wide ns) ≡ 2 * length ns
+unfolding wide
+wide-long [] = refl
+wide-long (n ∷ ns) = omega (arith, wide-long ns)
+
+wide-snoc : (ns : List ℕ) (n : ℕ) → wide (ns ++ (n ∷ [])) ≡ wide ns ++ (n % 256 ∷ n / 256 ∷ [])
+unfolding wide
+wide-snoc [] n = refl
+wide-snoc (m ∷ ns) n = ap (λ (l : List ℕ). m % 256 ∷ m / 256 ∷ l) (wide-snoc ns n)
+
+pub wide-more : (ns : List ℕ) (i : ℕ) → i < length ns → wide (take (i + 1) ns) ≡ wide (take i ns) ++ (getD ns i 0 % 256 ∷ getD ns i 0 / 256 ∷ [])
+wide-more ns i h = rw (add-one, take-suc ns i 0 h) (wide-snoc (take i ns) (getD ns i 0))
 
 pub spelled-by : (v : Verdict) (o : Outcome) → v .outcome ≡ o → spelledAs o v ≡ spelled v
 unfolding spelled
@@ -50,6 +69,20 @@ spelled-fits v h = go (v .outcome)
     go NoModel = h
     go NotWellFormed = h
 
+pub spelled-laid : (v : said.Verdict) → laidOut (spelled (laid v)) ≡ bytesOf v
+unfolding spelled laidOut bytesOf
+spelled-laid (said.noSource x) = refl
+spelled-laid (said.circle c rs) = refl
+spelled-laid (said.order xs) = refl
+spelled-laid said.noneLeft = refl
+
+-- its answer by the outcome
+answer-laid : (v : said.Verdict) → outcomeNumber (laid v .outcome) ≡ answerTo v
+answer-laid (said.noSource x) = refl
+answer-laid (said.circle c rs) = refl
+answer-laid (said.order xs) = refl
+answer-laid said.noneLeft = refl
+
 module _ (m : ℕ) (t : Trace) (w : So (wellFormed t)) where
   below : (v : said.Verdict) → said.Says (frameOf t) (keptOf m t) v → lacking (laid v .outcome) < RECORDS
   below (said.noSource x) s = let h = reads-iff t x .0 (s .0 .reads) .0 in omega (arith, well-fits t w)
@@ -64,47 +97,76 @@ module _ (m : ℕ) (t : Trace) (w : So (wellFormed t)) where
   ]
 
 module _ (os rs : List ℕ) (n : ℕ) (long : length os ≡ RECORDS) (long′ : length rs ≡ RECORDS) where
-  pub laid-down : (before : List ℕ) → VERDICT ≤ length before → putAt rs (putAt os (set before 0 n) 1) (1 + RECORDS) ≡ (n ∷ os ++ rs) ++ drop VERDICT before
-  laid-down [] h = absurd (omega arith)
-  laid-down (b ∷ bs) h =
-      let out = b ∷ bs in
-      let all : length (n ∷ os ++ rs) ≡ VERDICT = omega (arith, length-append (n ∷ os) rs) in
-      ap (λ (o : List ℕ). putAt rs (putAt os o 1) (1 + RECORDS)) (sym (put-front (n ∷ []) out (omega arith)))
-      ∙ ap (λ (o : List ℕ). putAt rs o (1 + RECORDS)) (put-then (n ∷ []) os out 0 (omega arith))
-      ∙ ap (putAt rs (putAt (n ∷ os) out 0)) (let e : 1 + RECORDS ≡ 0 + length (n ∷ os) = omega arith in e)
-      ∙ put-then (n ∷ os) rs out 0 (omega arith)
-      ∙ put-front (n ∷ os ++ rs) out (omega arith)
-      ∙ ap (λ (k : ℕ). (n ∷ os ++ rs) ++ drop k out) all
+  pub laid-down : (before : List ℕ) → VERDICT ≤ length before
+      → putAt rs (putAt (wide os) (putAt (wide (n ∷ [])) before 0) 2) (2 + 2 * RECORDS) ≡ (wide (n ∷ os) ++ rs) ++ drop VERDICT before
+  unfolding wide
+  laid-down before h =
+      let count = wide (n ∷ []) in
+      let many : length (wide os) ≡ 2 * RECORDS = omega (arith, wide-long os) in
+      let all : length (wide (n ∷ os) ++ rs) ≡ VERDICT = omega (arith, length-append (wide (n ∷ os)) rs) in
+      ap (λ (o : List ℕ). putAt rs o (2 + 2 * RECORDS)) (put-then count (wide os) before 0 (omega arith))
+      ∙ ap (putAt rs (putAt (wide (n ∷ os)) before 0)) (let e : 2 + 2 * RECORDS ≡ 0 + length (wide (n ∷ os)) = omega arith in e)
+      ∙ put-then (wide (n ∷ os)) rs before 0 (omega arith)
+      ∙ put-front (wide (n ∷ os) ++ rs) before (omega arith)
+      ∙ ap (λ (k : ℕ). (wide (n ∷ os) ++ rs) ++ drop k before) all
 
 module _ (text : List ℕ) (m : ℕ) (before : List ℕ) where
-  pub told-short : length before < VERDICT → Answered text m before before NO-ROOM
-  told-short h = record { short = λ _. (refl, refl); wrong = λ l _. absurd (omega arith); told = λ l _. absurd (omega arith) }
+  pub told-refused : 0 < numberOf text → Answered text m before before (numberOf text)
+  told-refused w = record {
+    wrong = λ _. (refl, refl);
+    model = λ z. absurd (omega (arith, z));
+    short = λ z. absurd (omega (arith, z));
+    says = λ z. absurd (omega (arith, z));
+  }
 
-  module _ (h : VERDICT ≤ length before) where
-    pub told-refused : 0 < numberOf text → Answered text m before (putAt (replicate VERDICT 0) before 0) (numberOf text)
-    told-refused w = record {
-      short = λ l. absurd (omega arith);
-      wrong = λ _ _. (refl, put-front (replicate VERDICT 0) before h);
-      told = λ _ z. absurd (omega (arith, z));
+  module _ (z : numberOf text ≡ 0) where
+    pub told-model : modelled m ≡ false → Answered text m before before NO-MODEL
+    told-model e = record {
+      wrong = λ w. absurd (omega (arith, z));
+      model = λ _ _. (refl, refl);
+      short = λ _ k. absurd (false≢true (sym e ∙ k));
+      says = λ _ k. absurd (false≢true (sym e ∙ k));
     }
 
-    pub told-good : numberOf text ≡ 0 → (v : Verdict) → Told (readText text .trace) m v → Answered text m before (bytesOf (spelled v) ++ drop VERDICT before) (outcomeNumber (v .outcome))
-    told-good z v t = record {
-      short = λ l. absurd (omega arith);
-      wrong = λ _ w. absurd (omega (arith, z));
-      told = λ _ _. (v, t, refl, refl);
-    }
+    module _ (k : So (modelled m)) where
+      pub told-short : length before < VERDICT → Answered text m before before NO-ROOM
+      told-short h = record {
+        wrong = λ w. absurd (omega (arith, z));
+        model = λ _ e. absurd (false≢true (sym e ∙ k));
+        short = λ _ _ _. (refl, refl);
+        says = λ _ _ l. absurd (omega arith);
+      }
+
+      pub told-good : VERDICT ≤ length before → (r : Verdict) → Told (readText text .trace) m r
+          → Answered text m before (laidOut (spelled r) ++ drop VERDICT before) (outcomeNumber (r .outcome))
+      told-good h r t =
+          let (v, s, e) = t .says k (read-well text) in
+          record {
+            wrong = λ w. absurd (omega (arith, z));
+            model = λ _ e. absurd (false≢true (sym e ∙ k));
+            short = λ _ _ l. absurd (omega arith);
+            says = λ _ _ _. (
+              v,
+              s,
+              ap (λ (r : Verdict). outcomeNumber (r .outcome)) e ∙ answer-laid v,
+              ap (λ (r : Verdict). laidOut (spelled r) ++ drop VERDICT before) e ∙ ap (λ (bytes : List ℕ). bytes ++ drop VERDICT before) (spelled-laid v),
+            );
+          }
 
 pub answered-one : (text : List ℕ) (m : ℕ) (before a b : List ℕ) (r s : ℕ) → Answered text m before a r → Answered text m before b s → (r ≡ s) × (a ≡ b)
-answered-one text m before a b r s p q = elim (decLt (length before) VERDICT) [
-  | yes h ↦ both (p .short h) (q .short h)
-  | no h ↦ elim (decLt 0 (numberOf text)) [
-    | yes g ↦ both (p .wrong (omega arith) g) (q .wrong (omega arith) g)
-    | no g ↦
-        let (v, t, e, f) = p .told (omega arith) (omega arith) in
-        let (u, d, i, j) = q .told (omega arith) (omega arith) in
-        let same = told-one (readText text .trace) m v u t d in
-        both (e, f) (i ∙ ap (λ (v : Verdict). outcomeNumber (v .outcome)) (sym same), j ∙ ap (λ (v : Verdict). bytesOf (spelled v) ++ drop VERDICT before) (sym same))
+answered-one text m before a b r s p q = elim (decLt 0 (numberOf text)) [
+  | yes g ↦ both (p .wrong g) (q .wrong g)
+  | no g ↦ elim (test (modelled m)) [
+    | inr e ↦ both (p .model (omega arith) e) (q .model (omega arith) e)
+    | inl k ↦ elim (decLt (length before) VERDICT) [
+      | yes h ↦ both (p .short (omega arith) k h) (q .short (omega arith) k h)
+      | no h ↦
+          let t = readText text .trace in
+          let (v, x, e, f) = p .says (omega arith) k (omega arith) in
+          let (u, y, i, j) = q .says (omega arith) k (omega arith) in
+          let same = verdict-one (frameOf t) (keptOf m t) u v y x in
+          both (e, f) (i ∙ ap answerTo same, j ∙ ap (λ (v : said.Verdict). bytesOf v ++ drop VERDICT before) same)
+    ]
   ]
 ]
   where

@@ -1,21 +1,32 @@
 -- An answer about a verdict and its bytes, read back.
 --
+--   narrow bytes  == numbers of two bytes each, the low byte first
+--   told bytes    == how many operations a verdict's bytes tell, and behind it the places of the operations
 --   heard a bytes == the verdict that they tell, in document 01's words
 use mathlib.Core.Bool.{cond}
-use mathlib.Core.List.{List}
-use Prim.Native.Nat.{ℕ, _+_}
+use mathlib.Core.List.{List, [], _∷_}
+use Prim.Native.Nat.{ℕ, _+_, _*_}
 use lib.Dec.{eqb}
 use lib.ListN.{getD, take, drop}
 use Rattle.trace.specs.Bounds.{RECORDS}
 use Rattle.orders.specs.Verdict.{Verdict, noSource, circle, order, noneLeft}
 use Rattle.desk.specs.Answers.{NO-SOURCE, ORDER, CIRCLE}
 
--- the first n bytes from a place on, n being the first of all
-abbrev counted : List ℕ → ℕ → List ℕ
-counted bytes at = take (getD bytes 0 0) (drop at bytes)
+unfoldable pub narrow : List ℕ → List ℕ
+narrow [] = []
+narrow (low ∷ []) = []
+narrow (low ∷ high ∷ bytes) = (low + 256 * high) ∷ narrow bytes
+
+abbrev pub told : List ℕ → List ℕ
+told bytes = narrow (take (2 + 2 * RECORDS) bytes)
+
+-- as many as are told
+abbrev counted : List ℕ → List ℕ → List ℕ
+counted bytes xs = take (getD (told bytes) 0 0) xs
 
 unfoldable pub heard : ℕ → List ℕ → Verdict
 heard a bytes =
-    cond (eqb a NO-SOURCE) (noSource (getD bytes 1 0))
-    (cond (eqb a CIRCLE) (circle (counted bytes 1) (counted bytes (1 + RECORDS)))
-    (cond (eqb a ORDER) (order (counted bytes 1)) noneLeft))
+    let operations = counted bytes (drop 1 (told bytes)) in
+    cond (eqb a NO-SOURCE) (noSource (getD (told bytes) 1 0))
+    (cond (eqb a CIRCLE) (circle operations (counted bytes (drop (2 + 2 * RECORDS) bytes)))
+    (cond (eqb a ORDER) (order operations) noneLeft))

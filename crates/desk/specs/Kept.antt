@@ -1,6 +1,7 @@
 -- A session in bytes: its head, then its trace's text. C has what the rules come to.
 --
 --   textIn b      == the text
+--   twoIn b i     == the number that two bytes make from place i on, the lower first
 --   pairIn b i    == the pair at place i
 --   stackIn b     == the pairs that the bytes name
 --   madeIn C b    == the session on the text's trace with the model and the pairs that the bytes name, made afresh, or that there is none
@@ -26,13 +27,16 @@ use Rattle.session.specs.declared.Session.{Session}
 use Rattle.session.specs.declared.Reply.{Reply}
 use Rattle.desk.specs.declared.sessions.Lent.{Lent}
 use Rattle.desk.specs.Text.{numberOf}
-use Rattle.desk.specs.Head.{HEAD, headOf}
+use Rattle.desk.specs.Head.{BYTE, HEAD, headOf}
 
 abbrev pub textIn : List ℕ → List ℕ
 textIn b = drop HEAD b
 
+unfoldable pub twoIn : List ℕ → ℕ → ℕ
+twoIn b i = getD b i 0 + BYTE * getD b (i + 1) 0
+
 unfoldable pub pairIn : List ℕ → ℕ → Pair
-pairIn b i = record { first = getD b (2 + 2 * i) 0; second = getD b (3 + 2 * i) 0 }
+pairIn b i = record { first = twoIn b (2 + 4 * i); second = twoIn b (4 + 4 * i) }
 
 unfoldable pub stackIn : List ℕ → Stack
 stackIn b = record { pairs = row (pairIn b) 0 PAIRS; count = getD b 1 0 }

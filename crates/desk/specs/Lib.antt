@@ -2,6 +2,7 @@
 pub mod Text
 pub mod Answers
 pub mod Verdict
+pub mod Spelled
 pub mod Heard
 pub mod Judged
 pub mod Head

@@ -10,6 +10,10 @@ fn wide8(x: u8) -> u64 {
     x as u64
 }
 
+fn wide16(x: u16) -> u64 {
+    x as u64
+}
+
 fn long(x: usize) -> u64 {
     x as u64
 }
@@ -23,12 +27,24 @@ fn say_number(word: &[u8], n: u64) {
     io::print_decimal(STDOUT_FILENO, n);
 }
 
-// The first len of some small numbers.
-fn say_numbers(numbers: &[u8], len: usize) {
+// The first len of some records.
+fn say_numbers(numbers: &[u16], len: usize) {
     let mut i: usize = 0;
     while i < numbers.len() {
         if i < len {
             let n = numbers[i];
+            say_number(b" ", wide16(n));
+        }
+        i += 1;
+    }
+}
+
+// The first len of some rules.
+fn say_rules(rules: &[u8], len: usize) {
+    let mut i: usize = 0;
+    while i < rules.len() {
+        if i < len {
+            let n = rules[i];
             say_number(b" ", wide8(n));
         }
         i += 1;
@@ -41,7 +57,7 @@ fn say_circle(c: Circle) {
     say(b"circle");
     say_numbers(&operations, c.len);
     say(b" by");
-    say_numbers(&rules, c.len);
+    say_rules(&rules, c.len);
 }
 
 // The pairs of rows that begin with x.

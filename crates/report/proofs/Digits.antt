@@ -1,6 +1,6 @@
 -- Numbers as they are written.
 --
---   decimal-byte, decimal-usize == how many digits a number of the code has at the most
+--   decimal-record, decimal-byte, decimal-usize == how many digits a record's number, a byte and any number of the code has at the most
 --   spaced-snoc, spaced-more    == one number more behind a list
 use mathlib.Core.Path.{_≡_, sym, ap, _∙_}
 use mathlib.Core.List.{List, [], _∷_, _++_, append-assoc, append-nil}
@@ -9,14 +9,18 @@ use native.Mathlib.Numerals.{add-one}
 use native.Mathlib.Omega.{arith}
 use lib.ListN.{length, take, getD}
 use lib.Seq.{take-suc}
+use Rattle.trace.specs.Bounds.{RECORDS}
 use Rattle.text.specs.Number.{decimal}
 use Rattle.text.proofs.Decimal.{decimal-length}
-use Rattle.report.specs.Bounds.{LONG}
+use Rattle.report.specs.Bounds.{DIGITS, LONG}
 use Rattle.report.specs.Words.{SPACE}
 use Rattle.report.specs.Report.{spaced}
 
-pub decimal-byte : (n : ℕ) → n < 256 → length (decimal n) ≤ 3
-decimal-byte n h = decimal-length 3 n (omega arith) (omega arith)
+pub decimal-record : (n : ℕ) → n < RECORDS → length (decimal n) ≤ DIGITS
+decimal-record n h = decimal-length DIGITS n (omega arith) (omega arith)
+
+pub decimal-byte : (n : ℕ) → n < 2 ^ 8 → length (decimal n) ≤ DIGITS
+decimal-byte n h = decimal-length DIGITS n (omega arith) (omega arith)
 
 pub decimal-usize : (n : ℕ) → n < 2 ^ 64 → length (decimal n) ≤ LONG
 decimal-usize n h = decimal-length LONG n (omega arith) (omega arith)

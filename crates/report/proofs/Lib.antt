@@ -2,4 +2,5 @@
 pub mod Wrote
 pub mod Digits
 pub mod Answered
+pub mod Empty
 pub mod One

@@ -1,6 +1,7 @@
 -- How many bytes the parts of an answer have at the most.
 --
---   NUMBER == a record or a rule after a space
+--   DIGITS == the number of a record or a rule
+--   NUMBER == the same after a space
 --   LONG   == any number that the code holds
 --   SAID   == what is said of one model
 --   NAME   == the model's name
@@ -9,8 +10,11 @@
 use Prim.Native.Nat.{ℕ, _+_, _*_}
 use Rattle.trace.specs.Bounds.{RECORDS}
 
+abbrev pub DIGITS : ℕ
+DIGITS = 3
+
 abbrev pub NUMBER : ℕ
-NUMBER = 4
+NUMBER = 1 + DIGITS
 
 abbrev pub LONG : ℕ
 LONG = 20

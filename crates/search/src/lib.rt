@@ -8,5 +8,5 @@ mod tables;
 pub struct Order {
     pub found: bool,
     pub len: usize,
-    pub operations: [u8; trace::RECORDS],
+    pub operations: [u16; trace::RECORDS],
 }

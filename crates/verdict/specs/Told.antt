@@ -2,6 +2,7 @@
 --
 --   refusedBy o   == document 01's number of an outcome that turns the question back; 0 of any other
 --   padded xs     == a list in an array of RECORDS places, the unused ones 0
+--   Numbers xs    == each of xs is a record's number
 --   bare o        == an outcome that has no operations
 --   laid v        == a verdict as the code holds it
 --   ordered r     == the order that a verdict hands back, if it does
@@ -11,8 +12,8 @@ use mathlib.Core.Path.{_≡_}
 use mathlib.Core.Bool.{false, So}
 use mathlib.Core.List.{List, _++_}
 use mathlib.Core.Option.{Option, none, some}
-use Prim.Native.Nat.{ℕ, _-_, _≤_}
-use lib.ListN.{length, take, replicate}
+use Prim.Native.Nat.{ℕ, _-_, _≤_, _<_}
+use lib.ListN.{length, getD, take, replicate}
 use Rattle.trace.specs.Bounds.{RECORDS}
 use Rattle.trace.specs.Meaning.{frameOf}
 use Rattle.trace.specs.WellFormed.{wellFormed}
@@ -35,6 +36,9 @@ refusedBy NotWellFormed = 10
 
 abbrev pub padded : List ℕ → List ℕ
 padded xs = xs ++ replicate (RECORDS - length xs) 0
+
+abbrev pub Numbers : List ℕ → Type 0
+Numbers xs = (i : ℕ) → getD xs i 0 < RECORDS
 
 abbrev pub bare : Outcome → Verdict
 bare o = record { outcome = o; len = 0; operations = replicate RECORDS 0; rules = replicate RECORDS 0 }

@@ -17,6 +17,6 @@ pub enum Outcome {
 pub struct Verdict {
     pub outcome: Outcome,
     pub len: usize,
-    pub operations: [u8; RECORDS],
+    pub operations: [u16; RECORDS],
     pub rules: [u8; RECORDS],
 }

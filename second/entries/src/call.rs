@@ -1,5 +1,6 @@
 //! The calls of a case, kept so that they can be told where something differs.
 
+use second::bounds::MODELS;
 use std::fmt;
 
 #[derive(Clone, Debug)]
@@ -10,12 +11,18 @@ pub enum Call {
     Start,
     End,
     Verdict { model: u8, room: usize },
-    Judge { model: u8, list: Vec<u8> },
+    Judge { model: u8, list: Vec<u16> },
     Open { model: u8, room: usize },
     Suppose { x: usize, y: usize },
     TakeBack,
     Ask { x: usize, y: usize },
 }
+
+/// Models that there are not.
+pub const OTHER_MODELS: [u8; 5] = [0, LAST_MODEL + 1, LAST_MODEL + 2, 128, 255];
+
+/// The highest number of a model that there is; the lowest is 1.
+pub const LAST_MODEL: u8 = MODELS as u8;
 
 /// The entries' names without the front that all share, in the order of the header.
 pub const ENTRIES: [&str; 11] = ["report", "number", "line", "start", "end", "verdict", "judge", "open", "suppose", "take_back", "ask"];

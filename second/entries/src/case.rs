@@ -1,16 +1,12 @@
 //! One case: a text, the calls on it and on its sessions, and what came of them.
 
-use crate::call::{Call, ENTRIES};
+use crate::call::Call;
 use crate::desk::Desk;
 use crate::lent::Lent;
-use crate::{sessions, texts};
 use second::chance::Chance;
 use second::desk::Page;
-use second::families::{text, Family};
-use second::plan::{missed, shown};
-
-/// The answers of the table, and one place more for whatever is none.
-pub const ANSWERS: usize = 25;
+use second::plan::missed;
+use std::collections::BTreeMap;
 
 #[derive(Clone, Default)]
 pub struct Counts {
@@ -24,8 +20,8 @@ pub struct Counts {
     /// Damaged sessions, and those of them that were a session all the same.
     pub damaged: u64,
     pub still_sessions: u64,
-    /// For each entry how often each answer was wanted; in the last place what is not of the table.
-    pub answers: [[u64; ANSWERS]; ENTRIES.len()],
+    /// For each of `ENTRIES` how often each answer was wanted; None for those that are not of the table.
+    pub answers: BTreeMap<(usize, Option<usize>), u64>,
 }
 
 impl Counts {
@@ -37,8 +33,8 @@ impl Counts {
         self.calls_failed += other.calls_failed;
         self.damaged += other.damaged;
         self.still_sessions += other.still_sessions;
-        for (mine, theirs) in self.answers.iter_mut().flatten().zip(other.answers.iter().flatten()) {
-            *mine += theirs;
+        for (answer, count) in &other.answers {
+            *self.answers.entry(*answer).or_default() += count;
         }
     }
 
@@ -73,33 +69,11 @@ pub struct Case<'a, D: Desk> {
     pub differences: Vec<String>,
 }
 
-/// Draws a family's case and compares all of it; what differed is told with the text.
-pub fn compared(desk: &impl Desk, family: &Family, seed: u64, number: u64, most_steps: u64) -> (Counts, Vec<String>) {
-    let text = text(family, seed, number);
-    let before = text.clone();
-    // A stream apart from the text's own.
-    let chance = Chance::of_case(seed ^ 0x5EC0_4D00, number);
-    let page = Page::new(&text, most_steps);
-    let mut case = Case { desk, text: &text, page, chance, counts: Counts::default(), steps: Vec::new(), differences: Vec::new() };
-    texts::compare(&mut case);
-    sessions::compare(&mut case);
-    if before != case.text {
-        case.counts.texts_failed += 1;
-        case.differences.push("the text itself was changed\n".to_string());
-    }
-    let told = |difference: &String| {
-        let head = format!("DIFFERENCE: family {} seed {seed} case {number}: {difference}", family.name);
-        format!("{head}text ({} bytes):\n{}\n", text.len(), shown(&text))
-    };
-    let differences = case.differences.iter().map(told).collect();
-    (case.counts, differences)
-}
-
 impl<D: Desk> Case<'_, D> {
     /// Notes a call with what was wanted and what came; true where they are the same, memory and all.
     pub fn same(&mut self, call: Call, (wanted, mine): (usize, &Lent), (got, theirs): (usize, &Lent)) -> bool {
-        let answer = if call.answers_by_table() { wanted.min(ANSWERS - 1) } else { ANSWERS - 1 };
-        self.counts.answers[call.entry()][answer] += 1;
+        let answer = call.answers_by_table().then_some(wanted);
+        *self.counts.answers.entry((call.entry(), answer)).or_default() += 1;
         let same = wanted == got && mine == theirs;
         if !same {
             let calls: String = self.steps.iter().map(told).collect();

@@ -1,51 +1,64 @@
 //! Bytes that were a session. Some of what is done here leaves one: a pair that was held all the same, a line that changes nothing.
 
+use crate::call::OTHER_MODELS;
 use second::chance::Chance;
-use second::desk::{place_of, HEAD};
+use second::desk::{place_of, put_number, CONTRADICTED_AT as CONTRADICTED, HEAD, PAIRS_AT as PAIRS, TABLE_AT as TABLE};
+use second::reader::MOST_TEXT;
+use second::session::MOST_PAIRS;
+use second::trace::{MODELS, MOST_RECORDS};
 
 const COUNT: usize = 1;
-const PAIRS: usize = 2;
-const CONTRADICTED: usize = 34;
-const TABLE: usize = 35;
+
+/// A pair has so many bytes, a number half of them.
+const PAIR: usize = 4;
 
 type Damage = (&'static str, fn(&mut Chance, &mut Vec<u8>));
 
-const DAMAGES: [Damage; 18] = [
-    ("another model", |chance, bytes| bytes[0] = *chance.of(&[0, 1, 1, 2, 2, 3, 255])),
+const DAMAGES: [Damage; 19] = [
+    ("another model", |chance, bytes| {
+        bytes[0] = if chance.percent(60) { chance.between(1, MODELS) as u8 } else { *chance.of(&OTHER_MODELS) };
+    }),
     ("another count of pairs", |chance, bytes| bytes[COUNT] = *chance.of(&[0, 1, 2, 15, 16, 17, 255])),
     ("a byte of the pairs", |chance, bytes| {
         let place = chance.between(PAIRS, CONTRADICTED - 1);
         bytes[place] = byte(chance, bytes[place]);
     }),
-    ("a byte of the standing pairs", |chance, bytes| {
+    ("a number of the standing pairs", |chance, bytes| {
         if let Some(place) = standing(chance, bytes) {
-            bytes[place + chance.below(2)] = chance.below(66) as u8;
+            let number = chance.below(MOST_RECORDS + 2);
+            put_number(&mut bytes[place + *chance.of(&[0, 2])..], number);
+        }
+    }),
+    ("a high byte of the standing pairs", |chance, bytes| {
+        if let Some(place) = standing(chance, bytes) {
+            bytes[place + *chance.of(&[1, 3])] ^= 1;
         }
     }),
     ("a pair turned round", |chance, bytes| {
         if let Some(place) = standing(chance, bytes) {
-            bytes.swap(place, place + 1);
+            bytes[place..][..PAIR].rotate_left(PAIR / 2);
         }
     }),
     ("two pairs in each other's place", |chance, bytes| {
         if let (Some(one), Some(other)) = (standing(chance, bytes), standing(chance, bytes)) {
-            bytes.swap(one, other);
-            bytes.swap(one + 1, other + 1);
+            (0..PAIR).for_each(|byte| bytes.swap(one + byte, other + byte));
         }
     }),
     ("the latest pair gone, but not what it forced", |_, bytes| {
         let count = usize::from(bytes[COUNT]);
         if count > 0 {
             bytes[COUNT] -= 1;
-            bytes[PAIRS + 2 * (count - 1)..][..2].fill(0);
+            bytes[PAIRS + PAIR * (count - 1)..][..PAIR].fill(0);
         }
     }),
     ("a pair more, but not what it forces", |chance, bytes| {
         let count = usize::from(bytes[COUNT]);
-        if count < 16 {
+        if count < MOST_PAIRS {
             let pair = some_pair(chance, bytes);
             bytes[COUNT] += 1;
-            bytes[PAIRS + 2 * count..][..2].copy_from_slice(&pair);
+            let place = PAIRS + PAIR * count;
+            put_number(&mut bytes[place..], pair.0);
+            put_number(&mut bytes[place + 2..], pair.1);
         }
     }),
     ("contradicted or not", |_, bytes| bytes[CONTRADICTED] ^= 1),
@@ -55,8 +68,8 @@ const DAMAGES: [Damage; 18] = [
     }),
     ("the byte for contradicted", |chance, bytes| bytes[CONTRADICTED] = byte(chance, bytes[CONTRADICTED])),
     ("a pair put into the table or taken out", |chance, bytes| {
-        let [x, y] = some_pair(chance, bytes);
-        bytes[place_of((x.into(), y.into())).min(HEAD - 1)] ^= 1;
+        let (byte, bit) = place_of(some_pair(chance, bytes));
+        bytes[byte.min(HEAD - 1)] ^= bit;
     }),
     ("a byte of the table", |chance, bytes| {
         let place = chance.between(TABLE, HEAD - 1);
@@ -76,7 +89,7 @@ const DAMAGES: [Damage; 18] = [
     }),
     ("cut off", |chance, bytes| {
         let length = bytes.len();
-        let to = [0, 1, 35, HEAD - 1, HEAD, length - 1, chance.below(length), length - chance.below(length - HEAD + 1)];
+        let to = [0, 1, TABLE, HEAD - 1, HEAD, length - 1, chance.below(length), length - chance.below(length - HEAD + 1)];
         bytes.truncate(*chance.of(&to));
     }),
     ("something behind it", |chance, bytes| {
@@ -84,12 +97,14 @@ const DAMAGES: [Damage; 18] = [
         bytes.extend_from_slice(chance.of(&more).as_bytes());
     }),
     ("bytes by chance", |chance, bytes| {
-        let lengths = [0, 1, 2, 34, 35, HEAD - 1, HEAD, HEAD + 1, HEAD + 9, bytes.len(), chance.below(9_000), HEAD + 8_192, HEAD + 8_193];
+        let long = HEAD + MOST_TEXT;
+        let lengths =
+            [0, 1, PAIRS, CONTRADICTED, TABLE, HEAD - 1, HEAD, HEAD + 1, HEAD + 9, bytes.len(), chance.below(long), long, long + 1];
         let length = *chance.of(&lengths);
         *bytes = chance.bytes(length);
         if chance.percent(60) {
             bytes.fill(0);
-            bytes.iter_mut().take(1).for_each(|model| *model = chance.below(4) as u8);
+            bytes.iter_mut().take(1).for_each(|model| *model = chance.below(MODELS + 2) as u8);
         }
     }),
 ];
@@ -104,8 +119,8 @@ pub fn damaged(chance: &mut Chance, session: &[u8]) -> (&'static str, Vec<u8>) {
 
 /// Another byte than this one, mostly one that a session could have somewhere.
 fn byte(chance: &mut Chance, now: u8) -> u8 {
-    let any = chance.below(256) as u8;
-    let other = *chance.of(&[now ^ 1, now.wrapping_add(1), 0, 1, 2, 64, 255, any]);
+    let (any, bit) = (chance.below(256) as u8, 1 << chance.below(8));
+    let other = *chance.of(&[now ^ 1, now.wrapping_add(1), 0, 1, 2, 64, 255, now ^ bit, any]);
     if other == now {
         !now
     } else {
@@ -116,11 +131,12 @@ fn byte(chance: &mut Chance, now: u8) -> u8 {
 /// Where one of the pairs that stand begins.
 fn standing(chance: &mut Chance, bytes: &[u8]) -> Option<usize> {
     let count = usize::from(bytes[COUNT]);
-    (count > 0).then(|| PAIRS + 2 * chance.below(count))
+    (count > 0).then(|| PAIRS + PAIR * chance.below(count))
 }
 
 /// Records of the text, by how many lines it has; seldom the one past its end.
-fn some_pair(chance: &mut Chance, bytes: &[u8]) -> [u8; 2] {
+fn some_pair(chance: &mut Chance, bytes: &[u8]) -> (usize, usize) {
     let records = bytes[HEAD..].iter().filter(|&&byte| byte == b'\n').count();
-    [(); 2].map(|()| if records == 0 || chance.percent(2) { records as u8 } else { chance.below(records) as u8 })
+    let mut number = || if records == 0 || chance.percent(2) { records } else { chance.below(records) };
+    (number(), number())
 }

@@ -9,9 +9,11 @@
 //! | `texts` | the entries that take a text |
 //! | `sessions` | opening, and the calls on a session |
 //! | `damage` | bytes that were a session |
+//! | `compare` | a whole case |
 
 pub mod call;
 pub mod case;
+pub mod compare;
 pub mod damage;
 pub mod desk;
 pub mod lent;

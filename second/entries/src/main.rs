@@ -5,7 +5,8 @@
 //! `N passed, M failed`: texts and session calls.
 
 use entries::call::ENTRIES;
-use entries::case::{compared, Counts, ANSWERS};
+use entries::case::Counts;
+use entries::compare::compared;
 use entries::desk::Proved;
 use second::plan::{ended, Plan};
 use std::collections::BTreeMap;
@@ -69,10 +70,11 @@ fn print(plan: &Plan, families: &BTreeMap<&'static str, Counts>) {
         }
     }
     let all = sum(families);
-    for (name, answers) in ENTRIES.iter().zip(&all.answers) {
-        let told = |answer: usize| if answer < ANSWERS - 1 { format!("{answer}: {}", answers[answer]) } else { "numbers".to_string() };
-        let each: Vec<String> = (0..ANSWERS).filter(|&answer| answers[answer] > 0).map(told).collect();
-        println!("{name:12} {} calls; {}", answers.iter().sum::<u64>(), each.join(", "));
+    for (entry, name) in ENTRIES.iter().enumerate() {
+        let answers = || all.answers.iter().filter(|((of, _), _)| *of == entry).map(|((_, answer), count)| (answer, count));
+        let each: Vec<String> =
+            answers().map(|(answer, count)| answer.map_or("numbers".to_string(), |a| format!("{a}: {count}"))).collect();
+        println!("{name:12} {} calls; {}", answers().map(|(_, count)| count).sum::<u64>(), each.join(", "));
     }
     println!("damaged sessions {}, of which {} were sessions all the same", all.damaged, all.still_sessions);
     let (time, compared) = (plan.elapsed().as_secs_f64(), all.passed() + all.failed() + all.not_known);

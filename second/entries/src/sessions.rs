@@ -1,15 +1,14 @@
 //! Sessions on a text: opened in memory of any length, then driven by chance calls; in between, damaged copies are handed in.
 
-use crate::call::Call;
+use crate::call::{Call, OTHER_MODELS};
 use crate::case::{Case, Step};
 use crate::damage::damaged;
 use crate::desk::Desk;
 use crate::lent::Lent;
-use crate::texts::OTHER_MODELS;
 use second::chance::Chance;
-use second::desk::{self, head_of, told, DONE, HEAD, NO_SESSION};
+use second::desk::{self, head_of, told, CONTRADICTED_AT, DONE, HEAD, NO_SESSION};
 use second::session::Talk;
-use second::trace::Trace;
+use second::trace::{Trace, MODELS, MOST_RECORDS};
 
 /// How a talk is drawn: its length, and how often each hundred calls suppose.
 struct Manner {
@@ -38,7 +37,7 @@ fn manner(chance: &mut Chance, operations: usize) -> Manner {
 /// False where something differed: what would follow is then worth nothing.
 fn talk<D: Desk>(case: &mut Case<'_, D>) -> bool {
     let room = room(case);
-    let model = if case.chance.percent(92) { case.chance.between(1, 2) as u8 } else { *case.chance.of(&OTHER_MODELS) };
+    let model = if case.chance.percent(92) { case.chance.between(1, MODELS) as u8 } else { *case.chance.of(&OTHER_MODELS) };
     let mut mine = Lent::drawn(&mut case.chance, room);
     let mut theirs = mine.clone();
     let (wanted, talk) = case.page.open(model, mine.bytes_mut());
@@ -65,7 +64,7 @@ fn room<D: Desk>(case: &mut Case<'_, D>) -> usize {
     let (chance, needed) = (&mut case.chance, HEAD + case.text.len());
     match chance.below(20) {
         0 => needed - 1,
-        1 => *chance.of(&[0, 1, 34, HEAD - 1, HEAD]),
+        1 => *chance.of(&[0, 1, CONTRADICTED_AT, HEAD - 1, HEAD]),
         2 => chance.below(needed),
         3..=5 => needed + *chance.of(&[1, 8, 13, 64]),
         6 => needed + chance.below(300),
@@ -154,9 +153,9 @@ fn drawn(chance: &mut Chance, trace: &Trace, supposes: usize) -> Call {
 /// Mostly an operation; at times a fence, past the end, or a number that would be one if its higher bits were lost.
 fn number(chance: &mut Chance, trace: &Trace, operations: &[usize]) -> usize {
     if operations.is_empty() || chance.percent(4) {
-        let low = chance.below(64);
-        let far = [low + 64, low + 256, low + (1 << 16), low + (1 << 32), usize::MAX, usize::MAX - low];
-        let near = [0, trace.count, trace.count + 1, 63, 64, 65];
+        let low = chance.below(MOST_RECORDS);
+        let far = [low + MOST_RECORDS, low + 256, low + (1 << 16), low + (1 << 32), usize::MAX, usize::MAX - low];
+        let near = [0, trace.count, trace.count + 1, MOST_RECORDS - 1, MOST_RECORDS, MOST_RECORDS + 1];
         return if chance.percent(60) { *chance.of(&near) } else { *chance.of(&far) };
     }
     if chance.percent(4) {

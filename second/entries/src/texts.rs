@@ -1,17 +1,15 @@
 //! A text: the whole answer, what is wrong with it and where, the verdict in numbers, the judge.
 
-use crate::call::Call;
+use crate::call::{Call, LAST_MODEL, OTHER_MODELS};
 use crate::case::Case;
 use crate::desk::Desk;
 use crate::lent::Lent;
-use second::bench::NOT_KNOWN;
-use second::chance::Chance;
-use second::desk::{NONE_LEFT, ORDER, VERDICT};
-use second::trace::{Model, MOST_RECORDS};
+use second::desk::{lay_verdict, number_at, NONE_LEFT, OPERATIONS_AT, ORDER, RULES_AT, VERDICT};
+use second::lists::drawn;
+use second::report::NOT_KNOWN;
+use second::trace::{Model, Trace, MODELS, MOST_RECORDS};
 use second::verdict::Verdict;
-
-/// Models that there are not, besides those that there are.
-pub const OTHER_MODELS: [u8; 5] = [0, 3, 4, 128, 255];
+use wheelotter::REPORT;
 
 pub fn compare<D: Desk>(case: &mut Case<'_, D>) {
     let readings = readings(case);
@@ -46,7 +44,7 @@ fn report<D: Desk>(case: &mut Case<'_, D>) -> bool {
         return true;
     }
     let needed = output.len();
-    let rooms = [0, 1, needed - 1, needed, needed + 1, 1115, 1116, 1116, 1200];
+    let rooms = [0, 1, needed - 1, needed, needed + 1, REPORT - 1, REPORT, REPORT, REPORT + 84];
     let room = *case.chance.of(&rooms);
     let mut mine = Lent::drawn(&mut case.chance, room);
     let mut theirs = mine.clone();
@@ -55,13 +53,14 @@ fn report<D: Desk>(case: &mut Case<'_, D>) -> bool {
     case.same(Call::Report { room }, (wanted, &mine), (got, &theirs))
 }
 
-/// Both models with room enough, another one, and memory that is too short.
+/// Every model with room enough, one that there is not, and memory that is too short.
 fn verdicts<D: Desk>(case: &mut Case<'_, D>) -> bool {
     let chance = &mut case.chance;
-    let any = *chance.of(&[0, 1, 2, 3, 255]);
-    let enough = [VERDICT, VERDICT, VERDICT + 1, 200, chance.between(VERDICT, 400)];
-    let short = [0, 1, 64, 65, VERDICT - 1, VERDICT - 1, chance.below(VERDICT)];
-    let mut asked: Vec<(u8, usize)> = [1, 2, *chance.of(&OTHER_MODELS)].map(|model| (model, *chance.of(&enough))).to_vec();
+    let any = if chance.percent(60) { chance.between(1, MODELS) as u8 } else { *chance.of(&OTHER_MODELS) };
+    let enough = [VERDICT, VERDICT, VERDICT + 1, VERDICT + 71, chance.between(VERDICT, 2 * VERDICT)];
+    let short = [0, 1, OPERATIONS_AT, RULES_AT, VERDICT - 1, VERDICT - 1, chance.below(VERDICT)];
+    let mut asked: Vec<(u8, usize)> = (1..=LAST_MODEL).map(|model| (model, *chance.of(&enough))).collect();
+    asked.push((*chance.of(&OTHER_MODELS), *chance.of(&enough)));
     asked.push((any, *chance.of(&short)));
     asked.into_iter().fold(true, |same, (model, room)| verdict(case, model, room) && same)
 }
@@ -79,14 +78,11 @@ fn verdict<D: Desk>(case: &mut Case<'_, D>, model: u8, room: usize) -> bool {
 /// Where the second reading does not know, an order has to be valid, and none left may be; the bytes have to be those of either.
 fn may_be<D: Desk>(case: &mut Case<'_, D>, model: u8, got: u8, mut mine: Lent, theirs: Lent) -> bool {
     let room = theirs.bytes().len();
-    let named = usize::from(theirs.bytes()[0]).min(MOST_RECORDS);
-    let list = theirs.bytes()[1..][..named].to_vec();
-    let wanted = if got == ORDER && case.page.judge(model, &list) { ORDER } else { NONE_LEFT };
-    mine.bytes_mut()[..VERDICT].fill(0);
-    if wanted == ORDER {
-        mine.bytes_mut()[0] = named as u8;
-        mine.bytes_mut()[1..][..named].copy_from_slice(&list);
-    }
+    let named = number_at(theirs.bytes()).min(MOST_RECORDS);
+    let list: Vec<usize> = theirs.bytes()[OPERATIONS_AT..].chunks(2).take(named).map(number_at).collect();
+    let numbers: Vec<u16> = list.iter().map(|&x| x as u16).collect();
+    let wanted = if got == ORDER && case.page.judge(model, &numbers) { ORDER } else { NONE_LEFT };
+    lay_verdict(&mut mine.bytes_mut()[..VERDICT], if wanted == ORDER { &list } else { &[] }, &[]);
     case.same(Call::Verdict { model, room }, (wanted.into(), &mine), (got.into(), &theirs))
 }
 
@@ -95,7 +91,7 @@ fn judged<D: Desk>(case: &mut Case<'_, D>) -> bool {
     let mut same = true;
     for _ in 0..3 {
         let list = list(case);
-        let model = if case.chance.percent(90) { case.chance.between(1, 2) as u8 } else { *case.chance.of(&OTHER_MODELS) };
+        let model = if case.chance.percent(90) { case.chance.between(1, MODELS) as u8 } else { *case.chance.of(&OTHER_MODELS) };
         let wanted = case.page.judge(model, &list);
         let got = case.desk.judge(case.text, model, &list);
         same &= case.same_answer(Call::Judge { model, list }, wanted.into(), got.into());
@@ -103,45 +99,12 @@ fn judged<D: Desk>(case: &mut Case<'_, D>) -> bool {
     same
 }
 
-fn list<D: Desk>(case: &mut Case<'_, D>) -> Vec<u8> {
-    let model = *case.chance.of(&[Model::Sc, Model::Tso]);
-    let found = match case.page.verdict_under(model) {
-        Some(Verdict::Order(list)) => Some(list.iter().map(|&x| x as u8).collect()),
+fn list<D: Desk>(case: &mut Case<'_, D>) -> Vec<u16> {
+    let model = *case.chance.of(Model::all());
+    let order = match case.page.verdict_under(model) {
+        Some(Verdict::Order(list)) => Some(&list[..]),
         _ => None,
     };
-    let operations = case.page.trace().map_or(vec![], |trace| trace.operations().into_iter().map(|x| x as u8).collect());
-    let chance = &mut case.chance;
-    let mut list: Vec<u8> = match found {
-        Some(list) if chance.percent(85) => list,
-        _ => operations,
-    };
-    match chance.below(10) {
-        0..=3 => {}
-        4..=7 => (0..chance.between(1, 2)).for_each(|_| damage(chance, &mut list)),
-        8 => chance.shuffle(&mut list),
-        _ => {
-            let length = *chance.of(&[0, 1, 2, 4, 63, 64, 65, 128, 300]);
-            list = chance.bytes(length).into_iter().map(|byte| if chance.percent(70) { byte % 64 } else { byte }).collect();
-        }
-    }
-    list
-}
-
-/// Two change places, which may be neighbours; one goes, comes twice, comes in, or is another number.
-fn damage(chance: &mut Chance, list: &mut Vec<u8>) {
-    let (length, any) = (list.len(), chance.draw() as u8);
-    let number = if chance.percent(70) { any % 66 } else { any };
-    if length < 2 {
-        list.push(number);
-        return;
-    }
-    let (here, there) = (chance.below(length), chance.below(length));
-    match chance.below(8) {
-        0 | 1 => list.swap(here, there),
-        2 | 3 => list.swap(here, (here + 1) % length),
-        4 => drop(list.remove(here)),
-        5 => list[here] = list[there],
-        6 => list.insert(here, number),
-        _ => list[here] = number,
-    }
+    let nothing = Trace::empty();
+    drawn(&mut case.chance, case.page.trace().unwrap_or(&nothing), order)
 }

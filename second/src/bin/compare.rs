@@ -4,11 +4,12 @@
 //! byte for byte. Each difference is printed with its text and both outputs. The very last line is `N passed, M failed`.
 //! Without `-- PROGRAM` only this package runs, to see how fast it is.
 
-use second::bench::{self, NOT_KNOWN};
+use second::bench;
 use second::families::{text, Family};
 use second::orders;
 use second::plan::{ended, missed, shown, Plan};
 use second::reader;
+use second::report::NOT_KNOWN;
 use second::trace::Model;
 use std::collections::BTreeMap;
 use std::io::{self, Read, Write};
@@ -76,9 +77,9 @@ fn halfway(text: &[u8], wanted: &str, got: Vec<u8>) -> Outcome {
     if wanted.len() != lines.len() {
         return Outcome::Failed { why: "another number of lines".to_string(), got };
     }
-    for ((wanted, line), model) in wanted.iter().zip(&lines).zip([Some(Model::Sc), Some(Model::Tso), None]) {
-        let fits = match model {
-            Some(model) if wanted.ends_with(NOT_KNOWN) => may_be(text, model, line),
+    for (place, (wanted, line)) in wanted.iter().zip(&lines).enumerate() {
+        let fits = match Model::all().get(place) {
+            Some(&model) if wanted.ends_with(NOT_KNOWN) => may_be(text, model, line),
             _ => wanted == line,
         };
         if !fits {

@@ -61,7 +61,7 @@ fn told_record(record: &Record) -> String {
 fn told_edges(file: &str, text: &[u8]) -> String {
     match read(text) {
         Err(refusal) => format!("{file}: refused {} line {}\n", refusal.number, refusal.line),
-        Ok(trace) => [Model::Sc, Model::Tso].map(|model| format!("{file} {}: {}\n", model.name(), forced(&trace, model))).concat(),
+        Ok(trace) => Model::all().iter().map(|&model| format!("{file} {}: {}\n", model.name(), forced(&trace, model))).collect(),
     }
 }
 

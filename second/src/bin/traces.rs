@@ -9,6 +9,7 @@ use second::chance::Chance;
 use second::families::{family, text, Family, FAMILIES};
 use second::reader::read;
 use second::script::{answers, drawn};
+use second::trace::MODELS;
 use second::verdict::MOST_STEPS;
 use std::fs;
 use std::io;
@@ -82,7 +83,7 @@ fn write_sessions(seed: u64, count: u64, directory: &Path) -> io::Result<()> {
         let family = family(name).expect("a family");
         let text = text(family, seed, case);
         let trace = read(&text).expect("these families are read");
-        let model = *chance.of(&[1, 1, 1, 1, 2, 2, 2, 2, 2, 0, 3]);
+        let model = if chance.percent(80) { chance.between(1, MODELS) } else { *chance.of(&[0, MODELS + 1]) } as u64;
         let words = drawn(&mut chance, &trace);
         let words: Vec<&str> = words.iter().map(String::as_str).collect();
         let answers = answers(&trace, model, &words).expect("drawn words are of the form");

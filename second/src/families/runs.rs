@@ -1,10 +1,11 @@
 //! Texts that the reader takes: runs of the simulated machines, runs with changed reads, traces by chance.
 
+use super::{LONGEST, USUAL};
 use crate::chance::Chance;
-use crate::machine::{rewritten, run, Shape, Values};
+use crate::machine::{rewritten, run, run_under, Shape, Values};
 use crate::reader;
 use crate::stated::STATED;
-use crate::trace::{text_of, Record, BEGINNING, LAST_ADDRESS, LAST_THREAD, LAST_VALUE, MOST_RECORDS};
+use crate::trace::{text_of, Model, Record, BEGINNING, LAST_ADDRESS, LAST_THREAD, LAST_VALUE, MOST_RECORDS};
 
 pub(super) fn stated(chance: &mut Chance) -> Vec<u8> {
     let text = chance.of(&STATED).text.as_bytes();
@@ -20,12 +21,20 @@ pub(super) fn records_of(text: &[u8]) -> Vec<Record> {
 }
 
 fn shape(chance: &mut Chance) -> Shape {
-    let records = match chance.below(10) {
+    let records = usual_length(chance);
+    shape_of(chance, records)
+}
+
+fn usual_length(chance: &mut Chance) -> usize {
+    match chance.below(10) {
         0..=3 => chance.between(1, 10),
         4..=6 => chance.between(9, 20),
         7..=8 => chance.between(21, 40),
-        _ => chance.between(41, MOST_RECORDS),
-    };
+        _ => chance.between(41, USUAL),
+    }
+}
+
+fn shape_of(chance: &mut Chance, records: usize) -> Shape {
     let threads = chance.between(1, if records < 8 { 4 } else { 8 });
     let addresses = if chance.percent(70) { chance.between(1, 4) } else { chance.between(1, 16) };
     let stores = *chance.of(&[20, 30, 40, 50]);
@@ -43,21 +52,51 @@ fn shape(chance: &mut Chance) -> Shape {
     }
 }
 
-fn ran(chance: &mut Chance, buffered: bool) -> Vec<Record> {
+fn ran(chance: &mut Chance, model: Model) -> Vec<Record> {
     let shape = shape(chance);
-    let records = run(chance, &shape, buffered);
+    let records = run_under(chance, &shape, model);
     rewritten(chance, records)
 }
 
 pub(super) fn sc(chance: &mut Chance) -> Vec<u8> {
-    text_of(&ran(chance, false))
+    text_of(&ran(chance, Model::Sc))
 }
 
 pub(super) fn tso(chance: &mut Chance) -> Vec<u8> {
-    text_of(&ran(chance, true))
+    text_of(&ran(chance, Model::Tso))
 }
 
-/// Few threads, few addresses, many stores that stay in their buffers: here SC and TSO often part.
+pub(super) fn pso(chance: &mut Chance) -> Vec<u8> {
+    text_of(&ran(chance, Model::Pso))
+}
+
+pub(super) fn wmo(chance: &mut Chance) -> Vec<u8> {
+    text_of(&ran(chance, Model::Wmo))
+}
+
+pub(super) fn weaker_changed(chance: &mut Chance) -> Vec<u8> {
+    let model = *chance.of(&[Model::Pso, Model::Wmo]);
+    let records = ran(chance, model);
+    text_of(&with_changed_reads(chance, records))
+}
+
+fn ran_long(chance: &mut Chance) -> Vec<Record> {
+    let records = chance.between(USUAL + 1, LONGEST);
+    let (shape, model) = (shape_of(chance, records), *chance.of(Model::all()));
+    let records = run_under(chance, &shape, model);
+    rewritten(chance, records)
+}
+
+pub(super) fn long(chance: &mut Chance) -> Vec<u8> {
+    text_of(&ran_long(chance))
+}
+
+pub(super) fn long_changed(chance: &mut Chance) -> Vec<u8> {
+    let records = ran_long(chance);
+    text_of(&with_changed_reads(chance, records))
+}
+
+/// Few threads, few addresses, many stores that stay in their buffers: here the models often part.
 pub(super) fn weak(chance: &mut Chance) -> Vec<u8> {
     let (threads, addresses) = (*chance.of(&[2, 2, 3, 4]), *chance.of(&[2, 2, 3]));
     let shape = Shape {
@@ -72,18 +111,19 @@ pub(super) fn weak(chance: &mut Chance) -> Vec<u8> {
         own: *chance.of(&[0, 15, 40]),
         home: *chance.of(&[50, 80, 100]),
     };
-    let records = run(chance, &shape, true);
+    let model = *chance.of(&[Model::Tso, Model::Tso, Model::Pso, Model::Wmo]);
+    let records = run_under(chance, &shape, model);
     let records = rewritten(chance, records);
     text_of(&if chance.percent(33) { with_changed_reads(chance, records) } else { records })
 }
 
 pub(super) fn sc_changed(chance: &mut Chance) -> Vec<u8> {
-    let records = ran(chance, false);
+    let records = ran(chance, Model::Sc);
     text_of(&with_changed_reads(chance, records))
 }
 
 pub(super) fn tso_changed(chance: &mut Chance) -> Vec<u8> {
-    let records = ran(chance, true);
+    let records = ran(chance, Model::Tso);
     text_of(&with_changed_reads(chance, records))
 }
 

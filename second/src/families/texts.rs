@@ -2,7 +2,8 @@
 
 use crate::chance::Chance;
 use crate::machine::{run, Shape};
-use crate::trace::{Record, LAST_ADDRESS, LAST_THREAD};
+use crate::reader::MOST_TEXT;
+use crate::trace::{Record, LAST_ADDRESS, LAST_THREAD, MOST_RECORDS};
 
 /// Each entry: a line that is turned back, and the nearest that is not (unless what stands above it, or how long the text is, says no).
 const LINES: [(&str, &str); 40] = [
@@ -138,7 +139,7 @@ fn line_of_numbers(chance: &mut Chance) -> String {
 }
 
 pub(super) fn ranks(chance: &mut Chance) -> Vec<u8> {
-    let above = *chance.of(&[1, 3, 63, 64, 64, 64, 64]);
+    let above = *chance.of(&[1, 3, MOST_RECORDS - 1, MOST_RECORDS, MOST_RECORDS, MOST_RECORDS, MOST_RECORDS]);
     let mut lines: Vec<String> = (0..above).map(|i| format!("{}: M[3] := {}", i % 8, 7 + i)).collect();
     let place = if chance.percent(90) { lines.len() } else { chance.between(1, lines.len()) };
     lines.insert(place, line_of_faults(chance));
@@ -201,16 +202,16 @@ fn long_line(chance: &mut Chance) -> Vec<u8> {
     text
 }
 
-/// 63 to 66 records; the ones around the edge may be bad in some other way as well.
+/// One record less than there may be, to two more; the ones around the edge may be bad in some other way as well.
 fn many_records(chance: &mut Chance) -> Vec<u8> {
-    let count = chance.between(63, 66);
+    let count = chance.between(MOST_RECORDS - 1, MOST_RECORDS + 2);
     let mut lines: Vec<String> = match chance.below(3) {
         0 => vec!["0: sync".to_string(); count],
         1 => (0..count).map(|i| format!("{}: M[{}] := {}", i % 8, i % 3, i + 1)).collect(),
         _ => good_lines(chance, count),
     };
     if chance.percent(60) {
-        let place = chance.between(62, count - 1);
+        let place = chance.between(MOST_RECORDS - 2, count - 1);
         let (bad, good) = *chance.of(&LINES);
         lines[place] = match chance.below(4) {
             0 => good.to_string(),
@@ -225,9 +226,10 @@ fn many_records(chance: &mut Chance) -> Vec<u8> {
     text
 }
 
-/// 8,191 to 8,194 bytes and far more; of good lines, of one long line, of feeds.
+/// Two bytes less than there may be, to two more, and far more; of good lines, of one long line, of feeds.
 fn long_text(chance: &mut Chance) -> Vec<u8> {
-    let length = *chance.of(&[8_190, 8_191, 8_192, 8_192, 8_193, 8_193, 8_194, 9_000, 16_384]);
+    let (last, past) = (MOST_TEXT, MOST_TEXT + 1);
+    let length = *chance.of(&[last - 2, last - 1, last, last, past, past, past + 1, last + 808, 2 * last]);
     let piece = *chance.of(&["0: sync\n", "0: M[0] == 0\n", "\n", "0", "0: M[0] := 1\n", "\0"]);
     let mut text: Vec<u8> = piece.bytes().cycle().take(length).collect();
     if chance.percent(50) {
@@ -316,7 +318,7 @@ pub(super) fn bytes(chance: &mut Chance) -> Vec<u8> {
     match chance.below(4) {
         0 => (0..chance.below(40)).map(|_| chance.below(256) as u8).collect(),
         1 => (0..chance.below(200)).map(|_| *chance.of(ODD)).collect(),
-        2 => (0..chance.between(8_180, 8_200)).map(|_| *chance.of(ODD)).collect(),
+        2 => (0..chance.between(MOST_TEXT - 12, MOST_TEXT + 8)).map(|_| *chance.of(ODD)).collect(),
         _ => (0..chance.below(30)).map(|_| *chance.of(&PIECES)).collect::<String>().into_bytes(),
     }
 }

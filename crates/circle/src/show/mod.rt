@@ -17,12 +17,12 @@ use trace::Trace;
 // The circle that is shown: the first len operations, each with the rule of the edge that leads on from it. Unused places are 0.
 pub struct Circle {
     pub len: usize,
-    pub operations: [u8; RECORDS],
+    pub operations: [u16; RECORDS],
     pub rules: [u8; RECORDS],
 }
 
 // What follows place i of a circle: the first follows the last.
-fn next_of(operations: &[u8], len: usize, i: usize) -> usize
+fn next_of(operations: &[u16], len: usize, i: usize) -> usize
     requires { ⌜ (i < len) × (len ≤ length (now operations)) ⌝ }
     ensures { λ r. ⌜ r ≡ after (take len (now (operations .entry))) i ⌝ }
 {
@@ -33,7 +33,7 @@ fn next_of(operations: &[u8], len: usize, i: usize) -> usize
 }
 
 // Lays the lowest rule of each edge of the circle into `rules`, from the chains of the round before.
-fn name_rules(t: Trace, model: u8, chains: &[u64], len: usize, operations: &[u8], rules: &mut [u8])
+fn name_rules(t: Trace, model: u8, chains: &[u64], len: usize, operations: &[u16], rules: &mut [u8])
     requires { ⌜ (len ≤ length (now operations)) × (len ≤ length (now rules)) ⌝ }
     ensures { λ r. ⌜ Named (frameOf t) (keptOf model t) (bit (now (chains .entry))) (take len (now (operations .entry))) len (now (rules .entry)) (now (rules .exit)) ⌝ }
 {
@@ -50,7 +50,7 @@ fn name_rules(t: Trace, model: u8, chains: &[u64], len: usize, operations: &[u8]
 pub fn circle_of(t: Trace, model: u8) -> Circle
     ensures { λ r. ⌜ CircleOf t model r ⌝ }
 {
-    let mut operations = [0u8; RECORDS];
+    let mut operations = [0u16; RECORDS];
     let mut rules = [0u8; RECORDS];
     let supposed = [0u64; rows::CELLS];
     let last = last_round(t, model, &supposed);

@@ -124,22 +124,22 @@ fn reach(edges: &[u64], s: usize, k: usize, rows: &mut [u64])
 }
 
 // Lays the way round into `out`: s, and then by the lowest steps that still lead back to s in time.
-fn follow(edges: &[u64], reach: &[u64], s: usize, k: usize, out: &mut [u8])
+fn follow(edges: &[u64], reach: &[u64], s: usize, k: usize, out: &mut [u16])
     requires { ⌜ Followed (Edges (now edges)) (now reach) s k (length (now out)) ⌝ }
     ensures { λ r. ⌜ Laid (Edges (now (edges .entry))) s k (now (out .entry)) (now (out .exit)) ⌝ }
 {
-    out[0] = s as u8;
+    out[0] = s as u16;
     let mut x = s;
     let mut i: usize = 1;
     while i < k {
         x = step_to(edges, reach, x, k - i);
-        out[i] = x as u8;
+        out[i] = x as u16;
         i += 1;
     }
 }
 
-// Makes every byte 0.
-fn wipe(out: &mut [u8])
+// Makes every number 0.
+fn wipe(out: &mut [u16])
     ensures { λ r. ⌜ now (out .exit) ≡ replicate (length (now (out .entry))) 0 ⌝ }
 {
     let mut i: usize = 0;
@@ -151,7 +151,7 @@ fn wipe(out: &mut [u8])
 
 // The circle that is shown of these edges, laid into `out`, and its length: 0 where there is none. Rows that are not of the full length
 // and a buffer without exactly one place for each record have none.
-pub fn shown(edges: &[u64], out: &mut [u8]) -> usize
+pub fn shown(edges: &[u64], out: &mut [u16]) -> usize
     ensures { λ r. ⌜ ShownIn (now (edges .entry)) (length (now (out .entry))) r (now (out .exit)) ⌝ }
 {
     wipe(out);

@@ -1,20 +1,20 @@
-// What the entries answer beside document 01's numbers.
+// What the entries answer beside document 01's numbers: 21 ranks behind all that is wrong with what was given, and 64 and up are no refusals.
 
 // The lent buffer is too short.
-pub const NO_ROOM: u8 = 17;
+pub const NO_ROOM: u8 = 21;
 
 // A verdict that hands back an order.
-pub const ORDER: u8 = 18;
+pub const ORDER: u8 = 64;
 
 // One that shows a circle.
-pub const CIRCLE: u8 = 19;
+pub const CIRCLE: u8 = 65;
 
 // One that leaves no order.
-pub const NONE_LEFT: u8 = 20;
+pub const NONE_LEFT: u8 = 66;
 
 // A session that was asked: the pair is held, is not, or the session is contradicted.
-pub const HELD: u8 = 21;
+pub const HELD: u8 = 67;
 
-pub const NOT_HELD: u8 = 22;
+pub const NOT_HELD: u8 = 68;
 
-pub const CONTRADICTED: u8 = 23;
+pub const CONTRADICTED: u8 = 69;

@@ -3,27 +3,31 @@ ghost use mathlib.Core.Path.{_≡_};
 ghost use mathlib.Core.Logic.{_↔_};
 ghost use mathlib.Core.Bool.{So};
 ghost use mathlib.Core.List.{_++_};
-ghost use Prim.Native.Nat.{_*_, _<_, _≤_};
+ghost use Prim.Native.Nat.{_+_, _*_, _<_, _≤_};
 ghost use lib.ListN.{length, take, drop};
 ghost use Rattle.laws.specs.Sums.{num};
 ghost use Rattle.laws.specs.Warshall.{row};
 ghost use Rattle.session.specs.Bounds.{PAIRS};
-ghost use Rattle.desk.specs.Head.{Fit, FRONT, MARKS, HEAD, pairByte, frontAt, markAt, headOf};
-ghost use Rattle.desk.specs.Kept.{stackIn};
+ghost use Rattle.rows.specs.Bounds.{CELLS};
+ghost use Rattle.desk.specs.Head.{Fit, FRONT, TABLE, HEAD, numberAt, pairByte, frontAt, byteOf, tableAt, headOf};
+ghost use Rattle.desk.specs.Kept.{twoIn, stackIn};
 use session::PAIRS;
 use session::Pair;
 use session::Session;
 use session::Stack;
 use trace::RECORDS;
 
-// How many bytes stand before the marks.
-const FRONT: usize = 2 + 2 * PAIRS + 1;
+// How many numbers a byte can be.
+const BYTE: usize = 256;
 
-// How many marks there are.
-const MARKS: usize = RECORDS * RECORDS;
+// How many bytes stand before the table.
+const FRONT: usize = 2 + 4 * PAIRS + 1;
+
+// How many bytes the table has: a bit for any two records.
+const TABLE: usize = RECORDS * RECORDS / 8;
 
 // How many bytes a head has.
-pub const HEAD: usize = FRONT + MARKS;
+pub const HEAD: usize = FRONT + TABLE;
 
 // A byte as a number.
 fn wide(x: u8) -> usize
@@ -42,17 +46,29 @@ fn mark(b: bool) -> u8
     0
 }
 
-// Byte i of a session's pairs.
-fn pair_byte(s: Session, i: usize) -> u8
-    requires { ⌜ Fit s × (i < 2 * PAIRS) ⌝ }
-    ensures { λ r. ⌜ r ≡ pairByte (s .stack) i ⌝ }
+// Number j of a session's pairs.
+fn numbered(s: Session, j: usize) -> usize
+    requires { ⌜ j < 2 * PAIRS ⌝ }
+    ensures { λ r. ⌜ r ≡ numberAt (s .stack) j ⌝ }
 {
     let k = s.stack;
-    let p = k.pairs[i / 2];
-    if i % 2 == 0 {
-        return p.first as u8;
+    let p = k.pairs[j / 2];
+    if j % 2 == 0 {
+        return p.first;
     }
-    p.second as u8
+    p.second
+}
+
+// Byte i of a session's pairs.
+fn pair_byte(s: Session, i: usize) -> u8
+    requires { ⌜ Fit s × (i < 4 * PAIRS) ⌝ }
+    ensures { λ r. ⌜ r ≡ pairByte (s .stack) i ⌝ }
+{
+    let n = numbered(s, i / 2);
+    if i % 2 == 0 {
+        return (n % BYTE) as u8;
+    }
+    (n / BYTE) as u8
 }
 
 // Byte i of a session's front.
@@ -67,7 +83,7 @@ fn front(s: Session, i: usize) -> u8
         let k = s.stack;
         return k.count as u8;
     }
-    if i < 2 + 2 * PAIRS {
+    if i < 2 + 4 * PAIRS {
         return pair_byte(s, i - 2);
     }
     mark(s.contradicted)
@@ -85,14 +101,23 @@ fn lay_front(s: Session, out: &mut [u8])
     }
 }
 
-// Lays the marks of a table down.
-fn lay_marks(held: &[u64], out: &mut [u8])
-    requires { ⌜ MARKS ≤ length (now out) ⌝ }
-    ensures { λ r. ⌜ now (out .exit) ≡ row (markAt (now (held .entry))) 0 MARKS ++ drop MARKS (now (out .entry)) ⌝ }
+// Byte j of a word, from the lowest.
+fn byte(word: u64, j: usize) -> u8
+    requires { ⌜ j < 8 ⌝ }
+    ensures { λ r. ⌜ r ≡ byteOf word j ⌝ }
+{
+    let rest = word >> (8 * j);
+    (rest % 256) as u8
+}
+
+// Lays the bytes of a table down.
+fn lay_table(held: &[u64], out: &mut [u8])
+    requires { ⌜ (CELLS ≤ length (now held)) × (TABLE ≤ length (now out)) ⌝ }
+    ensures { λ r. ⌜ now (out .exit) ≡ row (tableAt (now (held .entry))) 0 TABLE ++ drop TABLE (now (out .entry)) ⌝ }
 {
     let mut i: usize = 0;
-    while i < MARKS {
-        out[i] = mark(rows::test(held, i / RECORDS, i % RECORDS));
+    while i < TABLE {
+        out[i] = byte(held[i / 8], i % 8);
         i += 1;
     }
 }
@@ -104,7 +129,17 @@ pub(crate) fn lay(s: Session, out: &mut [u8])
 {
     lay_front(s, out);
     let held = s.held;
-    lay_marks(&held, &mut out[FRONT..]);
+    lay_table(&held, &mut out[FRONT..]);
+}
+
+// The number that two bytes make, the lower first.
+fn two(bytes: &[u8], at: usize) -> usize
+    requires { ⌜ at + 1 < length (now bytes) ⌝ }
+    ensures { λ r. ⌜ r ≡ twoIn (now (bytes .entry)) at ⌝ }
+{
+    let low = wide(bytes[at]);
+    let high = wide(bytes[at + 1]);
+    low + BYTE * high
 }
 
 // The pairs that the bytes of a session name.
@@ -119,8 +154,8 @@ pub(crate) fn stack_in(bytes: &[u8]) -> Stack
     let mut i: usize = 0;
     while i < PAIRS {
         pairs[i] = Pair {
-            first: wide(bytes[2 + 2 * i]),
-            second: wide(bytes[3 + 2 * i]),
+            first: two(bytes, 2 + 4 * i),
+            second: two(bytes, 4 + 4 * i),
         };
         i += 1;
     }

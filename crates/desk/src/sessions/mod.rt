@@ -154,24 +154,28 @@ fn opening(text: &[u8], model: u8) -> Opened
     }
 }
 
-// Opens a session with no pairs into lent bytes: 0, and its head and the text; or why not, and the head of the session of the empty text under
-// model 1. All other bytes stay.
+// Opens a session with no pairs into lent bytes: 0, and its head and the text; or why not, and where there is room the head of the session of the
+// empty text under model 1. All other bytes stay.
 #[no_mangle]
 pub extern "C" fn wheelotter_open(text: &[u8], model: u8, session: &mut [u8]) -> u8
     ensures { λ r. ⌜ (r ≡ openAnswer (now (text .entry)) model (now (session .entry))) × ((C : Closings) → now (session .exit) ≡ openBytes C (now (text .entry)) model (now (session .entry))) ⌝ }
 {
+    let o = opening(text, model);
+    let number = o.number;
+    if number != 0 {
+        if session.len() < HEAD {
+            return number;
+        }
+        lay(o.session, session);
+        return number;
+    }
     if session.len() < HEAD {
         return NO_ROOM;
     }
     if session.len() - HEAD < text.len() {
         return NO_ROOM;
     }
-    let o = opening(text, model);
-    let number = o.number;
     lay(o.session, session);
-    if number != 0 {
-        return number;
-    }
     put(text, session, HEAD);
     0
 }

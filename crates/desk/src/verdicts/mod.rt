@@ -3,11 +3,13 @@ ghost use mathlib.Core.Path.{_≡_};
 ghost use mathlib.Core.Bool.{So};
 ghost use mathlib.Core.Logic.{_↔_};
 ghost use mathlib.Core.List.{_++_};
-ghost use Prim.Native.Nat.{_≤_, _<_};
+ghost use Prim.Native.Nat.{_+_, _*_, _≤_, _<_};
 ghost use lib.ListN.{length, drop};
 ghost use Rattle.trace.specs.Bounds.{RECORDS};
 ghost use Rattle.desk.specs.Answers.{outcomeNumber};
-ghost use Rattle.desk.specs.Verdict.{VERDICT, lacking, spelled, bytesOf, Answered};
+ghost use Rattle.text.specs.Room.{putAt};
+ghost use Rattle.desk.specs.Verdict.{VERDICT, wide, Answered};
+ghost use Rattle.desk.specs.Spelled.{lacking, spelled, laidOut};
 ghost use Rattle.desk.specs.Judged.{Judged};
 use crate::answers::CIRCLE;
 use crate::answers::NO_ROOM;
@@ -15,6 +17,7 @@ use crate::answers::NONE_LEFT;
 use crate::answers::ORDER;
 use crate::texts::number_in;
 use orders::judging::judge;
+use pairs::modelled;
 use reader::read;
 use text::room::put;
 use trace::RECORDS;
@@ -22,8 +25,8 @@ use verdict::Outcome;
 use verdict::Verdict;
 use verdict::tell::verdict_of;
 
-// How many bytes a verdict has: how many operations it tells, the operations, the rules.
-const VERDICT: usize = 1 + 2 * RECORDS;
+// How many bytes a verdict has: how many operations it tells and the operations, two bytes each, and the rules.
+const VERDICT: usize = 2 + 3 * RECORDS;
 
 // The answer to a verdict, by its outcome.
 fn outcome_number(outcome: Outcome) -> u8
@@ -47,8 +50,8 @@ fn spelled(v: Verdict) -> Verdict
     let outcome = v.outcome;
     match outcome {
         Outcome::NoSource(x) => {
-            let mut operations = [0u8; RECORDS];
-            operations[0] = x as u8;
+            let mut operations = [0u16; RECORDS];
+            operations[0] = x as u16;
             Verdict {
                 outcome,
                 len: 1,
@@ -64,34 +67,53 @@ fn spelled(v: Verdict) -> Verdict
     }
 }
 
+// Numbers in two bytes each, the low byte first, from a place on where they have room.
+fn put_wide(numbers: &[u16], out: &mut [u8], at: usize)
+    requires { ⌜ at + 2 * length (now numbers) ≤ length (now out) ⌝ }
+    ensures { λ _. ⌜ now (out .exit) ≡ putAt (wide (now (numbers .entry))) (now (out .entry)) at ⌝ }
+{
+    let mut i: usize = 0;
+    while i < numbers.len() {
+        let n = numbers[i];
+        let low = (n % 256) as u8;
+        let high = (n / 256) as u8;
+        let bytes = [low, high];
+        put(&bytes, out, at + 2 * i);
+        i += 1;
+    }
+}
+
 // The bytes of a verdict at the front of a buffer that has room for them.
 fn lay(v: Verdict, out: &mut [u8])
     requires { ⌜ (v .len ≤ RECORDS) × (VERDICT ≤ length (now out)) ⌝ }
-    ensures { λ _. ⌜ now (out .exit) ≡ bytesOf v ++ drop VERDICT (now (out .entry)) ⌝ }
+    ensures { λ _. ⌜ now (out .exit) ≡ laidOut v ++ drop VERDICT (now (out .entry)) ⌝ }
 {
-    let len = v.len;
+    let len = v.len as u16;
+    let count = [len];
     let operations = v.operations;
     let rules = v.rules;
-    out[0] = len as u8;
-    put(&operations, out, 1);
-    put(&rules, out, 1 + RECORDS);
+    put_wide(&count, out, 0);
+    put_wide(&operations, out, 2);
+    put(&rules, out, 2 + 2 * RECORDS);
 }
 
-// The verdict on a text under a model: its outcome as a number, its operations and rules in a lent buffer. A text that is turned back has its
-// number, and nothing to tell; a buffer that is too short stays as it was.
+// The verdict on a text under a model: its outcome as a number, its operations and rules in a lent buffer. The buffer stays as it was where the
+// text is turned back, where there is no such model, and where the buffer is too short, told in this order.
 #[no_mangle]
 pub extern "C" fn wheelotter_verdict(text: &[u8], model: u8, out: &mut [u8]) -> u8
     ensures { λ r. ⌜ Answered (now (text .entry)) model (now (out .entry)) (now (out .exit)) r ⌝ }
 {
-    if out.len() < VERDICT {
-        return NO_ROOM;
-    }
     let reading = read(text);
     let answer = reading.answer;
     let wrong = number_in(answer);
     if 0 < wrong {
-        put(&[0; VERDICT], out, 0);
         return wrong;
+    }
+    if !modelled(model) {
+        return 9;
+    }
+    if out.len() < VERDICT {
+        return NO_ROOM;
     }
     let trace = reading.trace;
     let verdict = verdict_of(trace, model);
@@ -102,7 +124,7 @@ pub extern "C" fn wheelotter_verdict(text: &[u8], model: u8, out: &mut [u8]) -> 
 
 // Whether a list is a valid order of the trace that a text writes. A text that is turned back has none.
 #[no_mangle]
-pub extern "C" fn wheelotter_judge(text: &[u8], model: u8, list: &[u8]) -> bool
+pub extern "C" fn wheelotter_judge(text: &[u8], model: u8, list: &[u16]) -> bool
     ensures { λ r. ⌜ So r ↔ Judged (now (text .entry)) model (now (list .entry)) ⌝ }
 {
     let reading = read(text);

@@ -14,14 +14,17 @@ abbrev μ-loop : tie.MeasureT-loop
 loop-holds : tie.Need-loop-holds Inv-loop μ-loop
 loop-holds c = search needs
 
+mul-n : tie.Need-mul-n Inv-loop μ-loop
+mul-n c = search needs
+
 shared-slice-read-n : tie.Need-shared-slice-read-n Inv-loop μ-loop
 shared-slice-read-n c = search needs
 
 slice-aggregate-say-number : tie.Need-slice-aggregate-say-number Inv-loop μ-loop
 slice-aggregate-say-number c = search needs
 
-wide8-requires : tie.Need-wide8-requires Inv-loop μ-loop
-wide8-requires c κs = search needs
+wide16-requires : tie.Need-wide16-requires Inv-loop μ-loop
+wide16-requires c κs = search needs
 
 say-number-requires : tie.Need-say-number-requires Inv-loop μ-loop
 say-number-requires c κs = search needs
@@ -45,9 +48,10 @@ say-numbers-spec =
     Inv-loop
     μ-loop
     loop-holds
+    mul-n
     shared-slice-read-n
     slice-aggregate-say-number
-    wide8-requires
+    wide16-requires
     say-number-requires
     add-i
     loop-less

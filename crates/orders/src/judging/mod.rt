@@ -22,7 +22,7 @@ use trace::first;
 use trace::form::well_formed;
 
 // Where each record first stands in a list, from the end to the front, so that the first place is written last. A number past the end has none.
-fn site(list: &[u8], sites: &mut [usize])
+fn site(list: &[u16], sites: &mut [usize])
     requires { ⌜ now sites ≡ replicate RECORDS (length (now list)) ⌝ }
     ensures { λ r. ⌜ Sited (now (list .entry)) (now (sites .exit)) ⌝ }
 {
@@ -37,7 +37,7 @@ fn site(list: &[u8], sites: &mut [usize])
 }
 
 // Whether a list has operations only, and none twice.
-fn each_stands(t: Trace, list: &[u8], sites: &[usize]) -> bool
+fn each_stands(t: Trace, list: &[u16], sites: &[usize]) -> bool
     requires { ⌜ (t .len ≤ RECORDS) × Sited (now list) (now sites) ⌝ }
     ensures { λ r. ⌜ r ≡ all (length (now (list .entry))) (stands (frameOf t) (now (list .entry))) ⌝ }
 {
@@ -118,7 +118,7 @@ fn visible(t: Trace, x: usize, load: usize, before: bool) -> bool
 }
 
 // The value that a load must read.
-fn seen(t: Trace, list: &[u8], sites: &[usize], load: usize) -> u16
+fn seen(t: Trace, list: &[u16], sites: &[usize], load: usize) -> u16
     requires { ⌜ (load < RECORDS) × Sited (now list) (now sites) ⌝ }
     ensures { λ r. ⌜ r ≡ seen (frameOf t) (now (list .entry)) load ⌝ }
 {
@@ -136,7 +136,7 @@ fn seen(t: Trace, list: &[u8], sites: &[usize], load: usize) -> u16
 }
 
 // Whether each load and swap reads the value that it must read.
-fn each_read(t: Trace, list: &[u8], sites: &[usize]) -> bool
+fn each_read(t: Trace, list: &[u16], sites: &[usize]) -> bool
     requires { ⌜ (t .len ≤ RECORDS) × Sited (now list) (now sites) ⌝ }
     ensures { λ r. ⌜ r ≡ all (t .len) (λ L. frameOf t .reads L ⇒ eqb (frameOf t .read L) (seen (frameOf t) (now (list .entry)) L)) ⌝ }
 {
@@ -155,7 +155,7 @@ fn each_read(t: Trace, list: &[u8], sites: &[usize]) -> bool
 }
 
 // Whether a list is a valid order of a trace whose records all have a place.
-fn judged(t: Trace, model: u8, list: &[u8]) -> bool
+fn judged(t: Trace, model: u8, list: &[u16]) -> bool
     requires { ⌜ t .len ≤ RECORDS ⌝ }
     ensures { λ r. ⌜ r ≡ valid? (frameOf t) (keptOf model t) (now (list .entry)) ⌝ }
 {
@@ -168,7 +168,7 @@ fn judged(t: Trace, model: u8, list: &[u8]) -> bool
 
 // Whether a list is a valid order of a well formed trace under a model. Wrong length, repeats, fences and numbers past the end are a no, and so are
 // a trace that is not well formed and a model that does not exist.
-pub fn judge(t: Trace, model: u8, list: &[u8]) -> bool
+pub fn judge(t: Trace, model: u8, list: &[u16]) -> bool
     ensures { λ r. ⌜ So r ↔ Accepted t model (now (list .entry)) ⌝ }
 {
     if RECORDS < list.len() {

@@ -1,6 +1,10 @@
 -- `report::written`: what the reader answers, in lines.
-use mathlib.Core.Path.{_∙_}
+use mathlib.Core.Path.{_≡_, _∙_}
+use Prim.Native.Nat.{_+_, _≤_}
 use native.Mathlib.Omega.{arith}
+use lib.ListN.{length}
+use Rattle.verdict.proofs.Numbers.{told-numbers}
+use Rattle.report.specs.Bounds.{LINE, REPORT}
 use Rattle.report.proofs.Wrote.{wrote-then}
 use Rattle.report.proofs.Answered.{answer-good, answer-refused}
 use borrow.Author.Needs.{needs}
@@ -20,7 +24,9 @@ verdict-of-requires : tie.Need-verdict-of-requires
 verdict-of-requires c κs = search needs
 
 put-line-requires : tie.Need-put-line-requires
-put-line-requires c κs = search needs
+put-line-requires c κs =
+    let v = c .before in
+    (omega arith, omega arith, v .verdict-of .ensures .fits, told-numbers _ _ (v .verdict-of .result) (v .verdict-of .ensures))
 
 slice-aggregate-put-line-2 : tie.Need-slice-aggregate-put-line-2
 slice-aggregate-put-line-2 c = search needs
@@ -29,7 +35,15 @@ verdict-of-requires-2 : tie.Need-verdict-of-requires-2
 verdict-of-requires-2 c κs = search needs
 
 put-line-requires-2 : tie.Need-put-line-requires-2
-put-line-requires-2 c κs = search needs
+put-line-requires-2 c κs =
+    let v = c .before in
+    let x = v .before .before .before .before in
+    let s = x .before .before .before .before .before .before .before .before .before .before in
+    let long : length (x .put-line .last .1 .1 .0) ≡ length (s .args .out .now) = x .put-line .ensures .0 .long in
+    let end : x .put-line .result ≤ 0 + LINE = x .put-line .ensures .1 in
+    let all : length (s .args .out .now) ≡ REPORT = s .pre in
+    let room : x .put-line .result + LINE ≤ length (x .put-line .last .1 .1 .0) = omega (arith, long, end, all) in
+    (room, omega arith, v .verdict-of2 .ensures .fits, told-numbers _ _ (v .verdict-of2 .result) (v .verdict-of2 .ensures))
 
 enum-known-answer : tie.Need-enum-known-answer
 enum-known-answer c = search needs

@@ -4,12 +4,14 @@ ghost use Prim.Native.Nat.{_+_, _≤_};
 ghost use lib.ListN.{length};
 ghost use Rattle.trace.specs.Bounds.{RECORDS};
 ghost use Rattle.text.specs.Number.{decimal};
+ghost use Rattle.verdict.specs.Told.{Numbers};
 ghost use Rattle.report.specs.Bounds.{SAID, NAME, LINE};
 ghost use Rattle.report.specs.Words.{order, noOrder, noSource, circle, by, refused};
 ghost use Rattle.report.specs.Report.{spaced, saying, lineOf, refusalOf};
 ghost use Rattle.report.specs.Wrote.{Wrote};
 use crate::pieces::put_decimal;
 use crate::pieces::put_numbers;
+use crate::pieces::put_rules;
 use crate::pieces::put_word;
 use verdict::Outcome;
 use verdict::Verdict;
@@ -24,19 +26,19 @@ fn put_source(x: usize, out: &mut [u8], at: usize) -> usize
 }
 
 // A circle and its rules.
-fn put_circle(operations: &[u8], rules: &[u8], out: &mut [u8], at: usize) -> usize
-    requires { ⌜ (at + SAID ≤ length (now out)) × (length (now operations) ≤ RECORDS) × (length (now rules) ≤ RECORDS) ⌝ }
+fn put_circle(operations: &[u16], rules: &[u8], out: &mut [u8], at: usize) -> usize
+    requires { ⌜ (at + SAID ≤ length (now out)) × (length (now operations) ≤ RECORDS) × Numbers (now operations) × (length (now rules) ≤ RECORDS) ⌝ }
     ensures { λ r. ⌜ Wrote (now (out .entry)) at ((noOrder ++ circle) ++ spaced (now (operations .entry)) ++ by ++ spaced (now (rules .entry))) (now (out .exit)) r × (r ≤ at + SAID) ⌝ }
 {
     let named = put_word(b"no order, circle", out, at);
     let listed = put_numbers(operations, out, named);
     let end = put_word(b" by", out, listed);
-    put_numbers(rules, out, end)
+    put_rules(rules, out, end)
 }
 
 // An order.
-fn put_order(operations: &[u8], out: &mut [u8], at: usize) -> usize
-    requires { ⌜ (at + SAID ≤ length (now out)) × (length (now operations) ≤ RECORDS) ⌝ }
+fn put_order(operations: &[u16], out: &mut [u8], at: usize) -> usize
+    requires { ⌜ (at + SAID ≤ length (now out)) × (length (now operations) ≤ RECORDS) × Numbers (now operations) ⌝ }
     ensures { λ r. ⌜ Wrote (now (out .entry)) at (order ++ spaced (now (operations .entry))) (now (out .exit)) r × (r ≤ at + SAID) ⌝ }
 {
     let end = put_word(b"order", out, at);
@@ -54,7 +56,7 @@ fn put_refused(n: usize, out: &mut [u8], at: usize) -> usize
 
 // What is said of a verdict.
 fn put_said(v: Verdict, out: &mut [u8], at: usize) -> usize
-    requires { ⌜ (at + SAID ≤ length (now out)) × (v .len ≤ RECORDS) ⌝ }
+    requires { ⌜ (at + SAID ≤ length (now out)) × (v .len ≤ RECORDS) × Numbers (v .operations) ⌝ }
     ensures { λ r. ⌜ Wrote (now (out .entry)) at (saying v) (now (out .exit)) r × (r ≤ at + SAID) ⌝ }
 {
     let len = v.len;
@@ -73,7 +75,7 @@ fn put_said(v: Verdict, out: &mut [u8], at: usize) -> usize
 
 // The line of a verdict, under the model's name.
 pub(crate) fn put_line(name: &[u8], v: Verdict, out: &mut [u8], at: usize) -> usize
-    requires { ⌜ (at + LINE ≤ length (now out)) × (length (now name) ≤ NAME) × (v .len ≤ RECORDS) ⌝ }
+    requires { ⌜ (at + LINE ≤ length (now out)) × (length (now name) ≤ NAME) × (v .len ≤ RECORDS) × Numbers (v .operations) ⌝ }
     ensures { λ r. ⌜ Wrote (now (out .entry)) at (lineOf (now (name .entry)) v) (now (out .exit)) r × (r ≤ at + LINE) ⌝ }
 {
     let named = put_word(name, out, at);

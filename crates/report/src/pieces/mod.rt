@@ -4,7 +4,8 @@ ghost use mathlib.Core.List.{[], _∷_};
 ghost use Prim.Native.Nat.{_+_, _*_, _≤_, _<_};
 ghost use lib.ListN.{length};
 ghost use Rattle.text.specs.Number.{decimal};
-ghost use Rattle.report.specs.Bounds.{NUMBER};
+ghost use Rattle.verdict.specs.Told.{Numbers};
+ghost use Rattle.report.specs.Bounds.{DIGITS, NUMBER};
 ghost use Rattle.report.specs.Words.{SPACE};
 ghost use Rattle.report.specs.Report.{spaced};
 ghost use Rattle.report.specs.Wrote.{Wrote};
@@ -45,25 +46,40 @@ pub(crate) fn put_decimal(n: usize, out: &mut [u8], at: usize) -> usize
     put_digit(n % 10, out, end)
 }
 
-// A number of a record or a rule, after a space.
-fn put_one(n: u8, out: &mut [u8], at: usize) -> usize
-    requires { ⌜ at + NUMBER ≤ length (now out) ⌝ }
+// The number of a record or a rule, after a space.
+fn put_one(n: usize, out: &mut [u8], at: usize) -> usize
+    requires { ⌜ (length (decimal n) ≤ DIGITS) × (at + NUMBER ≤ length (now out)) ⌝ }
     ensures { λ r. ⌜ Wrote (now (out .entry)) at (SPACE ∷ decimal n) (now (out .exit)) r × (r ≤ at + NUMBER) ⌝ }
 {
     out[at] = b' ';
-    put_decimal(wide(n), out, at + 1)
+    put_decimal(n, out, at + 1)
 }
 
-// Numbers, each after a space.
-pub(crate) fn put_numbers(list: &[u8], out: &mut [u8], at: usize) -> usize
-    requires { ⌜ at + NUMBER * length (now list) ≤ length (now out) ⌝ }
+// Records, each after a space.
+pub(crate) fn put_numbers(list: &[u16], out: &mut [u8], at: usize) -> usize
+    requires { ⌜ (at + NUMBER * length (now list) ≤ length (now out)) × Numbers (now list) ⌝ }
     ensures { λ r. ⌜ Wrote (now (out .entry)) at (spaced (now (list .entry))) (now (out .exit)) r × (r ≤ at + NUMBER * length (now (list .entry))) ⌝ }
 {
     let mut end = at;
     let mut i: usize = 0;
     while i < list.len() {
-        let n = list[i];
+        let n = list[i] as usize;
         end = put_one(n, out, end);
+        i += 1;
+    }
+    end
+}
+
+// Rules, each after a space.
+pub(crate) fn put_rules(rules: &[u8], out: &mut [u8], at: usize) -> usize
+    requires { ⌜ at + NUMBER * length (now rules) ≤ length (now out) ⌝ }
+    ensures { λ r. ⌜ Wrote (now (out .entry)) at (spaced (now (rules .entry))) (now (out .exit)) r × (r ≤ at + NUMBER * length (now (rules .entry))) ⌝ }
+{
+    let mut end = at;
+    let mut i: usize = 0;
+    while i < rules.len() {
+        let rule = rules[i] as usize;
+        end = put_one(rule, out, end);
         i += 1;
     }
     end

@@ -33,7 +33,7 @@ fn nothing() -> Order
     Order {
         found: false,
         len: 0,
-        operations: [0u8; RECORDS],
+        operations: [0u16; RECORDS],
     }
 }
 
@@ -49,7 +49,7 @@ fn sourced(t: Trace) -> bool
 }
 
 // Lays the tables and searches from nothing placed, guided by what is held; the first places of the list take the order.
-fn look(t: Trace, held: &[u64], operations: &[u64], total: usize, list: &mut [u8]) -> bool
+fn look(t: Trace, held: &[u64], operations: &[u64], total: usize, list: &mut [u16]) -> bool
     requires { ⌜ So (wellFormed t) × Counted (frameOf t) (now operations) total × (total ≤ length (now list)) ⌝ }
     ensures { λ r. ⌜ Looked (frameOf t) (now (held .entry)) total (now (list .entry)) (now (list .exit)) r ⌝ }
 {
@@ -97,7 +97,7 @@ pub fn first_order(t: Trace, model: u8) -> Order
     let held = forced.held;
     let mut operations = [0u64; rows::WORDS];
     let total = lay_operations(t, &mut operations);
-    let mut list = [0u8; RECORDS];
+    let mut list = [0u16; RECORDS];
     if look(t, &held, &operations, total, &mut list) {
         return Order {
             found: true,

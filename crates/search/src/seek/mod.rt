@@ -201,7 +201,7 @@ pub(crate) fn find(
     writers: &[u64],
     leaders: &[u64],
     sources: &[usize],
-    list: &mut [u8],
+    list: &mut [u16],
     k: usize,
     placed: &[u64],
     dead: &mut [u64],
@@ -220,7 +220,7 @@ pub(crate) fn find(
     let mut cost: usize = 1;
     while y < n {
         if ready(n, operations, before, writers, sources, placed, y) {
-            list[k] = y as u8;
+            list[k] = y as u16;
             let mut next = [0u64; rows::WORDS];
             join(placed, y, &mut next);
             let below = find(

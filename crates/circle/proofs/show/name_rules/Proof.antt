@@ -27,6 +27,9 @@ loop-holds c =
     let a = c .before .before .before .args in
     (omega arith, named-none (frameOf (a .t)) (keptOf (a .model) (a .t)) (bit (a .chains .now)) (take (a .len) (a .operations .now)) (a .rules .now))
 
+mul-x : tie.Need-mul-x Inv-loop μ-loop
+mul-x c = omega arith
+
 shared-slice-read-x : tie.Need-shared-slice-read-x Inv-loop μ-loop
 shared-slice-read-x c = omega arith
 
@@ -77,6 +80,7 @@ name-rules-spec =
     Inv-loop
     μ-loop
     loop-holds
+    mul-x
     shared-slice-read-x
     cast-x
     next-of-requires

@@ -13,6 +13,9 @@ add-if1 c = search needs
 add-result : tie.Need-add-result
 add-result c = search needs
 
+mul-result : tie.Need-mul-result
+mul-result c = search needs
+
 shared-slice-read-result : tie.Need-shared-slice-read-result
 shared-slice-read-result c = search needs
 
@@ -37,6 +40,7 @@ next-of-spec =
     (tie.spec
     add-if1
     add-result
+    mul-result
     shared-slice-read-result
     cast-result
     returns

@@ -58,6 +58,11 @@ step-low c =
 cast-out-2 : tie.Need-cast-out-2 Inv-loop μ-loop
 cast-out-2 c = omega (arith, step-low c .0)
 
+mul-out : tie.Need-mul-out Inv-loop μ-loop
+mul-out c = let l = c .before .before in
+    let s = l .before .before .before .before in
+    omega (arith, l .loop .inv .3, length-set (s .args .out .now) 0 (s .args .s), s .pre .fits)
+
 slice-write-out-2 : tie.Need-slice-write-out-2 Inv-loop μ-loop
 slice-write-out-2 c =
     let l = c .before .before in
@@ -113,6 +118,7 @@ follow-spec =
     sub-step-to
     step-to-requires
     cast-out-2
+    mul-out
     slice-write-out-2
     add-i
     loop-less

@@ -1,4 +1,4 @@
--- `trail::wipe`: the bytes below i are 0, the others as they were.
+-- `trail::wipe`: the numbers below i are 0, the others as they were.
 use mathlib.Core.Path.{_≡_, ap, _∙_}
 use mathlib.Core.List.{List, _++_}
 use Prim.Native.Nat.{ℕ, _≤_, _-_}
@@ -17,6 +17,9 @@ abbrev μ-loop : tie.MeasureT-loop
 
 loop-holds : tie.Need-loop-holds Inv-loop μ-loop
 loop-holds c = (omega arith, omega arith, fill-none (c .args .out .now) 0)
+
+mul-out : tie.Need-mul-out Inv-loop μ-loop
+mul-out c = omega arith
 
 slice-write-out : tie.Need-slice-write-out Inv-loop μ-loop
 slice-write-out c = omega arith
@@ -46,6 +49,7 @@ wipe-spec =
     Inv-loop
     μ-loop
     loop-holds
+    mul-out
     slice-write-out
     add-i
     loop-less

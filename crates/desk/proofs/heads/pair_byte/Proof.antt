@@ -1,30 +1,31 @@
--- `desk::heads::pair_byte`: the first record of a pair at an even place, the second at an odd one. Both are records of the trace, so each is a byte.
-use mathlib.Core.Path.{sym}
-use Prim.Native.Nat.{_/_}
+-- `desk::heads::pair_byte`: the lower byte of a number at an even place, the upper at an odd one. A record's number fits two bytes.
+use mathlib.Core.Path.{sym, ap, _∙_}
+use Prim.Native.Nat.{ℕ, _/_, _%_}
 use native.Mathlib.Omega.{arith}
 use borrow.Author.Needs.{needs}
-use Rattle.desk.proofs.Laying.{pair-below, pair-first, pair-second}
+use Rattle.desk.specs.Head.{BYTE}
+use Rattle.desk.proofs.Laying.{byte-lower, byte-upper, number-below}
 use Rattle.desk.proofs.heads.pair_byte.Statement.{statement}
 use Rattle.desk.proofs.heads.pair_byte.Tie as tie
 
-mul-p : tie.Need-mul-p
-mul-p c = search needs
-
-element-copy-out-p : tie.Need-element-copy-out-p
-element-copy-out-p c = search needs
+numbered-requires : tie.Need-numbered-requires
+numbered-requires c κs = search needs
 
 cast-result : tie.Need-cast-result
-cast-result c = let a = c .before .before .before .before in omega (arith, pair-below (a .args .s) (a .pre .0) (a .args .i / 2) (omega arith) .0)
+cast-result c = omega arith
 
 returns : tie.Need-returns
-returns c = sym (pair-first _ _ (c .before .if1 .taken))
+returns c = ap (λ (x : ℕ). x % BYTE) (c .before .numbered .ensures) ∙ sym (byte-lower _ _ (c .if1 .taken))
 
 cast-result-2 : tie.Need-cast-result-2
-cast-result-2 c = let a = c .before .before .before .before in omega (arith, pair-below (a .args .s) (a .pre .0) (a .args .i / 2) (omega arith) .1)
+cast-result-2 c =
+    let n = c .before in
+    let a = n .before in
+    omega (arith, n .numbered .ensures, number-below (a .args .s) (a .pre .0) (a .args .i / 2) (omega arith))
 
 returns-2 : tie.Need-returns-2
-returns-2 c = sym (pair-second _ _ (c .before .if1 .left))
+returns-2 c = ap (λ (x : ℕ). x / BYTE) (c .before .numbered .ensures) ∙ sym (byte-upper _ _ (c .if1 .left))
 
 pub pair-byte-spec : {M : Type 1} → statement M
 pair-byte-spec =
-    tie.close (tie.spec mul-p element-copy-out-p cast-result returns cast-result-2 returns-2)
+    tie.close (tie.spec numbered-requires cast-result returns cast-result-2 returns-2)

@@ -24,29 +24,23 @@ loop-holds : tie.Need-loop-holds Inv-loop μ-loop
 unfolding row
 loop-holds c = (omega arith, refl)
 
-mul-wide : tie.Need-mul-wide Inv-loop μ-loop
-mul-wide c = search needs
+mul-two : tie.Need-mul-two Inv-loop μ-loop
+mul-two c = search needs
 
-add-wide : tie.Need-add-wide Inv-loop μ-loop
-add-wide c = search needs
+add-two : tie.Need-add-two Inv-loop μ-loop
+add-two c = search needs
 
-shared-slice-read-wide : tie.Need-shared-slice-read-wide Inv-loop μ-loop
-shared-slice-read-wide c = search needs
+two-requires : tie.Need-two-requires Inv-loop μ-loop
+two-requires c κs = search needs
 
-wide-requires : tie.Need-wide-requires Inv-loop μ-loop
-wide-requires c κs = search needs
+mul-two-2 : tie.Need-mul-two-2 Inv-loop μ-loop
+mul-two-2 c = search needs
 
-mul-wide-2 : tie.Need-mul-wide-2 Inv-loop μ-loop
-mul-wide-2 c = search needs
+add-two-2 : tie.Need-add-two-2 Inv-loop μ-loop
+add-two-2 c = search needs
 
-add-wide-2 : tie.Need-add-wide-2 Inv-loop μ-loop
-add-wide-2 c = search needs
-
-shared-slice-read-wide-2 : tie.Need-shared-slice-read-wide-2 Inv-loop μ-loop
-shared-slice-read-wide-2 c = search needs
-
-wide-requires-2 : tie.Need-wide-requires-2 Inv-loop μ-loop
-wide-requires-2 c κs = search needs
+two-requires-2 : tie.Need-two-requires-2 Inv-loop μ-loop
+two-requires-2 c κs = search needs
 
 mul-pairs : tie.Need-mul-pairs Inv-loop μ-loop
 mul-pairs c = search needs
@@ -63,18 +57,18 @@ loop-less c = search needs
 loop-again : tie.Need-loop-again Inv-loop μ-loop
 unfolding pairIn
 loop-again c =
-    let l = c .before .before .before .before .before in
+    let l = c .before .before .before in
     let b = l .before .before .args .bytes .now in (
       omega arith,
-      ap₂ (λ (ps : List Pair) (p : Pair). set ps (l .loop .i) p) (l .loop .inv .1) (ap₂ (λ (x y : ℕ). record { first = x; second = y }) (c .before .before .wide .ensures) (c .wide2 .ensures))
+      ap₂ (λ (ps : List Pair) (p : Pair). set ps (l .loop .i) p) (l .loop .inv .1) (ap₂ (λ (x y : ℕ). record { first = x; second = y }) (c .before .two .ensures) (c .two2 .ensures))
           ∙ row-more (pairIn b) (replicate PAIRS unused) (l .loop .i) (omega arith),
     )
 
-shared-slice-read-wide-3 : tie.Need-shared-slice-read-wide-3 Inv-loop μ-loop
-shared-slice-read-wide-3 c = search needs
+shared-slice-read-wide : tie.Need-shared-slice-read-wide Inv-loop μ-loop
+shared-slice-read-wide c = search needs
 
-wide-requires-3 : tie.Need-wide-requires-3 Inv-loop μ-loop
-wide-requires-3 c κs = search needs
+wide-requires : tie.Need-wide-requires Inv-loop μ-loop
+wide-requires c κs = search needs
 
 returns : tie.Need-returns Inv-loop μ-loop
 unfolding stackIn
@@ -82,7 +76,7 @@ returns c =
     let l = c .before .before .before in
     let b = l .before .before .args .bytes .now in
     let e : l .loop .i ≡ PAIRS = omega arith in
-    ap₂ (λ (ps : List Pair) (n : ℕ). record { pairs = ps; count = n }) ((rw e at (l .loop .inv .1)) ∙ append-nil (row (pairIn b) 0 PAIRS)) (c .wide3 .ensures)
+    ap₂ (λ (ps : List Pair) (n : ℕ). record { pairs = ps; count = n }) ((rw e at (l .loop .inv .1)) ∙ append-nil (row (pairIn b) 0 PAIRS)) (c .wide .ensures)
 
 pub stack-in-spec : {M : Type 1} → statement M
 stack-in-spec =
@@ -91,19 +85,17 @@ stack-in-spec =
     Inv-loop
     μ-loop
     loop-holds
-    mul-wide
-    add-wide
-    shared-slice-read-wide
-    wide-requires
-    mul-wide-2
-    add-wide-2
-    shared-slice-read-wide-2
-    wide-requires-2
+    mul-two
+    add-two
+    two-requires
+    mul-two-2
+    add-two-2
+    two-requires-2
     mul-pairs
     array-set-from-pairs
     add-i
     loop-less
     loop-again
-    shared-slice-read-wide-3
-    wide-requires-3
+    shared-slice-read-wide
+    wide-requires
     returns)

@@ -1,7 +1,8 @@
--- `desk::verdicts::wheelotter_verdict`: too short a buffer, then a text that is turned back, then the verdict.
+-- `desk::verdicts::wheelotter_verdict`: a text that is turned back, then no such model, then too short a buffer, then the verdict.
 use mathlib.Core.Path.{_≡_, sym, ap, _∙_, subst}
 use Prim.Native.Nat.{_≤_}
 use native.Mathlib.Omega.{arith}
+use borrow.Author.Tests.{not-true, not-false}
 use Rattle.trace.specs.Bounds.{RECORDS}
 use Rattle.reader.specs.Read.{readText}
 use Rattle.reader.specs.declared.Reading.{Reading}
@@ -9,13 +10,10 @@ use Rattle.reader.proofs.RoundTrip.{read-well}
 use Rattle.verdict.specs.Told.{Told}
 use Rattle.verdict.specs.declared.Verdict.{Verdict}
 use Rattle.desk.specs.Text.{numberIn, numberOf}
-use Rattle.desk.proofs.Spelling.{spelled-fits, source-below, told-short, told-refused, told-good}
+use Rattle.desk.proofs.Spelling.{spelled-fits, source-below, told-refused, told-model, told-short, told-good}
 use borrow.Author.Needs.{needs}
 use Rattle.desk.proofs.verdicts.wheelotter_verdict.Statement.{statement}
 use Rattle.desk.proofs.verdicts.wheelotter_verdict.Tie as tie
-
-returns : tie.Need-returns
-returns c = let a = c .before .before .before .args in told-short (a .text .now) (a .model) (a .out .now) (c .if1 .taken)
 
 read-requires : tie.Need-read-requires
 read-requires c κs = search needs
@@ -23,39 +21,46 @@ read-requires c κs = search needs
 number-in-requires : tie.Need-number-in-requires
 number-in-requires c κs = search needs
 
-slice-aggregate-put : tie.Need-slice-aggregate-put
-slice-aggregate-put c = search needs
-
-put-requires : tie.Need-put-requires
-put-requires c κs = search needs
-
-same-length : tie.Need-same-length
-same-length c = search needs
-
 -- the number in what the reader answers
-numbered : (c : tie.After-number-in) → c .number-in .result ≡ numberOf (c .before .before .before .before .before .args .text .now)
+numbered : (c : tie.After-number-in) → c .number-in .result ≡ numberOf (c .before .before .before .before .args .text .now)
 numbered c = c .number-in .ensures ∙ ap (λ (r : Reading). numberIn (r .answer)) (c .before .read .ensures)
+
+returns : tie.Need-returns
+returns c =
+    let n = c .before in
+    let a = n .before .before .before .before .args in
+    rw (numbered n) (told-refused (a .text .now) (a .model) (a .out .now) (omega (arith, numbered n, c .if1 .taken)))
+
+modelled-requires : tie.Need-modelled-requires
+modelled-requires c κs = search needs
 
 returns-2 : tie.Need-returns-2
 returns-2 c =
-    let p = c .before .before in
-    let n = p .before .before .before .before in
-    let a = n .before .before .before .before .before .args in
-    rw (numbered n, p .put .ensures .1) (told-refused (a .text .now) (a .model) (a .out .now) (omega (arith, n .before .before .if1 .left)) (omega (arith, numbered n, p .before .before .before .if2 .taken)))
+    let k = c .before in
+    let n = k .before .before in
+    let a = n .before .before .before .before .args in
+    told-model (a .text .now) (a .model) (a .out .now) (omega (arith, numbered n, k .before .if1 .left)) (sym (k .modelled .ensures) ∙ not-true _ (c .if2 .taken))
+
+returns-3 : tie.Need-returns-3
+returns-3 c =
+    let i = c .before in
+    let n = i .before .before .before in
+    let a = n .before .before .before .before .args in
+    told-short (a .text .now) (a .model) (a .out .now) (omega (arith, numbered n, i .before .before .if1 .left)) (sym (i .before .modelled .ensures) ∙ not-false _ (i .if2 .left)) (c .if3 .taken)
 
 verdict-of-requires : tie.Need-verdict-of-requires
 verdict-of-requires c κs = search needs
 
 -- the verdict on the trace that the text writes
-told : (c : tie.After-verdict-of) → let a = c .before .before .before .before .before .before .before .before .args in Told (readText (a .text .now) .trace) (a .model) (c .verdict-of .result)
+told : (c : tie.After-verdict-of) → let a = c .before .before .before .before .before .before .before .before .before .before .args in Told (readText (a .text .now) .trace) (a .model) (c .verdict-of .result)
 told c =
-    let r = c .before .before .before .before in
-    let a = r .before .before .before .before .args in
+    let r = c .before .before .before .before .before .before .before in
+    let a = r .before .before .before .args in
     subst (λ (r : Reading). Told (r .trace) (a .model) (c .verdict-of .result)) (r .read .ensures) (c .verdict-of .ensures)
 
 spelled-requires : tie.Need-spelled-requires
 spelled-requires c κs =
-    let a = c .before .before .before .before .before .before .before .before .args in
+    let a = c .before .before .before .before .before .before .before .before .before .before .args in
     source-below (a .model) (readText (a .text .now) .trace) (read-well (a .text .now)) (c .verdict-of .result) (told c)
 
 lay-requires : tie.Need-lay-requires
@@ -63,39 +68,40 @@ lay-requires c κs =
     let s = c .before in
     let v = s .before in (
       subst (λ (v : Verdict). v .len ≤ RECORDS) (sym (s .spelled .ensures)) (spelled-fits (v .verdict-of .result) (v .verdict-of .ensures .fits)),
-      omega (arith, v .before .before .before .before .before .if1 .left),
+      omega (arith, v .before .before .if3 .left),
     )
 
 outcome-number-requires : tie.Need-outcome-number-requires
 outcome-number-requires c κs = search needs
 
-same-length-2 : tie.Need-same-length-2
-same-length-2 c = search needs
+same-length : tie.Need-same-length
+same-length c = search needs
 
-returns-3 : tie.Need-returns-3
-returns-3 c =
+returns-4 : tie.Need-returns-4
+returns-4 c =
     let l = c .before .before .before in
     let s = l .before .before in
     let v = s .before in
-    let n = v .before .before .before in
-    let a = n .before .before .before .before .before .args in
+    let j = v .before .before in
+    let i = j .before in
+    let n = i .before .before .before in
+    let a = n .before .before .before .before .args in
     rw (c .outcome-number .ensures, l .lay .ensures, s .spelled .ensures)
-    (told-good (a .text .now) (a .model) (a .out .now) (omega (arith, n .before .before .if1 .left)) (omega (arith, numbered n, v .before .before .if2 .left)) (v .verdict-of .result) (told v))
+    (told-good (a .text .now) (a .model) (a .out .now) (omega (arith, numbered n, i .before .before .if1 .left)) (sym (i .before .modelled .ensures) ∙ not-false _ (i .if2 .left)) (omega (arith, j .if3 .left)) (v .verdict-of .result) (told v))
 
 pub wheelotter-verdict-spec : {M : Type 1} → statement M
 wheelotter-verdict-spec =
     tie.close
     (tie.spec
-    returns
     read-requires
     number-in-requires
-    slice-aggregate-put
-    put-requires
-    same-length
+    returns
+    modelled-requires
     returns-2
+    returns-3
     verdict-of-requires
     spelled-requires
     lay-requires
     outcome-number-requires
-    same-length-2
-    returns-3)
+    same-length
+    returns-4)

@@ -23,6 +23,9 @@ loop-holds : tie.Need-loop-holds Inv-loop μ-loop
 unfolding all
 loop-holds c = search needs
 
+mul-x : tie.Need-mul-x Inv-loop μ-loop
+mul-x c = omega arith
+
 shared-slice-read-x : tie.Need-shared-slice-read-x Inv-loop μ-loop
 shared-slice-read-x c = omega arith
 
@@ -73,6 +76,7 @@ each-stands-spec =
     Inv-loop
     μ-loop
     loop-holds
+    mul-x
     shared-slice-read-x
     cast-x
     returns

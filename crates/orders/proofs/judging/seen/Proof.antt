@@ -39,6 +39,9 @@ loop-holds : tie.Need-loop-holds Inv-loop μ-loop
 unfolding lastOf frameOf
 loop-holds c = (omega arith, cc)
 
+mul-x : tie.Need-mul-x Inv-loop μ-loop
+mul-x c = search needs
+
 shared-slice-read-x : tie.Need-shared-slice-read-x Inv-loop μ-loop
 shared-slice-read-x c = search needs
 
@@ -89,6 +92,7 @@ seen-spec =
     address-requires
     first-requires
     loop-holds
+    mul-x
     shared-slice-read-x
     cast-x
     visible-requires

@@ -21,6 +21,9 @@ loop-holds c = rw (c .pre) (sited-none _)
 sub-i : tie.Need-sub-i Inv-loop μ-loop
 sub-i c = omega arith
 
+mul-x : tie.Need-mul-x Inv-loop μ-loop
+mul-x c = omega arith
+
 shared-slice-read-x : tie.Need-shared-slice-read-x Inv-loop μ-loop
 shared-slice-read-x c = let b = c .before .before .loop .inv .fits in omega arith
 
@@ -63,6 +66,7 @@ site-spec =
     μ-loop
     loop-holds
     sub-i
+    mul-x
     shared-slice-read-x
     cast-x
     mul-sites

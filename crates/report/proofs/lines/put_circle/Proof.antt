@@ -20,8 +20,8 @@ slice-aggregate-put-word-2 c = search needs
 put-word-requires-2 : tie.Need-put-word-requires-2
 put-word-requires-2 c κs = search needs
 
-put-numbers-requires-2 : tie.Need-put-numbers-requires-2
-put-numbers-requires-2 c κs = search needs
+put-rules-requires : tie.Need-put-rules-requires
+put-rules-requires c κs = search needs
 
 same-length : tie.Need-same-length
 same-length c = search needs
@@ -34,8 +34,8 @@ returns c = let r = c .before .before in
     let s = w .before .before .before .before .before .before in
     let b = s .args .out .now in
     let at = s .args .at in (
-      wrote-then b at _ _ _ _ _ _ (wrote-then b at _ _ _ _ _ _ (wrote-then b at _ _ _ _ _ _ (w .put-word .ensures) (o .put-numbers .ensures .0)) (y .put-word2 .ensures)) (r .put-numbers2 .ensures .0),
-      omega (arith, w .put-word .ensures .ends, o .put-numbers .ensures .1, y .put-word2 .ensures .ends, r .put-numbers2 .ensures .1),
+      wrote-then b at _ _ _ _ _ _ (wrote-then b at _ _ _ _ _ _ (wrote-then b at _ _ _ _ _ _ (w .put-word .ensures) (o .put-numbers .ensures .0)) (y .put-word2 .ensures)) (r .put-rules .ensures .0),
+      omega (arith, w .put-word .ensures .ends, o .put-numbers .ensures .1, y .put-word2 .ensures .ends, r .put-rules .ensures .1),
     )
 
 pub put-circle-spec : {M : Type 1} → statement M
@@ -47,6 +47,6 @@ put-circle-spec =
     put-numbers-requires
     slice-aggregate-put-word-2
     put-word-requires-2
-    put-numbers-requires-2
+    put-rules-requires
     same-length
     returns)

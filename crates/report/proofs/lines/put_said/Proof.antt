@@ -6,6 +6,7 @@ use lib.Seq.{length-take-le}
 use Rattle.trace.specs.Bounds.{RECORDS}
 use Rattle.verdict.specs.declared.Outcome.{Outcome}
 use Rattle.verdict.specs.declared.Verdict.{Verdict}
+use Rattle.verdict.proofs.Numbers.{numbers-take}
 use Rattle.report.specs.Report.{sayingAs, saying}
 use Rattle.report.proofs.Wrote.{wrote-as}
 use borrow.Author.Needs.{needs}
@@ -51,7 +52,7 @@ slice-aggregate-put-circle-2 : tie.Need-slice-aggregate-put-circle-2
 slice-aggregate-put-circle-2 c = sym (used-rules (c .before .before .before .before .before .before .before))
 
 put-circle-requires : tie.Need-put-circle-requires
-put-circle-requires c κs = let s = c .before .before .before .before .before .before .before .before in (s .pre .0, omega (arith, used-operations s, s .pre .1), omega (arith, used-rules s, s .pre .1))
+put-circle-requires c κs = let s = c .before .before .before .before .before .before .before .before in (s .pre .0, omega (arith, used-operations s, s .pre .1), numbers-take (s .args .v .len) (s .args .v .operations) (s .pre .2), omega (arith, used-rules s, s .pre .1))
 
 enum-told-2 : tie.Need-enum-told-2
 enum-told-2 c = search needs
@@ -63,7 +64,7 @@ slice-aggregate-put-order : tie.Need-slice-aggregate-put-order
 slice-aggregate-put-order c = sym (used-operations (c .before .before .before .before .before .before))
 
 put-order-requires : tie.Need-put-order-requires
-put-order-requires c κs = let s = c .before .before .before .before .before .before .before in (s .pre .0, omega (arith, used-operations s, s .pre .1))
+put-order-requires c κs = let s = c .before .before .before .before .before .before .before in (s .pre .0, omega (arith, used-operations s, s .pre .1), numbers-take (s .args .v .len) (s .args .v .operations) (s .pre .2))
 
 enum-told-3 : tie.Need-enum-told-3
 enum-told-3 c = search needs

@@ -9,7 +9,7 @@ use Rattle.report.specs.Bounds.{NUMBER}
 use Rattle.report.specs.Report.{spaced}
 use Rattle.report.specs.Wrote.{Wrote}
 use Rattle.report.proofs.Wrote.{wrote-then, wrote-none}
-use Rattle.report.proofs.Digits.{spaced-more}
+use Rattle.report.proofs.Digits.{decimal-record, spaced-more}
 use Rattle.report.proofs.pieces.put_numbers.Statement.{statement}
 use Rattle.report.proofs.pieces.put_numbers.Tie as tie
 
@@ -23,12 +23,19 @@ loop-holds : tie.Need-loop-holds Inv-loop μ-loop
 unfolding spaced
 loop-holds c = (omega arith, omega arith, wrote-none _ _)
 
+mul-n : tie.Need-mul-n Inv-loop μ-loop
+mul-n c = search needs
+
 shared-slice-read-n : tie.Need-shared-slice-read-n Inv-loop μ-loop
 shared-slice-read-n c = search needs
 
+cast-n : tie.Need-cast-n Inv-loop μ-loop
+cast-n c = omega (arith, c .shared-slice-known2 .given (c .before .before .loop .i))
+
 put-one-requires : tie.Need-put-one-requires Inv-loop μ-loop
 put-one-requires c κs = let l = c .before .before .before .loop in
-    omega (arith, l .inv .2 .long)
+    let s = c .before .before .before .before .before .before in
+    (decimal-record _ (s .pre .1 (l .i)), omega (arith, l .inv .2 .long, s .pre .0))
 
 add-i : tie.Need-add-i Inv-loop μ-loop
 add-i c = search needs
@@ -63,7 +70,9 @@ put-numbers-spec =
     Inv-loop
     μ-loop
     loop-holds
+    mul-n
     shared-slice-read-n
+    cast-n
     put-one-requires
     add-i
     loop-less

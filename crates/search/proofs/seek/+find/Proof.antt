@@ -92,6 +92,10 @@ find-ready-requires t c κs = c .before .before .before .before .before .before 
 find-cast-list : (t : ℕ) → find-lts.Need-cast-list (calls t) (find-at t) find.Post find-Inv-loop find-μ-loop
 find-cast-list t c = omega (arith, c .before .before .before .before .before .before .before .before .before .before .before .before .before .before .before .before .pre .1 .records)
 
+find-mul-list : (t : ℕ) → find-lts.Need-mul-list (calls t) (find-at t) find.Post find-Inv-loop find-μ-loop
+find-mul-list t c = let r = c .before .before .before .before .before .before .before .before .before .before .before .before .before .before .before .before .pre .1 in
+    omega (arith, r .left, r .places, c .before .before .before .loop .inv .0 .listed, c .before .before .before .before .before .before .before .if1 .left)
+
 find-slice-write-list : (t : ℕ) → find-lts.Need-slice-write-list (calls t) (find-at t) find.Post find-Inv-loop find-μ-loop
 find-slice-write-list t c = let r = c .before .before .before .before .before .before .before .before .before .before .before .before .before .before .before .before .pre .1 in
     omega (arith, r .left, r .places, c .before .before .before .loop .inv .0 .listed, c .before .before .before .before .before .before .before .if1 .left)
@@ -255,6 +259,7 @@ pub +find-spec : {M : Type 1} → statement M
     (find-loop-holds t)
     (find-ready-requires t)
     (find-cast-list t)
+    (find-mul-list t)
     (find-slice-write-list t)
     (find-slice-aggregate-join t)
     (find-join-requires t)

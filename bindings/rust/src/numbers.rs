@@ -1,0 +1,123 @@
+//! Written by bindings/constants from the crates' own constants.
+
+/// A trace has at most so many records.
+pub const RECORDS: usize = 64;
+
+/// So many pairs stand in a session at the most.
+pub const PAIRS: usize = 16;
+
+/// A text has at most so many bytes.
+pub const TEXT: usize = 8192;
+
+/// A buffer of this many bytes holds any answer in words.
+pub const REPORT: usize = 1116;
+
+/// A verdict in bytes has so many.
+pub const VERDICT: usize = 194;
+
+/// Where the operations begin in a verdict.
+pub const OPERATIONS: usize = 2;
+
+/// Where the rules begin in a verdict.
+pub const RULES: usize = 130;
+
+/// So many bytes of a session stand before its text.
+pub const HEAD: usize = 579;
+
+/// Where the pairs begin in a session.
+pub const STANDING: usize = 2;
+
+/// Where a session says whether it is contradicted.
+pub const MARK: usize = 66;
+
+/// Where the table of what is held begins in a session.
+pub const TABLE: usize = 67;
+
+/// What orders a memory may show.
+#[derive(Clone, Copy, Debug, PartialEq, Eq)]
+pub enum Model {
+    Sc = 1,
+    Tso = 2,
+}
+
+/// In the order of their numbers, which begin with 1.
+pub const MODELS: [Model; 2] = [Model::Sc, Model::Tso];
+
+/// One table of answers for every entry; docs/GUIDE.md explains them. (10 is for traces that were not read from a text: no entry gives it.)
+#[derive(Clone, Copy, Debug, PartialEq, Eq)]
+pub enum Answer {
+    /// The text is good; or opened, supposed, taken back.
+    Done = 0,
+    /// Over 8,192 bytes.
+    LongText = 1,
+    /// Over 80 bytes.
+    LongLine = 2,
+    /// None of the four forms, or no ending line feed.
+    NoForm = 3,
+    /// Thread, address or value past its bound.
+    PastBound = 4,
+    /// A swap's two addresses differ.
+    TwoAddresses = 5,
+    /// 0 is written.
+    ZeroWritten = 6,
+    /// Record 65, counted from 1.
+    ManyRecords = 7,
+    /// Value written before at that address.
+    WrittenBefore = 8,
+    /// Not 1 to 2.
+    NoModel = 9,
+    /// Somebody reads what nobody wrote.
+    NoSource = 11,
+    /// Not a session that opening and supposing make.
+    NoSession = 12,
+    /// A record that is a fence or past the end.
+    NoOperation = 13,
+    /// One record twice.
+    SameTwice = 14,
+    /// Pair 17, counted from 1.
+    ManyPairs = 15,
+    /// Take back, and no pair stands.
+    NoPair = 16,
+    /// The lent memory is too short, and stays as it was.
+    NoRoom = 21,
+    /// The first valid order.
+    Order = 64,
+    /// The rules run in a circle.
+    Circle = 65,
+    /// Every order was ruled out.
+    NoneLeft = 66,
+    /// The first before the second is held.
+    Held = 67,
+    /// It is not.
+    NotHeld = 68,
+    /// The supposed pairs cannot all be.
+    Contradicted = 69,
+}
+
+/// In the order of their numbers.
+#[rustfmt::skip]
+pub(crate) const ANSWERS: [Answer; 23] = [
+    Answer::Done,
+    Answer::LongText,
+    Answer::LongLine,
+    Answer::NoForm,
+    Answer::PastBound,
+    Answer::TwoAddresses,
+    Answer::ZeroWritten,
+    Answer::ManyRecords,
+    Answer::WrittenBefore,
+    Answer::NoModel,
+    Answer::NoSource,
+    Answer::NoSession,
+    Answer::NoOperation,
+    Answer::SameTwice,
+    Answer::ManyPairs,
+    Answer::NoPair,
+    Answer::NoRoom,
+    Answer::Order,
+    Answer::Circle,
+    Answer::NoneLeft,
+    Answer::Held,
+    Answer::NotHeld,
+    Answer::Contradicted,
+];
