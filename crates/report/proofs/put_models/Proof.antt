@@ -6,6 +6,7 @@ use native.Mathlib.Numerals.{add-one}
 use native.Mathlib.Omega.{arith}
 use borrow.Author.Needs.{needs}
 use Rattle.pairs.specs.Kept.{MODELS}
+use Rattle.verdict.specs.Told.{Told}
 use Rattle.verdict.proofs.Numbers.{told-numbers}
 use Rattle.report.specs.Wrote.{Listed}
 use Rattle.report.proofs.Answered.{listed-none, listed-more}
@@ -44,7 +45,7 @@ loop-again c =
     let s = l .before .before in (
       omega arith,
       rw add-one
-          (listed-more (s .args .t) (s .args .out .now) (l .loop .model) (l .loop .out) _ (l .loop .at) _ (v .verdict-of .result) (l .loop .inv .1) (rw add-one at (v .verdict-of .ensures)) (rw add-one at (p .put-line .ensures .0)) (p .put-line .ensures .1)),
+          (listed-more (s .args .t) (s .args .out .now) (l .loop .model) (l .loop .out) _ (l .loop .at) _ (v .verdict-of .result) (l .loop .inv .1) (subst (λ (m : ℕ). Told (s .args .t) m (v .verdict-of .result)) (add-one (l .loop .model)) (v .verdict-of .ensures)) (rw add-one at (p .put-line .ensures .0)) (p .put-line .ensures .1)),
     )
 
 same-length : tie.Need-same-length Inv-loop μ-loop
