@@ -19,7 +19,9 @@ extern "C" {
 /* The models. */
 #define WHEELOTTER_SC 1
 #define WHEELOTTER_TSO 2
-#define WHEELOTTER_MODELS 2             /* so many, numbered from 1 */
+#define WHEELOTTER_PSO 3
+#define WHEELOTTER_WMO 4
+#define WHEELOTTER_MODELS 4             /* so many, numbered from 1 */
 
 /* The answers of every function that gives back a uint8_t. (10 is for traces that were not read from a text: none gives it.) */
 #define WHEELOTTER_DONE 0               /* the text is good; or opened, supposed, taken back */
@@ -31,7 +33,7 @@ extern "C" {
 #define WHEELOTTER_ZERO_WRITTEN 6       /* 0 is written */
 #define WHEELOTTER_MANY_RECORDS 7       /* record 65, counted from 1 */
 #define WHEELOTTER_WRITTEN_BEFORE 8     /* value written before at that address */
-#define WHEELOTTER_NO_MODEL 9           /* not 1 to 2 */
+#define WHEELOTTER_NO_MODEL 9           /* not 1 to 4 */
 #define WHEELOTTER_NO_SOURCE 11         /* somebody reads what nobody wrote */
 #define WHEELOTTER_NO_SESSION 12        /* not a session that opening and supposing make */
 #define WHEELOTTER_NO_OPERATION 13      /* a record that is a fence or past the end */
@@ -50,7 +52,7 @@ extern "C" {
 #define WHEELOTTER_RECORDS 64           /* a trace has at most so many records */
 #define WHEELOTTER_PAIRS 16             /* so many pairs stand in a session at the most */
 #define WHEELOTTER_TEXT 8192            /* a text has at most so many bytes */
-#define WHEELOTTER_REPORT 1116          /* a buffer of this many bytes holds any answer in words */
+#define WHEELOTTER_REPORT 2232          /* a buffer of this many bytes holds any answer in words */
 #define WHEELOTTER_VERDICT 194          /* a verdict in bytes has so many */
 #define WHEELOTTER_OPERATIONS 2         /* where the operations begin in a verdict */
 #define WHEELOTTER_RULES 130            /* where the rules begin in a verdict */

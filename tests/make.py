@@ -8,7 +8,9 @@ Every answer is worked out by hand from document 01; none comes from the program
   round that has a circle, so the shortest one can be seen; it is written from its lowest number.
 - An order: where every load reads the newest value when the records stand as written, that order is the first of all. Elsewhere the pairs that
   must stand in order are listed, and the first order takes the lowest record whose pairs are kept, again and again.
-- The starred traces and KNOT are document 01's own, with its answers.
+- A model lets off what the one before it does, so an order that is the first under one of them and breaks no pair of the next, with no lower record let
+  in by what is let off, is the first there too.
+- The starred traces and KNOT are document 01's own, with its answers; `messages` is request 4's, with its answer under PSO.
 Run it after a change; it removes the files of cases that are gone."""
 import os
 
@@ -41,8 +43,12 @@ def text_of(records):
     return ''.join(line + '\n' for line in lines)
 
 
-def told(name, records, sc, tso=None):
-    put(name, text_of(records), f'SC: {sc}\nTSO: {tso or sc}\n')
+def told(name, records, sc, tso=None, pso=None, wmo=None):
+    """A trace with its answers; a model that is left out answers as the one before it."""
+    tso = tso or sc
+    pso = pso or tso
+    wmo = wmo or pso
+    put(name, text_of(records), f'SC: {sc}\nTSO: {tso}\nPSO: {pso}\nWMO: {wmo}\n')
 
 
 def refused(name, text, number, line):
@@ -58,7 +64,8 @@ def order(numbers):
 told('empty', [], 'order')
 told('store-buffers', ['0 0:=1', '0 1==0', '1 1:=1', '1 0==0'], 'no order, circle 0 1 2 3 by 1 4 1 4', 'order 1 2 3 0')
 told('store-buffers-fenced', ['0 0:=1', '0 sync', '0 1==0', '1 1:=1', '1 sync', '1 0==0'], 'no order, circle 0 2 3 5 by 1 4 1 4')
-told('messages', ['0 0:=1', '0 1:=1', '1 1==1', '1 0==0'], 'no order, circle 0 1 2 3 by 1 2 1 4')
+# PSO lets the two stores off: 1>2(2) 2>3(1) 3>0(4). WMO lets the loads off too: 1>2(2) 3>0(4)
+told('messages', ['0 0:=1', '0 1:=1', '1 1==1', '1 0==0'], 'no order, circle 0 1 2 3 by 1 2 1 4', pso='order 1 2 3 0')
 told('own-store-unseen', ['0 0:=1', '0 0==0'], 'no order, circle 0 1 by 1 4', 'no order, circle 0 1 by 5 4')
 told('figure-13', ['0 1:=1', '1 1==0', '1 1==1', '1 1==0'], 'no order, circle 0 2 3 by 2 1 4')
 told('early-reads', ['0 0:=1', '0 0==1', '0 1==0', '1 1:=1', '1 1==1', '1 0==0'], 'no order, circle 0 2 3 5 by 1 4 1 4', 'order 1 2 3 4 5 0')
@@ -68,10 +75,17 @@ told('swap-of-its-own', ['0 0 5->5'], 'no order, no source 0')
 knot = ['0 1:=11', '0 5==1', '0 0:=2', '0 8:=1', '0 sync', '0 2==21',
         '1 2:=21', '1 7==1', '1 0:=1', '1 6:=1', '1 sync', '1 1==11',
         '2 1:=12', '2 5:=1', '3 6==1', '3 1==12', '4 2:=22', '4 7:=1', '5 8==1', '5 2==22']
-told('knot', knot, 'no order, none left')
+# PSO and WMO let the stores of a core pass each other, so 12 may come behind 13, and 16 before 17 or not: the knot is open. PSO: 0 and 6 are free and come first; 1 waits
+# for 13, whose store to address 1 (12) need not have come; 5 comes before 16 overwrites address 2, 11 before 12 overwrites address 1, and then all is in turn. WMO lets
+# loads and stores of two addresses pass as well: 2 and 3 need not wait for 1, nor 8 and 9 for 7
+told('knot', knot, 'no order, none left', pso=order([0, 6, 13, 1, 2, 3, 5, 16, 17, 7, 8, 9, 11, 12, 14, 15, 18, 19]),
+     wmo=order([0, 2, 3, 6, 8, 9, 13, 1, 5, 14, 16, 17, 7, 11, 12, 15, 18, 19]))
 
 # KNOT behind loads and stores of a thread and addresses of its own: they can stand anywhere in an order, so none is left all the same
-told('knot-padded', ['6 10:=1', '7 11==0', '6 12:=1'] + knot + ['7 10==1', '6 sync', '7 sync'], 'no order, none left')
+# under PSO and WMO KNOT's own orders, three numbers on, between them
+told('knot-padded', ['6 10:=1', '7 11==0', '6 12:=1'] + knot + ['7 10==1', '6 sync', '7 sync'], 'no order, none left',
+     pso=order([0, 1, 2] + [x + 3 for x in (0, 6, 13, 1, 2, 3, 5, 16, 17, 7, 8, 9, 11, 12, 14, 15, 18, 19)] + [23]),
+     wmo=order([0, 1, 2] + [x + 3 for x in (0, 2, 3, 6, 8, 9, 13, 1, 5, 14, 16, 17, 7, 11, 12, 15, 18, 19)] + [23]))
 
 # ---- the smallest traces
 
@@ -100,10 +114,10 @@ told('no-source-swap', ['0 0:=1', '0 0 2->3'], 'no order, no source 1')
 
 # ---- circles; the edges of the round are listed
 
-# 0>1(1) 1>2(4) 2>3(1) 3>0(4): a swap and a load behind it are kept under TSO
-told('swap-buffers', ['0 0 0->1', '0 1==0', '1 1 0->1', '1 0==0'], 'no order, circle 0 1 2 3 by 1 4 1 4')
-# 2>3(1) 4>5(1) 0>2(2) 1>4(2) 3>1(4) 5>0(4): one ring of six
-told('two-readers', ['0 0:=1', '1 1:=1', '2 0==1', '2 1==0', '3 1==1', '3 0==0'], 'no order, circle 0 2 3 1 4 5 by 2 1 4 2 1 4')
+# 0>1(1) 1>2(4) 2>3(1) 3>0(4): a swap and a load behind it are kept under TSO and PSO. WMO has 1>2(4) 3>0(4)
+told('swap-buffers', ['0 0 0->1', '0 1==0', '1 1 0->1', '1 0==0'], 'no order, circle 0 1 2 3 by 1 4 1 4', wmo='order 1 2 3 0')
+# 2>3(1) 4>5(1) 0>2(2) 1>4(2) 3>1(4) 5>0(4): one ring of six. WMO lets the two loads of each reader off: 3 lets 1 come, then 4; 5 lets 0 come, then 2
+told('two-readers', ['0 0:=1', '1 1:=1', '2 0==1', '2 1==0', '3 1==1', '3 0==0'], 'no order, circle 0 2 3 1 4 5 by 2 1 4 2 1 4', wmo='order 3 1 4 5 0 2')
 # round 0 has 0>1(1) 2>3(1) 1>2(2) 0>3(2) and no circle; round 1 adds 1>0(6), since 1>2>3 and 3 reads from 0, and 3>1(7)
 told('values-turned', ['0 0:=1', '0 0:=2', '1 0==2', '1 0==1'], 'no order, circle 0 1 by 1 6')
 # SC: 0>1(1) 1>2(4) 2>3(1) 2>4(1) 3>4(1) 4>0(4). TSO has 1>2(4) 3>4(1) 4>0(4): 0 waits for 4
@@ -112,8 +126,18 @@ told('one-early-read', ['0 0:=1', '0 1==0', '1 1:=1', '1 1==1', '1 0==0'], 'no o
 told('one-fence-of-two', ['0 0:=1', '0 sync', '0 1==0', '1 1:=1', '1 0==0'], 'no order, circle 0 2 3 4 by 1 4 1 4', 'order 4 0 2 3')
 # the fence is another thread's: SC as before; TSO has 2>3(4) 4>0(4) only
 told('fence-of-another', ['0 0:=1', '1 sync', '0 1==0', '1 1:=1', '1 0==0'], 'no order, circle 0 2 3 4 by 1 4 1 4', 'order 2 3 4 0')
-# a load and a store behind it are kept under both: 0>1(1) 2>3(1) 1>2(2) 3>0(2)
-told('loads-from-later', ['0 0==1', '0 1:=1', '1 1==1', '1 0:=1'], 'no order, circle 0 1 2 3 by 1 2 1 2')
+# a load and a store behind it are kept but under WMO: 0>1(1) 2>3(1) 1>2(2) 3>0(2). WMO has 1>2(2) 3>0(2)
+told('loads-from-later', ['0 0==1', '0 1:=1', '1 1==1', '1 0:=1'], 'no order, circle 0 1 2 3 by 1 2 1 2', wmo='order 1 2 3 0')
+# a fence between the stores and one between the loads keep them under every model: 0>2(1) 2>3(2) 3>5(1) 5>0(4)
+told('messages-fenced', ['0 0:=1', '0 sync', '0 1:=1', '1 1==1', '1 sync', '1 0==0'], 'no order, circle 0 2 3 5 by 1 2 1 4')
+# with the fence between the stores only, WMO still lets the loads off: 0>2(1) 2>3(2) 4>0(4)
+told('messages-stores-fenced', ['0 0:=1', '0 sync', '0 1:=1', '1 1==1', '1 0==0'], 'no order, circle 0 2 3 4 by 1 2 1 4', wmo='order 4 0 2 3')
+# a store and a swap elsewhere are let off from PSO on: 0>1(1) 1>2(2) 2>3(1) 3>0(4); PSO has 1>2(2) 2>3(1) 3>0(4)
+told('store-then-swap', ['0 0:=1', '0 1 0->1', '1 1==1', '1 0==0'], 'no order, circle 0 1 2 3 by 1 2 1 4', pso='order 1 2 3 0')
+# a swap and a store elsewhere are kept under PSO: the same circle; WMO has 1>2(2) 3>0(4)
+told('swap-then-store', ['0 0 0->1', '0 1:=1', '1 1==1', '1 0==0'], 'no order, circle 0 1 2 3 by 1 2 1 4', wmo='order 1 2 3 0')
+# two stores to one address stay in turn under every model: 0>1(1) 0>3(2) 1>2(2) 2>3(1); round 1: 2 and 3 read 2 and then 1, so 1>0(6) and 3>1(7)
+told('stores-in-turn', ['0 0:=1', '0 0:=2', '1 0==2', '1 0==1', '1 1==0'], 'no order, circle 0 1 by 1 6')
 # two swaps of one value: 0>1(2) 0>2(2); round 1: 0>1 gives 2>1(7), 0>2 gives 1>2(7)
 told('one-value-swapped-twice', ['0 0:=1', '1 0 1->2', '2 0 1->3'], 'no order, circle 1 2 by 7 7')
 # two swaps that both read the first value: 0>1(4) 1>0(4)

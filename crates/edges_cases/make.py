@@ -1,7 +1,8 @@
 #!/usr/bin/env python3
 """make.py: write the traces (data/), their names (args) and what the rules force in each (stdout).
 
-Every answer below was worked out by hand from document 01's eight rules; none is taken from the program. Run it in this folder after a change."""
+Every answer below was worked out from document 01's eight rules and the pairs that each model lets off, by hand for SC and TSO, and for PSO and WMO by
+hand and by a reading of the rules in Python that found the same; none is taken from the program. Run it in this folder after a change."""
 import os
 
 here = os.path.dirname(os.path.abspath(__file__))
@@ -18,8 +19,11 @@ def held(pairs, at=0):
     return f'round {at}, held' + ''.join(' ' + p for p in pairs.split())
 
 
-def case(name, text, sc, tso=None):
-    cases.append((name, text, sc, sc if tso is None else tso))
+def case(name, text, sc, tso=None, pso=None, wmo=None):
+    """A model that is left out answers as the one before it."""
+    tso = tso or sc
+    pso = pso or tso
+    cases.append((name, text, sc, tso, pso, wmo or pso))
 
 
 def trace(*threads):
@@ -45,10 +49,12 @@ def trace(*threads):
 case('star-empty', '', held(''))
 case('star-buffers', trace((0, '0:=1 1==0'), (1, '1:=1 0==0')), circle('0 1 2 3', '1 4 1 4'), held('1-2 3-0'))
 case('star-fences', trace((0, '0:=1 sync 1==0'), (1, '1:=1 sync 0==0')), circle('0 2 3 5', '1 4 1 4'))
-case('star-message', trace((0, '0:=1 1:=1'), (1, '1==1 0==0')), circle('0 1 2 3', '1 2 1 4'))
+case('star-message', trace((0, '0:=1 1:=1'), (1, '1==1 0==0')), circle('0 1 2 3', '1 2 1 4'),
+     pso=held('1-0 1-2 1-3 2-0 2-3 3-0'), wmo=held('1-2 3-0'))
 case('star-own-store', trace((0, '0:=1 0==0')), circle('0 1', '1 4'), circle('0 1', '5 4'))
 case('star-back-in-time', trace((0, '1:=1'), (1, '1==0 1==1 1==0')), circle('0 2 3', '2 1 4'))
-case('star-seen-early', trace((0, '0:=1 0==1 1==0'), (1, '1:=1 1==1 0==0')), circle('0 2 3 5', '1 4 1 4'), held('1-2 1-3 2-3 4-0 4-5 5-0'))
+case('star-seen-early', trace((0, '0:=1 0==1 1==0'), (1, '1:=1 1==1 0==0')), circle('0 2 3 5', '1 4 1 4'), held('1-2 1-3 2-3 4-0 4-5 5-0'),
+     wmo=held('2-3 5-0'))
 case('star-swaps', trace((1, '3:=31'), (0, '3==31:=178 3==178:=198'), (1, '3==178:=59')), circle('2 3', '7 7', 1))
 case('star-no-source', trace((0, '0==5:=5')), held(''))
 
@@ -58,7 +64,8 @@ case('rule-2-circle', trace((0, '0==1 0:=1')), circle('0 1', '1 2'))
 
 # rule 3: a load's own earlier store is before the source that the load reads instead
 case('rule-3-held', trace((0, '0:=1 0==2'), (1, '0:=2')), held('0-1 0-2 2-1'))
-case('rule-3-circle', trace((1, '0:=2 1:=1'), (0, '1==1 0:=1 0==2')), circle('0 1 2 3', '1 2 1 3'))
+case('rule-3-circle', trace((1, '0:=2 1:=1'), (0, '1==1 0:=1 0==2')), circle('0 1 2 3', '1 2 1 3'),
+     pso=held('0-4 1-0 1-2 1-3 1-4 2-0 2-3 2-4 3-0 3-4'), wmo=held('0-4 1-2 3-0 3-4'))
 
 # rule 4: a load of the first value is before every store to its address
 case('rule-4-held', trace((0, '0==0'), (1, '0:=1')), held('0-1'))
@@ -69,10 +76,14 @@ case('rule-5-far', trace((0, '0:=1 1:=1 0==0')), circle('0 2', '1 4'), circle('0
 case('rule-5-swap', trace((0, '0:=1 0==0:=2')), circle('0 1', '1 4'))
 
 # rule 6: a chain to the load puts another writer before the source, a round later
-case('rule-6-held', trace((0, '0:=1 1:=1'), (1, '1==1 0==2'), (2, '0:=2')), held('0-1 0-2 0-3 0-4 1-2 1-3 2-3 4-3', 1))
-case('rule-6-short', trace((0, '0:=1 0:=2 1:=1'), (1, '1==1 0==1')), circle('0 1', '1 6', 1))
-case('rule-6-twice', trace((2, '0==1 0==2'), (0, '1==1 0:=1'), (1, '0:=2 1:=1')), circle('3 4', '6 6', 1))
-case('rule-6-with-7', trace((2, '0:=2 2:=1'), (0, '2==1 0:=1 1:=1'), (1, '1==1 0==2')), circle('0 6 3', '2 7 6', 1))
+case('rule-6-held', trace((0, '0:=1 1:=1'), (1, '1==1 0==2'), (2, '0:=2')), held('0-1 0-2 0-3 0-4 1-2 1-3 2-3 4-3', 1),
+     pso=held('1-2 1-3 2-3 4-3'), wmo=held('1-2 4-3'))
+case('rule-6-short', trace((0, '0:=1 0:=2 1:=1'), (1, '1==1 0==1')), circle('0 1', '1 6', 1),
+     pso=held('0-1 0-4 2-1 2-3 2-4 3-1 3-4 4-1', 1), wmo=held('0-1 0-4 2-3 4-1', 1))
+case('rule-6-twice', trace((2, '0==1 0==2'), (0, '1==1 0:=1'), (1, '0:=2 1:=1')), circle('3 4', '6 6', 1),
+     pso=held('0-1 0-4 2-0 2-1 2-3 2-4 3-0 3-1 3-4 4-1 5-0 5-1 5-2 5-3 5-4', 2), wmo=held('0-1 0-4 3-0 3-1 3-4 4-1 5-2', 2))
+case('rule-6-with-7', trace((2, '0:=2 2:=1'), (0, '2==1 0:=1 1:=1'), (1, '1==1 0==2')), circle('0 6 3', '2 7 6', 1),
+     pso=held('0-6 1-2 1-3 1-4 1-5 1-6 2-3 2-4 2-5 2-6 4-5 4-6 5-6'), wmo=held('0-6 1-2 4-5'))
 
 # rule 7: a chain from the source puts the load before another writer, a round later; never a swap before itself
 case('rule-7-held', trace((0, '0:=1 0:=2'), (1, '0==1')), held('0-1 0-2 2-1', 1))
@@ -82,11 +93,11 @@ folder = os.path.join(here, 'data')
 os.makedirs(folder, exist_ok=True)
 for old in os.listdir(folder):
     os.remove(os.path.join(folder, old))
-for name, text, _, _ in cases:
+for name, text, *_ in cases:
     with open(os.path.join(folder, name), 'w') as out:
         out.write(text)
 with open(os.path.join(here, 'args'), 'w') as out:
-    out.write(''.join(name + '\n' for name, _, _, _ in cases))
+    out.write(''.join(name + '\n' for name, *_ in cases))
 with open(os.path.join(here, 'stdout'), 'w') as out:
-    out.write(''.join(f'{name} SC: {sc}\n{name} TSO: {tso}\n' for name, _, sc, tso in cases))
+    out.write(''.join(f'{name} {model}: {told}\n' for name, _, *every in cases for model, told in zip(('SC', 'TSO', 'PSO', 'WMO'), every)))
 print(len(cases), 'cases')

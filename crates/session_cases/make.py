@@ -207,14 +207,14 @@ ask 3 2 -> held
 # No such model; a trace that is not well formed; a missing source, with its record. Beside a refusal stands the session of the empty trace.
 case('buffers', BUFFERS, 'refused-talk', '''
 open 0 -> refused 9
-open 3 -> refused 9
+open 5 -> refused 9
 open 255 -> refused 9
 open damaged 1 1 -> refused 10
 open damaged 1 3 -> refused 10
 open damaged 2 4 -> refused 10
-open damaged 3 1 -> refused 9
+open damaged 5 1 -> refused 9
 open damaged 1 2 -> refused 11 record 0
-open damaged 3 2 -> refused 9
+open damaged 5 2 -> refused 9
 ask 0 1 -> refused 13
 suppose 0 0 -> refused 13
 take back -> refused 16

@@ -10,4 +10,4 @@ pub const LAST_VALUE: u64 = 65_535;
 pub const MOST_PAIRS: usize = 16;
 
 /// The models are numbered from 1 to this; `trace::Model` knows all four of SC, TSO, PSO and WMO.
-pub const MODELS: usize = 2;
+pub const MODELS: usize = 4;

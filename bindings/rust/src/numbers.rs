@@ -10,7 +10,7 @@ pub const PAIRS: usize = 16;
 pub const TEXT: usize = 8192;
 
 /// A buffer of this many bytes holds any answer in words.
-pub const REPORT: usize = 1116;
+pub const REPORT: usize = 2232;
 
 /// A verdict in bytes has so many.
 pub const VERDICT: usize = 194;
@@ -38,10 +38,12 @@ pub const TABLE: usize = 67;
 pub enum Model {
     Sc = 1,
     Tso = 2,
+    Pso = 3,
+    Wmo = 4,
 }
 
 /// In the order of their numbers, which begin with 1.
-pub const MODELS: [Model; 2] = [Model::Sc, Model::Tso];
+pub const MODELS: [Model; 4] = [Model::Sc, Model::Tso, Model::Pso, Model::Wmo];
 
 /// One table of answers for every entry; docs/GUIDE.md explains them. (10 is for traces that were not read from a text: no entry gives it.)
 #[derive(Clone, Copy, Debug, PartialEq, Eq)]
@@ -64,7 +66,7 @@ pub enum Answer {
     ManyRecords = 7,
     /// Value written before at that address.
     WrittenBefore = 8,
-    /// Not 1 to 2.
+    /// Not 1 to 4.
     NoModel = 9,
     /// Somebody reads what nobody wrote.
     NoSource = 11,

@@ -17,7 +17,8 @@ fn the_numbers_of_the_header() {
     assert_eq!([number("RECORDS"), number("PAIRS"), number("TEXT"), number("REPORT")], [RECORDS, PAIRS, TEXT, REPORT]);
     assert_eq!([number("VERDICT"), number("OPERATIONS"), number("RULES")], [VERDICT, OPERATIONS, RULES]);
     assert_eq!([number("HEAD"), number("STANDING"), number("MARK"), number("TABLE")], [HEAD, STANDING, MARK, TABLE]);
-    assert_eq!([number("SC"), number("TSO"), number("MODELS")], [Model::Sc as usize, Model::Tso as usize, MODELS.len()]);
+    assert_eq!(["SC", "TSO", "PSO", "WMO"].map(number), MODELS.map(|model| model as usize));
+    assert_eq!(number("MODELS"), MODELS.len());
     for answer in (0..=255).filter_map(Answer::numbered) {
         let large = |c: char| if c.is_uppercase() { format!("_{c}") } else { c.to_uppercase().to_string() };
         let name: String = format!("{answer:?}").chars().map(large).collect();

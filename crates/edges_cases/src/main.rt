@@ -82,7 +82,9 @@ fn say_held(f: Forced) {
     }
 }
 
-fn say_model(t: Trace, model: u8) {
+fn say_model(name: &[u8], word: &[u8], t: Trace, model: u8) {
+    say(name);
+    say(word);
     let none = [0u64; rows::CELLS];
     let last = edges::force::last_round(t, model, &none);
     say_number(b"round ", long(last.number));
@@ -99,12 +101,10 @@ fn say_model(t: Trace, model: u8) {
 fn answer(name: &[u8], text: &[u8]) {
     let r = reader::read(text);
     let t = r.trace;
-    say(name);
-    say(b" SC: ");
-    say_model(t, 1);
-    say(name);
-    say(b" TSO: ");
-    say_model(t, 2);
+    say_model(name, b" SC: ", t, pairs::SC);
+    say_model(name, b" TSO: ", t, pairs::TSO);
+    say_model(name, b" PSO: ", t, pairs::PSO);
+    say_model(name, b" WMO: ", t, pairs::WMO);
 }
 
 // One trace, from the file that argument i names.

@@ -2,7 +2,7 @@
 ghost use mathlib.Core.Path.{_≡_};
 ghost use Rattle.trace.specs.Trace.{at};
 ghost use Rattle.trace.specs.Meaning.{frameOf};
-ghost use Rattle.pairs.specs.Kept.{modelled, kindOf, keptBy, keptPair, fenced, keptOf};
+ghost use Rattle.pairs.specs.Kept.{modelled, kindOf, sideOf, keptBy, keptPair, fenced, keptOf};
 ghost use Rattle.rules.specs.SourceOf.{readsFrom, sourceOf};
 use trace::Op;
 use trace::RECORDS;
@@ -14,30 +14,54 @@ pub const SC: u8 = 1;
 
 pub const TSO: u8 = 2;
 
-pub const MODELS: u8 = 2;
+pub const PSO: u8 = 3;
+
+pub const WMO: u8 = 4;
+
+pub const MODELS: u8 = 4;
 
 // How many kinds of records there are: 0 load, 1 store, 2 swap, 3 fence.
 pub const KINDS: u8 = 4;
 
-// Whether a model keeps a pair without a fence between: by model, kind of the first and kind of the second. Model 0 does not exist.
-const KEPT: [[[bool; 4]; 4]; 3] = [
+// What a model says of two kinds without a fence between: at two addresses, and at one.
+const NEVER: [bool; 2] = [false, false];
+
+const THERE: [bool; 2] = [false, true];
+
+const ALWAYS: [bool; 2] = [true, true];
+
+// Whether a model keeps a pair without a fence between: by model, kind of the first and kind of the second, at two addresses and at one. Model 0
+// does not exist.
+const KEPT: [[[[bool; 2]; 4]; 4]; 5] = [
     [
-        [false, false, false, false],
-        [false, false, false, false],
-        [false, false, false, false],
-        [false, false, false, false],
+        [NEVER, NEVER, NEVER, NEVER],
+        [NEVER, NEVER, NEVER, NEVER],
+        [NEVER, NEVER, NEVER, NEVER],
+        [NEVER, NEVER, NEVER, NEVER],
     ],
     [
-        [true, true, true, false], // SC, a load first
-        [true, true, true, false], // SC, a store first
-        [true, true, true, false], // SC, a swap first
-        [false, false, false, false], // SC, a fence
+        [ALWAYS, ALWAYS, ALWAYS, NEVER], // SC, a load first
+        [ALWAYS, ALWAYS, ALWAYS, NEVER], // SC, a store first
+        [ALWAYS, ALWAYS, ALWAYS, NEVER], // SC, a swap first
+        [NEVER, NEVER, NEVER, NEVER], // SC, a fence
     ],
     [
-        [true, true, true, false], // TSO, a load first
-        [false, true, true, false], // TSO, a store first
-        [true, true, true, false], // TSO, a swap first
-        [false, false, false, false], // TSO, a fence
+        [ALWAYS, ALWAYS, ALWAYS, NEVER], // TSO, a load first
+        [NEVER, ALWAYS, ALWAYS, NEVER], // TSO, a store first
+        [ALWAYS, ALWAYS, ALWAYS, NEVER], // TSO, a swap first
+        [NEVER, NEVER, NEVER, NEVER], // TSO, a fence
+    ],
+    [
+        [ALWAYS, ALWAYS, ALWAYS, NEVER], // PSO, a load first
+        [NEVER, THERE, THERE, NEVER], // PSO, a store first
+        [ALWAYS, ALWAYS, ALWAYS, NEVER], // PSO, a swap first
+        [NEVER, NEVER, NEVER, NEVER], // PSO, a fence
+    ],
+    [
+        [THERE, THERE, THERE, NEVER], // WMO, a load first
+        [NEVER, THERE, THERE, NEVER], // WMO, a store first
+        [THERE, THERE, THERE, NEVER], // WMO, a swap first
+        [NEVER, NEVER, NEVER, NEVER], // WMO, a fence
     ],
 ];
 
@@ -60,9 +84,20 @@ pub fn kind(op: Op) -> u8
     }
 }
 
-// Whether a model keeps a pair of these kinds without a fence between; a model or a kind that does not exist keeps nothing.
-pub fn kept_by(model: u8, first: u8, second: u8) -> bool
-    ensures { λ r. ⌜ r ≡ keptBy model first second ⌝ }
+// Where an entry of the table says what holds: at two addresses first, then at one.
+fn side(one: bool) -> usize
+    ensures { λ r. ⌜ r ≡ sideOf one ⌝ }
+{
+    if one {
+        return 1;
+    }
+    0
+}
+
+// Whether a model keeps a pair of these kinds without a fence between, told whether both are at one address; a model or a kind that does not
+// exist keeps nothing.
+pub fn kept_by(model: u8, first: u8, second: u8, one: bool) -> bool
+    ensures { λ r. ⌜ r ≡ keptBy model first second one ⌝ }
 {
     if model <= MODELS {
         if first < KINDS {
@@ -70,7 +105,8 @@ pub fn kept_by(model: u8, first: u8, second: u8) -> bool
                 let m = model as usize;
                 let a = first as usize;
                 let b = second as usize;
-                return KEPT[m][a][b];
+                let s = side(one);
+                return KEPT[m][a][b][s];
             }
         }
     }
@@ -118,7 +154,8 @@ pub fn kept_pair(model: u8, a: Op, b: Op, later: bool, fenced: bool) -> bool
 {
     let near = later & (a.thread() == b.thread());
     let across = modelled(model) & !a.fence() & !b.fence() & fenced;
-    near & (kept_by(model, kind(a), kind(b)) | across)
+    let one = a.address() == b.address();
+    near & (kept_by(model, kind(a), kind(b), one) | across)
 }
 
 // Whether a model keeps the pair x, y of a trace.

@@ -1,19 +1,20 @@
 -- The answer as a whole.
 --
---   answer-good, answer-refused    == the lines of both models, or the line of a refusal, are the output for the text
+--   listed-none, listed-more       == the lines of no model, and of one model more
+--   answer-good, answer-refused    == the lines of all models, or the line of a refusal, are the output for the text
 --   answer-says                    == a text that is read is answered: no line of it says `refused`
 --   prints-one                     == no second output
 --   reported-put                   == what comes of an answer that was written elsewhere and put into a buffer: it fits, or nothing is written
 use mathlib.Core.Path.{_≡_, refl, sym, ap, ap₂, _∙_, subst}
 use mathlib.Core.Bool.{So}
-use mathlib.Core.List.{List, _++_}
-use Prim.Native.Nat.{ℕ}
+use mathlib.Core.List.{List, [], _++_}
+use Prim.Native.Nat.{ℕ, zero, suc, _+_, _≤_}
 use native.Mathlib.Nat.{zero-add}
 use native.Mathlib.Omega.{arith}
 use lib.ListN.{length, take}
 use Rattle.trace.specs.Meaning.{frameOf}
 use Rattle.trace.specs.declared.Trace.{Trace}
-use Rattle.pairs.specs.Kept.{SC, TSO, modelled, keptOf}
+use Rattle.pairs.specs.Kept.{MODELS, modelled, keptOf}
 use Rattle.orders.specs.Verdict as said
 use Rattle.text.specs.Room.{putAt, behind}
 use Rattle.text.proofs.Put.{put-front, put-none, behind-room, behind-none}
@@ -27,17 +28,31 @@ use Rattle.reader.proofs.RoundTrip.{read-well}
 use Rattle.verdict.specs.Told.{laid, Told}
 use Rattle.verdict.proofs.One.{told-one}
 use Rattle.verdict.specs.declared.Verdict.{Verdict}
-use Rattle.report.specs.Words.{sc, tso}
-use Rattle.report.specs.Report.{lineOf, refusalOf, Answers, Prints}
-use Rattle.report.specs.Wrote.{Written, Reported}
-use Rattle.report.proofs.Wrote.{wrote-front}
+use Rattle.report.specs.Bounds.{LINE}
+use Rattle.report.specs.Report.{lineOf, refusalOf, Lines, Answers, Prints}
+use Rattle.report.specs.Wrote.{Wrote, Listed, Written, Reported}
+use Rattle.report.proofs.Wrote.{wrote-none, wrote-then, wrote-front}
+
+module _ (t : Trace) (before : List ℕ) where
+  pub listed-none : Listed t 0 before before 0
+  listed-none = record { out = []; lines = refl; wrote = wrote-none before 0; within = omega arith }
+
+  pub listed-more :
+      (m : ℕ) (mid after : List ℕ) (r s : ℕ) (v : Verdict) → Listed t m before mid r → Told t (suc m) v → Wrote mid r (lineOf (suc m) v) after s → s ≤ r + LINE
+      → Listed t (suc m) before after s
+  listed-more m mid after r s v l p w b = record {
+    out = l .out ++ lineOf (suc m) v;
+    lines = (l .out, v, l .lines, p, refl);
+    wrote = wrote-then before 0 (l .out) (lineOf (suc m) v) mid after r s (l .wrote) w;
+    within = omega (arith, l .within);
+  }
 
 module _ (text : List ℕ) (r : Reading) (e : r ≡ readText text) where
   whole : (a : Answer) → r .answer ≡ a → (out : List ℕ) → Answers a (r .trace) out → Prints text out
   whole a q out p = subst (λ (r : Reading). Answers (r .answer) (r .trace) out) e (subst (λ (a : Answer). Answers a (r .trace) out) (sym q) p)
 
-  pub answer-good : r .answer ≡ Good → (a b : Verdict) → Told (r .trace) SC a → Told (r .trace) TSO b → Prints text (lineOf sc a ++ lineOf tso b)
-  answer-good q a b p s = whole Good q (lineOf sc a ++ lineOf tso b) (a, b, p, s, refl)
+  pub answer-good : r .answer ≡ Good → (out : List ℕ) → Lines (r .trace) MODELS out → Prints text out
+  answer-good q out p = whole Good q out p
 
   pub answer-refused : (reason : Reason) (n line : ℕ) → r .answer ≡ Refused reason line → n ≡ numberOf reason → Prints text (refusalOf n line)
   answer-refused reason n line q p = whole (Refused reason line) q (refusalOf n line) (ap (λ (n : ℕ). refusalOf n line) p)
@@ -46,9 +61,13 @@ pub answer-says : (text : List ℕ) (m : ℕ) → So (modelled m) → let t = re
 answer-says text m k r h = h .says k (read-well text)
 
 -- no second output
+lines-one : (t : Trace) (m : ℕ) (x y : List ℕ) → Lines t m x → Lines t m y → x ≡ y
+lines-one t zero x y e f = e ∙ sym f
+lines-one t (suc m) x y (b, v, p, q, e) (c, w, r, s, f) =
+    e ∙ ap₂ (λ (l : List ℕ) (v : Verdict). l ++ lineOf (suc m) v) (lines-one t m b c p r) (told-one t (suc m) v w q s) ∙ sym f
+
 answers-one : (a : Answer) (t : Trace) (x y : List ℕ) → Answers a t x → Answers a t y → x ≡ y
-answers-one Good t x y (a, b, p, q, e) (c, d, r, s, f) =
-    e ∙ ap₂ (λ (a b : Verdict). lineOf sc a ++ lineOf tso b) (told-one t SC a c p r) (told-one t TSO b d q s) ∙ sym f
+answers-one Good t x y p q = lines-one t MODELS x y p q
 answers-one (Refused reason line) t x y e f = e ∙ sym f
 
 pub prints-one : (text x y : List ℕ) → Prints text x → Prints text y → x ≡ y

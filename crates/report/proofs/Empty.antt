@@ -1,24 +1,26 @@
 -- The report on the empty text, the first starred entry of document 01.
 --
---   empty-printed == `SC: order` and `TSO: order`, a line each
-use mathlib.Core.Path.{_≡_, refl, ap₂, _∙_, subst}
+--   empty-printed == `SC: order`, `TSO: order`, `PSO: order` and `WMO: order`, a line each
+use mathlib.Core.Path.{_≡_, refl, ap, ap₂, _∙_, subst}
 use mathlib.Core.List.{List, [], _∷_, _++_, List·Memᴰ, List·Memᴰ·head}
-use Prim.Native.Nat.{ℕ}
+use Prim.Native.Nat.{ℕ, zero, suc, _+_, _<_, _≤_}
+use native.Mathlib.Omega.{arith}
+use lib.ListN.{getD}
 use Rattle.text.specs.Lines.{lines}
 use Rattle.reader.specs.Read.{readLines, readText}
 use Rattle.reader.specs.declared.Answer.the-variants.{Good}
 use Rattle.reader.specs.declared.Reading.{Reading}
+use Rattle.pairs.specs.Kept.{SC, MODELS}
 use Rattle.orders.specs.Verdict as said
 use Rattle.orders.specs.Starred.{places, traceOf, Case, cases}
-use Rattle.verdict.specs.Told.{laid}
+use Rattle.verdict.specs.Told.{laid, Told}
 use Rattle.verdict.specs.declared.Verdict.{Verdict}
 use Rattle.verdict.proofs.Owed.{starred-told}
-use Rattle.report.specs.Words.{sc, tso}
-use Rattle.report.specs.Report.{spaced, sayingAs, lineOf, Answers, Prints}
+use Rattle.report.specs.Report.{spaced, sayingAs, lineOf, Lines, Answers, Prints}
 
 -- the first of the table
 abbrev nothing : Case
-nothing = record { ops = []; sc = said.order []; tso = said.order [] }
+nothing = record { ops = []; verdicts = said.order [] ∷ said.order [] ∷ said.order [] ∷ said.order [] ∷ [] }
 
 listed : List·Memᴰ nothing cases
 unfolding cases
@@ -29,15 +31,37 @@ read-empty : readText [] ≡ record { answer = Good; trace = traceOf [] }
 unfolding readText readLines lines traceOf places
 read-empty = refl
 
--- S C : space o r d e r feed, T S O : space o r d e r feed
-abbrev printed : List ℕ
-printed = 83 ∷ 67 ∷ 58 ∷ 32 ∷ 111 ∷ 114 ∷ 100 ∷ 101 ∷ 114 ∷ 10 ∷ 84 ∷ 83 ∷ 79 ∷ 58 ∷ 32 ∷ 111 ∷ 114 ∷ 100 ∷ 101 ∷ 114 ∷ 10 ∷ []
+-- its verdict is the same under every model
+each-order : (m : ℕ) → m < MODELS → getD (nothing .verdicts) m said.noneLeft ≡ said.order []
+each-order zero l = refl
+each-order (suc zero) l = refl
+each-order (suc (suc zero)) l = refl
+each-order (suc (suc (suc zero))) l = refl
+each-order (suc (suc (suc (suc m)))) l = absurd (omega arith)
 
-both-lines : lineOf sc (laid (said.order [])) ++ lineOf tso (laid (said.order [])) ≡ printed
+-- the lines up to a model
+abbrev upTo : ℕ → List ℕ
+upTo zero = []
+upTo (suc m) = upTo m ++ lineOf (suc m) (laid (said.order []))
+
+all-lines : (m : ℕ) → m ≤ MODELS → (out : List ℕ) → Lines (traceOf []) m out → out ≡ upTo m
+all-lines zero b out e = e
+all-lines (suc m) b out (before, v, l, told, e) =
+    let same : suc m ≡ SC + m = omega arith in
+    let is = starred-told nothing listed m (omega arith) v (subst (λ (k : ℕ). Told (traceOf []) k v) same told) in
+    e ∙ ap₂ (λ (l : List ℕ) (v : Verdict). l ++ lineOf (suc m) v) (all-lines m (omega arith) before l) (is ∙ ap laid (each-order m (omega arith)))
+
+-- S C : space o r d e r feed, T S O : space o r d e r feed, P S O and W M O alike
+abbrev printed : List ℕ
+printed =
+    83 ∷ 67 ∷ 58 ∷ 32 ∷ 111 ∷ 114 ∷ 100 ∷ 101 ∷ 114 ∷ 10
+    ∷ 84 ∷ 83 ∷ 79 ∷ 58 ∷ 32 ∷ 111 ∷ 114 ∷ 100 ∷ 101 ∷ 114 ∷ 10
+    ∷ 80 ∷ 83 ∷ 79 ∷ 58 ∷ 32 ∷ 111 ∷ 114 ∷ 100 ∷ 101 ∷ 114 ∷ 10
+    ∷ 87 ∷ 77 ∷ 79 ∷ 58 ∷ 32 ∷ 111 ∷ 114 ∷ 100 ∷ 101 ∷ 114 ∷ 10 ∷ []
+
+as-bytes : upTo MODELS ≡ printed
 unfolding sayingAs spaced
-both-lines = refl
+as-bytes = refl
 
 pub empty-printed : (out : List ℕ) → Prints [] out → out ≡ printed
-empty-printed out p =
-    let (a, b, s, t, e) = subst (λ (r : Reading). Answers (r .answer) (r .trace) out) read-empty p in
-    e ∙ ap₂ (λ (a b : Verdict). lineOf sc a ++ lineOf tso b) (starred-told nothing listed a .0 s) (starred-told nothing listed b .1 t) ∙ both-lines
+empty-printed out p = all-lines MODELS (omega arith) out (subst (λ (r : Reading). Answers (r .answer) (r .trace) out) read-empty p) ∙ as-bytes

@@ -9,6 +9,7 @@
 --   REPORT == the whole answer
 use Prim.Native.Nat.{ℕ, _+_, _*_}
 use Rattle.trace.specs.Bounds.{RECORDS}
+use Rattle.pairs.specs.Kept.{MODELS}
 
 abbrev pub DIGITS : ℕ
 DIGITS = 3
@@ -31,4 +32,4 @@ abbrev pub LINE : ℕ
 LINE = NAME + 3 + SAID
 
 abbrev pub REPORT : ℕ
-REPORT = 2 * LINE
+REPORT = MODELS * LINE

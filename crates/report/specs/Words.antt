@@ -2,6 +2,9 @@
 --
 --   sc       == `SC`
 --   tso      == `TSO`
+--   pso      == `PSO`
+--   wmo      == `WMO`
+--   names    == the models' names by their numbers; there is no model 0
 --   colon    == `: `
 --   order    == `order`
 --   noOrder  == `no order, `
@@ -23,6 +26,15 @@ sc = 83 ∷ 67 ∷ []
 
 abbrev pub tso : List ℕ
 tso = 84 ∷ 83 ∷ 79 ∷ []
+
+abbrev pub pso : List ℕ
+pso = 80 ∷ 83 ∷ 79 ∷ []
+
+abbrev pub wmo : List ℕ
+wmo = 87 ∷ 77 ∷ 79 ∷ []
+
+abbrev pub names : List (List ℕ)
+names = [] ∷ sc ∷ tso ∷ pso ∷ wmo ∷ []
 
 abbrev pub colon : List ℕ
 colon = 58 ∷ 32 ∷ []

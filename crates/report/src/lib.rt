@@ -2,25 +2,40 @@
 ghost use mathlib.Core.Path.{_≡_};
 ghost use lib.ListN.{length};
 ghost use Rattle.report.specs.Bounds.{REPORT};
-ghost use Rattle.report.specs.Wrote.{Written, Reported};
+ghost use Rattle.pairs.specs.Kept.{MODELS};
+ghost use Rattle.report.specs.Wrote.{Listed, Written, Reported};
 
 mod lines;
 mod pieces;
 
 use lines::put_line;
 use lines::put_refusal;
-use pairs::SC;
-use pairs::TSO;
+use pairs::MODELS;
 use pieces::wide;
 use reader::Answer;
 use reader::read;
 use reader::turns::number;
 use text::room::put;
 use trace::RECORDS;
+use trace::Trace;
 use verdict::tell::verdict_of;
 
-// How many bytes an answer has at the most: two lines, each with its words and two lists of numbers.
-pub const REPORT: usize = 2 * (46 + 8 * RECORDS);
+// How many bytes an answer has at the most: a line for each model, with its words and two lists of numbers.
+pub const REPORT: usize = (MODELS as usize) * (46 + 8 * RECORDS);
+
+// The lines of a trace, one for each model, in a buffer that has room for them.
+fn put_models(t: Trace, out: &mut [u8]) -> usize
+    requires { ⌜ length (now out) ≡ REPORT ⌝ }
+    ensures { λ r. ⌜ Listed t MODELS (now (out .entry)) (now (out .exit)) r ⌝ }
+{
+    let mut model: u8 = 0;
+    let mut at: usize = 0;
+    while model < MODELS {
+        model += 1;
+        at = put_line(model, verdict_of(t, model), out, at);
+    }
+    at
+}
 
 // The answer to a text, in a buffer that has room for any.
 fn written(text: &[u8], out: &mut [u8]) -> usize
@@ -30,11 +45,7 @@ fn written(text: &[u8], out: &mut [u8]) -> usize
     let reading = read(text);
     let answer = reading.answer;
     match answer {
-        Answer::Good => {
-            let trace = reading.trace;
-            let end = put_line(b"SC", verdict_of(trace, SC), out, 0);
-            put_line(b"TSO", verdict_of(trace, TSO), out, end)
-        }
+        Answer::Good => put_models(reading.trace, out),
         Answer::Refused { reason, line } => put_refusal(wide(number(reason)), line, out, 0),
     }
 }

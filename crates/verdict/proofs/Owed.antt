@@ -8,11 +8,11 @@
 use mathlib.Core.Path.{_≡_, refl, sym, ap, _∙_, subst}
 use mathlib.Core.Logic.{_⊎_, inl, inr, _↔_}
 use mathlib.Core.Bool.{true, false, So, false≢true}
-use mathlib.Core.List.{List, List·Memᴰ}
+use mathlib.Core.List.{List, [], _∷_, List·Memᴰ}
 use mathlib.Core.Option.{some}
-use Prim.Native.Nat.{ℕ, _-_}
+use Prim.Native.Nat.{ℕ, zero, suc, _+_, _-_, _<_, _≤_}
 use native.Mathlib.Omega.{arith}
-use lib.ListN.{length, take, replicate}
+use lib.ListN.{length, getD, take, replicate}
 use lib.Seq.{take-append-seam}
 use Rattle.laws.specs.Dict.{Least}
 use Rattle.laws.proofs.Tests.{test, and-iff, same-iff}
@@ -22,11 +22,12 @@ use Rattle.trace.specs.WellFormed.{wellFormed}
 use Rattle.trace.specs.Order.{Valid}
 use Rattle.trace.specs.declared.Trace.{Trace}
 use Rattle.trace.proofs.Good.{good}
-use Rattle.pairs.specs.Kept.{SC, TSO, modelled, keptOf}
+use Rattle.pairs.specs.Kept.{SC, MODELS, modelled, keptOf}
 use Rattle.edges.specs.Answers.{answered}
+use Rattle.pairs.proofs.KeptPairs.{modelled-iff}
 use Rattle.orders.specs.Verdict as said
 use Rattle.orders.specs.Accepted.{Accepted}
-use Rattle.orders.specs.Starred.{traceOf, Case, cases}
+use Rattle.orders.specs.Starred.{traceOf, Case, cases, Under}
 use Rattle.orders.proofs.Says as owing
 use Rattle.orders.proofs.Starred.{starred}
 use Rattle.verdict.specs.Told.{refusedBy, laid, orderedAs, ordered, Told}
@@ -120,7 +121,14 @@ module _ (m : ℕ) (t : Trace) (r : Verdict) (told : Told t m r) where
 told-as : (m : ℕ) (t : Trace) → So (modelled m) → So (wellFormed t) → (v : said.Verdict) → said.Says (frameOf t) (keptOf m t) v → (r : Verdict) → Told t m r → r ≡ laid v
 told-as m t k w v s r h = let (u, q, e) = h .says k w in e ∙ ap laid (owing.verdict-one (frameOf t) (keptOf m t) u v q s)
 
-pub starred-told : (c : Case) → List·Memᴰ c cases → (r : Verdict) → (Told (traceOf (c .ops)) SC r → r ≡ laid (c .sc)) × (Told (traceOf (c .ops)) TSO r → r ≡ laid (c .tso))
-starred-told c h r =
-    let s = starred c h in
-    (told-as SC (traceOf (c .ops)) refl (s .well) (c .sc) (s .under-sc) r, told-as TSO (traceOf (c .ops)) refl (s .well) (c .tso) (s .under-tso) r)
+pub starred-told : (c : Case) → List·Memᴰ c cases → (i : ℕ) → i < MODELS → (r : Verdict) → Told (traceOf (c .ops)) (SC + i) r → r ≡ laid (getD (c .verdicts) i said.noneLeft)
+starred-told c h i l = let s = starred c h in from SC (c .verdicts) (s .under) (omega arith) (omega (arith, s .every)) i (omega (arith, s .every)) (SC + i) refl
+  where
+    from :
+        (m : ℕ) (vs : List said.Verdict) → Under (traceOf (c .ops)) m vs → 0 < m → m + length vs ≤ suc MODELS → (i : ℕ) → i < length vs → (k : ℕ) → k ≡ m + i → (r : Verdict)
+        → Told (traceOf (c .ops)) k r → r ≡ laid (getD vs i said.noneLeft)
+    from m [] u p b i l k e r q = absurd (omega arith)
+    from m (v ∷ vs) u p b zero l k e r q =
+        let same : k ≡ m = omega arith in
+        told-as m (traceOf (c .ops)) (modelled-iff m .1 (p, omega arith)) (starred c h .well) v (u .0) r (subst (λ (k : ℕ). Told (traceOf (c .ops)) k r) same q)
+    from m (v ∷ vs) u p b (suc i) l k e r q = from (suc m) vs (u .1) (omega arith) (omega arith) i (omega arith) k (omega arith) r q

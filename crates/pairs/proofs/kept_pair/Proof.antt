@@ -19,6 +19,12 @@ fence-requires c κs = search needs
 fence-requires-2 : tie.Need-fence-requires-2
 fence-requires-2 c κs = search needs
 
+address-requires : tie.Need-address-requires
+address-requires c κs = search needs
+
+address-requires-2 : tie.Need-address-requires-2
+address-requires-2 c κs = search needs
+
 kind-requires : tie.Need-kind-requires
 kind-requires c κs = search needs
 
@@ -41,6 +47,8 @@ kept-pair-spec =
     modelled-requires
     fence-requires
     fence-requires-2
+    address-requires
+    address-requires-2
     kind-requires
     kind-requires-2
     kept-by-requires

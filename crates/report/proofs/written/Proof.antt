@@ -1,11 +1,6 @@
 -- `report::written`: what the reader answers, in lines.
-use mathlib.Core.Path.{_≡_, _∙_}
-use Prim.Native.Nat.{_+_, _≤_}
+use mathlib.Core.Path.{_∙_}
 use native.Mathlib.Omega.{arith}
-use lib.ListN.{length}
-use Rattle.verdict.proofs.Numbers.{told-numbers}
-use Rattle.report.specs.Bounds.{LINE, REPORT}
-use Rattle.report.proofs.Wrote.{wrote-then}
 use Rattle.report.proofs.Answered.{answer-good, answer-refused}
 use borrow.Author.Needs.{needs}
 use Rattle.report.proofs.written.Statement.{statement}
@@ -17,33 +12,8 @@ read-requires c κs = search needs
 enum-told : tie.Need-enum-told
 enum-told c = search needs
 
-slice-aggregate-put-line : tie.Need-slice-aggregate-put-line
-slice-aggregate-put-line c = search needs
-
-verdict-of-requires : tie.Need-verdict-of-requires
-verdict-of-requires c κs = search needs
-
-put-line-requires : tie.Need-put-line-requires
-put-line-requires c κs =
-    let v = c .before in
-    (omega arith, omega arith, v .verdict-of .ensures .fits, told-numbers _ _ (v .verdict-of .result) (v .verdict-of .ensures))
-
-slice-aggregate-put-line-2 : tie.Need-slice-aggregate-put-line-2
-slice-aggregate-put-line-2 c = search needs
-
-verdict-of-requires-2 : tie.Need-verdict-of-requires-2
-verdict-of-requires-2 c κs = search needs
-
-put-line-requires-2 : tie.Need-put-line-requires-2
-put-line-requires-2 c κs =
-    let v = c .before in
-    let x = v .before .before .before .before in
-    let s = x .before .before .before .before .before .before .before .before .before .before in
-    let long : length (x .put-line .last .1 .1 .0) ≡ length (s .args .out .now) = x .put-line .ensures .0 .long in
-    let end : x .put-line .result ≤ 0 + LINE = x .put-line .ensures .1 in
-    let all : length (s .args .out .now) ≡ REPORT = s .pre in
-    let room : x .put-line .result + LINE ≤ length (x .put-line .last .1 .1 .0) = omega (arith, long, end, all) in
-    (room, omega arith, v .verdict-of2 .ensures .fits, told-numbers _ _ (v .verdict-of2 .result) (v .verdict-of2 .ensures))
+put-models-requires : tie.Need-put-models-requires
+put-models-requires c κs = search needs
 
 enum-known-answer : tie.Need-enum-known-answer
 enum-known-answer c = search needs
@@ -61,18 +31,16 @@ same-length : tie.Need-same-length
 same-length c = search needs
 
 returns : tie.Need-returns
-returns c = let y = c .before .before in
-    let vt = y .before .before in
-    let x = vt .before .before .before .before in
-    let vs = x .before .before in
-    let k = vs .before .before .before in
+returns c = let p = c .before .before in
+    let k = p .before .before in
     let r = k .before .before in
     let s = r .before .before .before in
+    let l = p .put-models .ensures in
     record {
-      out = _;
-      prints = answer-good (s .args .text .now) (r .read .result) (r .read .ensures) (k .enum-told .given .1) (vs .verdict-of .result) (vt .verdict-of2 .result) (vs .verdict-of .ensures) (vt .verdict-of2 .ensures);
-      wrote = wrote-then (s .args .out .now) 0 _ _ _ _ _ _ (x .put-line .ensures .0) (y .put-line2 .ensures .0);
-      within = omega (arith, x .put-line .ensures .1, y .put-line2 .ensures .1);
+      out = l .out;
+      prints = answer-good (s .args .text .now) (r .read .result) (r .read .ensures) (k .enum-told .given .1) (l .out) (l .lines);
+      wrote = l .wrote;
+      within = l .within;
     }
 
 same-length-2 : tie.Need-same-length-2
@@ -98,12 +66,7 @@ written-spec =
     (tie.spec
     read-requires
     enum-told
-    slice-aggregate-put-line
-    verdict-of-requires
-    put-line-requires
-    slice-aggregate-put-line-2
-    verdict-of-requires-2
-    put-line-requires-2
+    put-models-requires
     enum-known-answer
     number-requires
     wide-requires

@@ -7,7 +7,7 @@ ghost use Rattle.text.specs.Number.{decimal};
 ghost use Rattle.verdict.specs.Told.{Numbers};
 ghost use Rattle.report.specs.Bounds.{SAID, NAME, LINE};
 ghost use Rattle.report.specs.Words.{order, noOrder, noSource, circle, by, refused};
-ghost use Rattle.report.specs.Report.{spaced, saying, lineOf, refusalOf};
+ghost use Rattle.report.specs.Report.{spaced, saying, nameOf, lineOf, refusalOf};
 ghost use Rattle.report.specs.Wrote.{Wrote};
 use crate::pieces::put_decimal;
 use crate::pieces::put_numbers;
@@ -73,12 +73,26 @@ fn put_said(v: Verdict, out: &mut [u8], at: usize) -> usize
     }
 }
 
-// The line of a verdict, under the model's name.
-pub(crate) fn put_line(name: &[u8], v: Verdict, out: &mut [u8], at: usize) -> usize
-    requires { ⌜ (at + LINE ≤ length (now out)) × (length (now name) ≤ NAME) × (v .len ≤ RECORDS) × Numbers (v .operations) ⌝ }
-    ensures { λ r. ⌜ Wrote (now (out .entry)) at (lineOf (now (name .entry)) v) (now (out .exit)) r × (r ≤ at + LINE) ⌝ }
+// The name of a model; none where there is no such model.
+fn put_name(model: u8, out: &mut [u8], at: usize) -> usize
+    requires { ⌜ at + NAME ≤ length (now out) ⌝ }
+    ensures { λ r. ⌜ Wrote (now (out .entry)) at (nameOf model) (now (out .exit)) r × (r ≤ at + NAME) ⌝ }
 {
-    let named = put_word(name, out, at);
+    match model {
+        1 => put_word(b"SC", out, at),
+        2 => put_word(b"TSO", out, at),
+        3 => put_word(b"PSO", out, at),
+        4 => put_word(b"WMO", out, at),
+        _ => at,
+    }
+}
+
+// The line of a verdict, under the model's name.
+pub(crate) fn put_line(model: u8, v: Verdict, out: &mut [u8], at: usize) -> usize
+    requires { ⌜ (at + LINE ≤ length (now out)) × (v .len ≤ RECORDS) × Numbers (v .operations) ⌝ }
+    ensures { λ r. ⌜ Wrote (now (out .entry)) at (lineOf model v) (now (out .exit)) r × (r ≤ at + LINE) ⌝ }
+{
+    let named = put_name(model, out, at);
     let begun = put_word(b": ", out, named);
     let said = put_said(v, out, begun);
     put_word(b"\n", out, said)
