@@ -25,13 +25,13 @@ extern "C" {
 
 /* The answers of every function that gives back a uint8_t. (10 is for traces that were not read from a text: none gives it.) */
 #define WHEELOTTER_DONE 0               /* the text is good; or opened, supposed, taken back */
-#define WHEELOTTER_LONG_TEXT 1          /* over 8,192 bytes */
+#define WHEELOTTER_LONG_TEXT 1          /* over 32,768 bytes */
 #define WHEELOTTER_LONG_LINE 2          /* over 80 bytes */
 #define WHEELOTTER_NO_FORM 3            /* none of the four forms, or no ending line feed */
 #define WHEELOTTER_PAST_BOUND 4         /* thread, address or value past its bound */
 #define WHEELOTTER_TWO_ADDRESSES 5      /* a swap's two addresses differ */
 #define WHEELOTTER_ZERO_WRITTEN 6       /* 0 is written */
-#define WHEELOTTER_MANY_RECORDS 7       /* record 65, counted from 1 */
+#define WHEELOTTER_MANY_RECORDS 7       /* record 257, counted from 1 */
 #define WHEELOTTER_WRITTEN_BEFORE 8     /* value written before at that address */
 #define WHEELOTTER_NO_MODEL 9           /* not 1 to 4 */
 #define WHEELOTTER_NO_SOURCE 11         /* somebody reads what nobody wrote */
@@ -49,14 +49,14 @@ extern "C" {
 #define WHEELOTTER_CONTRADICTED 69      /* the supposed pairs cannot all be */
 
 /* Bounds, lengths in bytes, and places. */
-#define WHEELOTTER_RECORDS 64           /* a trace has at most so many records */
+#define WHEELOTTER_RECORDS 256          /* a trace has at most so many records */
 #define WHEELOTTER_PAIRS 16             /* so many pairs stand in a session at the most */
-#define WHEELOTTER_TEXT 8192            /* a text has at most so many bytes */
-#define WHEELOTTER_REPORT 2232          /* a buffer of this many bytes holds any answer in words */
-#define WHEELOTTER_VERDICT 194          /* a verdict in bytes has so many */
+#define WHEELOTTER_TEXT 32768           /* a text has at most so many bytes */
+#define WHEELOTTER_REPORT 8376          /* a buffer of this many bytes holds any answer in words */
+#define WHEELOTTER_VERDICT 770          /* a verdict in bytes has so many */
 #define WHEELOTTER_OPERATIONS 2         /* where the operations begin in a verdict */
-#define WHEELOTTER_RULES 130            /* where the rules begin in a verdict */
-#define WHEELOTTER_HEAD 579             /* so many bytes of a session stand before its text */
+#define WHEELOTTER_RULES 514            /* where the rules begin in a verdict */
+#define WHEELOTTER_HEAD 8259            /* so many bytes of a session stand before its text */
 #define WHEELOTTER_STANDING 2           /* where the pairs begin in a session */
 #define WHEELOTTER_MARK 66              /* where a session says whether it is contradicted */
 #define WHEELOTTER_TABLE 67             /* where the table of what is held begins in a session */

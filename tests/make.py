@@ -147,18 +147,25 @@ told('read-own-later', ['0 0==1', '0 0:=1'], 'no order, circle 0 1 by 1 2')
 
 # ---- full traces; where every load reads the newest value as the records stand, that is the first order
 
-every = list(range(64))
-told('records-64-stores', ['0 0:=%d' % (i + 1) for i in every], order(every))
-told('records-64-loads', ['%d %d==0' % (i % 8, i % 16) for i in every], order(every))
-told('records-64-swaps', ['%d 0 %d->%d' % (i % 8, i, i + 1) for i in every], order(every))
-told('records-64-fences', ['%d sync' % (i % 8) for i in every], 'order')
+every = list(range(256))
+# an order of all numbers, four times: no answer is longer, 3,699 bytes
+told('records-256-stores', ['0 0:=%d' % (i + 1) for i in every], order(every))
+told('records-256-loads', ['%d %d==0' % (i % 8, i % 16) for i in every], order(every))
+told('records-256-swaps', ['%d 0 %d->%d' % (i % 8, i, i + 1) for i in every], order(every))
+told('records-256-fences', ['%d sync' % (i % 8) for i in every], 'order')
 # each fourth record a fence
-told('records-64-mixed', [f'{i // 4 % 8} ' + ('0:=%d' % (i + 1), '0==%d' % i, '0 %d->%d' % (i - 1, i + 1), 'sync')[i % 4] for i in every],
+told('records-256-mixed', [f'{i // 4 % 8} ' + ('0:=%d' % (i + 1), '0==%d' % i, '0 %d->%d' % (i - 1, i + 1), 'sync')[i % 4] for i in every],
      order(i for i in every if i % 4 != 3))
-# the stores that every load waits for stand below: 32 loads, each of its own store, which is 32 records further
-told('records-64-waiting', ['%d %d==%d' % (i % 4, i % 16, i + 1) for i in range(32)] + ['%d %d:=%d' % (4 + i % 4, i % 16, i + 1) for i in range(32)],
-     order([n for i in range(32) for n in (32 + i, i)]))
+# the stores that every load waits for stand below: 128 loads, each of its own store, which is 128 records further
+told('records-256-waiting', ['%d %d==%d' % (i % 4, i % 16, i + 1) for i in range(128)] + ['%d %d:=%d' % (4 + i % 4, i % 16, i + 1) for i in range(128)],
+     order([n for i in range(128) for n in (128 + i, i)]))
 
+# the longest circle that we know of: it goes through all eight cores, each with two operations; a third of one core would cut it short. Core i stores to
+# address i and then loads the 0 of address i + 1: 2i>2i+1(1), and 2i+1>2i+2(4), the last one's load before the first one's store. A fence between keeps them under every model
+told('ring-of-8', [r for i in range(8) for r in ('%d %d:=1' % (i, i), '%d sync' % i, '%d %d==0' % (i, (i + 1) % 8))],
+     'no order, circle ' + ' '.join(str(3 * i + k) for i in range(8) for k in (0, 2)) + ' by' + ' 1 4' * 8)
+# the longest line that a record can have; nobody wrote what it read
+told('longest-record', ['7 15 65535->65534'], 'no order, no source 0')
 told('threads-8', ['%d %d:=1' % (i, i) for i in range(8)] + ['%d %d==1' % (i, (i + 1) % 8) for i in range(8)], order(range(16)))
 told('addresses-16', ['0 %d:=1' % i for i in range(16)] + ['1 %d==1' % i for i in range(16)], order(range(32)))
 # four pairs of store buffers, each with threads and addresses of its own. SC: the first of four circles of one length. TSO: in each pair the second
@@ -178,22 +185,23 @@ refused('address-16', '0: M[16] := 1\n', 4, 1)
 refused('value-65536', '0: M[0] := 65536\n', 4, 1)
 refused('value-read-65536', '0: M[0] == 65536\n', 4, 1)
 refused('swap-65536', '0: { M[0] == 0; M[0] := 65536 }\n', 4, 1)
-refused('records-65', text_of('0 0:=%d' % (i + 1) for i in range(65)), 7, 65)
-refused('records-65-fence', '0: sync\n' * 65, 7, 65)
-refused('records-65-twice', text_of('0 0:=%d' % (i + 1) for i in range(64)) + '0: M[0] := 1\n', 7, 65)
-refused('records-65-zero', text_of('0 0:=%d' % (i + 1) for i in range(64)) + '0: M[0] := 0\n', 6, 65)
+told('records-65', ['0 0:=%d' % (i + 1) for i in range(65)], order(range(65)))
+refused('records-257', text_of('0 0:=%d' % (i + 1) for i in range(257)), 7, 257)
+refused('records-257-fence', '0: sync\n' * 257, 7, 257)
+refused('records-257-twice', text_of('0 0:=%d' % (i + 1) for i in range(256)) + '0: M[0] := 1\n', 7, 257)
+refused('records-257-zero', text_of('0 0:=%d' % (i + 1) for i in range(256)) + '0: M[0] := 0\n', 6, 257)
 
 # `0: M[0] := ` has 11 bytes: with 69 digits the line has 80. No good line is that long, so its number is past the bound.
 refused('line-80', '0: M[0] := ' + '1' * 69 + '\n', 4, 1)
 refused('line-81', '0: M[0] := ' + '1' * 70 + '\n', 2, 1)
 refused('line-81-second', '0: sync\n' + '0: M[0] := ' + '1' * 70 + '\n', 2, 2)
 
-# 1,024 fences of 8 bytes are 8,192; the 65th is one too many. One byte more, and nothing else counts.
-refused('text-8192', '0: sync\n' * 1024, 7, 65)
-refused('text-8193', '0: sync\n' * 1024 + '0', 1, 0)
-refused('text-16384', '0: sync\n' * 2048, 1, 0)
-refused('text-8193-blank', '\n' * 8193, 1, 0)
-refused('text-8192-blank', '\n' * 8192, 3, 1)
+# 4,096 fences of 8 bytes are 32,768; the 257th is one too many. One byte more, and nothing else counts.
+refused('text-32768', '0: sync\n' * 4096, 7, 257)
+refused('text-32769', '0: sync\n' * 4096 + '0', 1, 0)
+refused('text-65536', '0: sync\n' * 8192, 1, 0)
+refused('text-32769-blank', '\n' * 32769, 1, 0)
+refused('text-32768-blank', '\n' * 32768, 3, 1)
 
 # ---- the other refusals
 

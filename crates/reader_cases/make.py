@@ -52,11 +52,11 @@ good('all-four', b'0: M[3] := 31\n1: M[3] == 31\n2: { M[3] == 31; M[3] := 178 }\
 good('load-of-zero', b'0: M[0] == 0\n', 'load 0 0 0')
 good('swap-of-its-own', b'0: { M[0] == 5; M[0] := 5 }\n', 'swap 0 0 5 5')
 
-# 1: the length of the text comes before all else; 8,192 bytes pass it
-refused('text-8192', b'x' * 80 + b'\n' + b'y' * 8111, 3, 1, b'x' * 80)
-refused('text-8193', b'x' * 80 + b'\n' + b'y' * 8112, 1, 0)
-refused('text-8193-good-lines', stores(8) + b'\n' * (8193 - len(stores(8))), 1, 0)
-refused('text-8192-good-lines', stores(8) + b'\n' * (8192 - len(stores(8))), 3, 9)
+# 1: the length of the text comes before all else; 32,768 bytes pass it
+refused('text-32768', b'x' * 80 + b'\n' + b'y' * 32687, 3, 1, b'x' * 80)
+refused('text-32769', b'x' * 80 + b'\n' + b'y' * 32688, 1, 0)
+refused('text-32769-good-lines', stores(8) + b'\n' * (32769 - len(stores(8))), 1, 0)
+refused('text-32768-good-lines', stores(8) + b'\n' * (32768 - len(stores(8))), 3, 9)
 
 # 2: a line of 80 bytes passes it and one of 81 does not, ended or not, of a form or not
 long80 = b'0: M[0] := ' + b'9' * 69
@@ -114,34 +114,35 @@ refused('sixty-digits', b'0: M[0] := ' + sixty + b'\n', 4, 1, b'0: M[0] := ' + s
 refused('sixty-digits-thread', sixty + b': sync\n', 4, 1, sixty + b': sync')
 refused('wraps-32-bits', b'0: M[0] := 4294967297\n', 4, 1, b'0: M[0] := 4294967297')
 refused('wraps-64-bits', b'0: M[0] := 18446744073709551617\n', 4, 1, b'0: M[0] := 18446744073709551617')
-refused('thread-8-last', stores(63) + b'8: sync\n', 4, 64, b'8: sync')
+refused('thread-8-last', stores(255) + b'8: sync\n', 4, 256, b'8: sync')
 
 # 5: a swap's two addresses
 refused('addresses', b'0: { M[3] == 31; M[4] := 178 }\n', 5, 1, b'0: { M[3] == 31; M[4] := 178 }')
 refused('addresses-before-zero', b'0: { M[3] == 31; M[4] := 0 }\n', 5, 1, b'0: { M[3] == 31; M[4] := 0 }')
 refused('bound-before-addresses', b'0: { M[3] == 31; M[99] := 0 }\n', 4, 1, b'0: { M[3] == 31; M[99] := 0 }')
-refused('addresses-last', stores(63) + b'0: { M[3] == 0; M[4] := 1 }\n', 5, 64, b'0: { M[3] == 0; M[4] := 1 }')
+refused('addresses-last', stores(255) + b'0: { M[3] == 0; M[4] := 1 }\n', 5, 256, b'0: { M[3] == 0; M[4] := 1 }')
 
 # 6: nothing writes 0
 refused('store-zero', b'0: M[3] := 0\n', 6, 1, b'0: M[3] := 0')
 refused('swap-zero', b'0: { M[3] == 1; M[3] := 0 }\n', 6, 1, b'0: { M[3] == 1; M[3] := 0 }')
-refused('store-zero-last', stores(63) + b'0: M[3] := 0\n', 6, 64, b'0: M[3] := 0')
+refused('store-zero-last', stores(255) + b'0: M[3] := 0\n', 6, 256, b'0: M[3] := 0')
 
-# 7: 64 records pass and the 65th does not; 2 to 6 come before it and 8 behind it
-good('records-64', stores(64), *said(64))
-refused('records-65', stores(65), 7, 65, b'0: M[0] := 65')
-refused('records-65-fence', stores(64) + b'0: sync\n', 7, 65, b'0: sync')
-refused('records-65-twice', stores(64) + store(1), 7, 65, b'0: M[0] := 1')
-refused('records-65-zero', stores(64) + b'0: M[0] := 0\n', 6, 65, b'0: M[0] := 0')
-refused('records-65-no-form', stores(64) + b'0: syn\n', 3, 65, b'0: syn')
-refused('records-65-no-feed', stores(64) + b'0: sync', 3, 65, b'0: sync')
+# 7: 256 records pass and the 257th does not; 65, one too many for long, pass too; 2 to 6 come before it and 8 behind it
+good('records-65', stores(65), *said(65))
+good('records-256', stores(256), *said(256))
+refused('records-257', stores(257), 7, 257, b'0: M[0] := 257')
+refused('records-257-fence', stores(256) + b'0: sync\n', 7, 257, b'0: sync')
+refused('records-257-twice', stores(256) + store(1), 7, 257, b'0: M[0] := 1')
+refused('records-257-zero', stores(256) + b'0: M[0] := 0\n', 6, 257, b'0: M[0] := 0')
+refused('records-257-no-form', stores(256) + b'0: syn\n', 3, 257, b'0: syn')
+refused('records-257-no-feed', stores(256) + b'0: sync', 3, 257, b'0: sync')
 
 # 8: a value that was written above at that address; what was read does not count
 refused('twice', store(1) + store(2) + store(1), 8, 3, b'0: M[0] := 1')
 refused('twice-another-thread', store(1) + store(1, 7), 8, 2, b'7: M[0] := 1')
 refused('twice-by-swap', store(1) + b'1: { M[0] == 1; M[0] := 1 }\n', 8, 2, b'1: { M[0] == 1; M[0] := 1 }')
 refused('twice-after-swap', b'1: { M[0] == 0; M[0] := 1 }\n' + store(1), 8, 2, b'0: M[0] := 1')
-refused('twice-last', stores(63) + store(63), 8, 64, b'0: M[0] := 63')
+refused('twice-last', stores(255) + store(255), 8, 256, b'0: M[0] := 255')
 good('same-value-elsewhere', b'0: M[0] := 1\n0: M[1] := 1\n', 'store 0 0 1', 'store 0 1 1')
 good('read-before-written', b'0: M[0] == 1\n0: M[0] := 1\n', 'load 0 0 1', 'store 0 0 1')
 good('nobody-wrote', b'0: M[0] == 7\n', 'load 0 0 7')

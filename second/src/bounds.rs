@@ -1,8 +1,8 @@
 //! The document's bounds, all in one place: a request that moves one changes its line here, and nothing else.
 
 /// A multiple of 8, so that a row of a session's table ends with a byte.
-pub const MOST_RECORDS: usize = 64;
-pub const MOST_TEXT: usize = 8_192;
+pub const MOST_RECORDS: usize = 256;
+pub const MOST_TEXT: usize = 32_768;
 pub const MOST_LINE: usize = 80;
 pub const LAST_THREAD: u64 = 7;
 pub const LAST_ADDRESS: u64 = 15;

@@ -106,12 +106,14 @@ impl Plan {
     }
 }
 
-/// Of so many cases of a family one may be skipped.
-const SHARE: u64 = 50;
+/// Of so many cases of a family one may be skipped, and two of however many.
+const SHARE: u64 = 10;
+const FORGIVEN: u64 = 2;
 
-/// How many skipped cases of a family are failures: none while they are a small share, all of them past it. What nobody looks at is not good.
+/// How many skipped cases of a family are failures: none while they are few, all of them past that, and where nothing else was compared. What nobody looks
+/// at is not good; but of a run of seconds the long families have some dozen cases, and of one in fifty the search here does not find the end.
 pub fn missed(skipped: u64, compared: u64) -> u64 {
-    if skipped * SHARE > skipped + compared {
+    if compared == 0 || skipped > FORGIVEN && skipped * SHARE > skipped + compared {
         skipped
     } else {
         0

@@ -31,8 +31,8 @@ fn cases_go_round_the_families() {
 
 #[test]
 fn few_may_be_skipped() {
-    assert_eq!((missed(0, 0), missed(0, 10), missed(1, 49), missed(2, 200)), (0, 0, 0, 0));
-    assert_eq!((missed(1, 0), missed(1, 48), missed(3, 0), missed(5, 200)), (1, 1, 3, 5));
+    assert_eq!((missed(0, 0), missed(0, 10), missed(2, 10), missed(3, 27), missed(20, 200)), (0, 0, 0, 0, 0));
+    assert_eq!((missed(1, 0), missed(3, 26), missed(3, 0), missed(25, 200)), (1, 3, 3, 25));
 }
 
 #[test]

@@ -1,28 +1,28 @@
 //! Written by bindings/constants from the crates' own constants.
 
 /// A trace has at most so many records.
-pub const RECORDS: usize = 64;
+pub const RECORDS: usize = 256;
 
 /// So many pairs stand in a session at the most.
 pub const PAIRS: usize = 16;
 
 /// A text has at most so many bytes.
-pub const TEXT: usize = 8192;
+pub const TEXT: usize = 32768;
 
 /// A buffer of this many bytes holds any answer in words.
-pub const REPORT: usize = 2232;
+pub const REPORT: usize = 8376;
 
 /// A verdict in bytes has so many.
-pub const VERDICT: usize = 194;
+pub const VERDICT: usize = 770;
 
 /// Where the operations begin in a verdict.
 pub const OPERATIONS: usize = 2;
 
 /// Where the rules begin in a verdict.
-pub const RULES: usize = 130;
+pub const RULES: usize = 514;
 
 /// So many bytes of a session stand before its text.
-pub const HEAD: usize = 579;
+pub const HEAD: usize = 8259;
 
 /// Where the pairs begin in a session.
 pub const STANDING: usize = 2;
@@ -50,7 +50,7 @@ pub const MODELS: [Model; 4] = [Model::Sc, Model::Tso, Model::Pso, Model::Wmo];
 pub enum Answer {
     /// The text is good; or opened, supposed, taken back.
     Done = 0,
-    /// Over 8,192 bytes.
+    /// Over 32,768 bytes.
     LongText = 1,
     /// Over 80 bytes.
     LongLine = 2,
@@ -62,7 +62,7 @@ pub enum Answer {
     TwoAddresses = 5,
     /// 0 is written.
     ZeroWritten = 6,
-    /// Record 65, counted from 1.
+    /// Record 257, counted from 1.
     ManyRecords = 7,
     /// Value written before at that address.
     WrittenBefore = 8,

@@ -113,7 +113,7 @@ fn case(i: usize) {
     let n = os::arg(i, &mut name);
     let path = &name[..n];
     let file = os::open_read(path);
-    let mut text = [0u8; 8193];
+    let mut text = [0u8; 32769];
     let got = io::read_full(file, &mut text);
     libc::close(file);
     answer(path, &text[..got]);

@@ -5,7 +5,7 @@
 use Prim.Native.Nat.{ℕ}
 
 abbrev pub TEXT : ℕ
-TEXT = 8192
+TEXT = 32768
 
 abbrev pub LINE : ℕ
 LINE = 80

@@ -18,7 +18,7 @@ use trace::empty;
 use turns::turned;
 
 // How many bytes a text has at the most, and a line without its feed; specs/Bounds.antt has the same numbers.
-const TEXT: usize = 8192;
+const TEXT: usize = 32768;
 
 const LINE: usize = 80;
 

@@ -119,7 +119,7 @@ fn case(i: usize) {
     let path = &name[..n];
     say(path);
     let file = os::open_read(path);
-    let mut text = [0u8; 8193];
+    let mut text = [0u8; 32769];
     let got = io::read_full(file, &mut text);
     libc::close(file);
     answer(&text[..got]);

@@ -20,8 +20,11 @@ use trace::RECORDS;
 use trace::Trace;
 use verdict::tell::verdict_of;
 
-// How many bytes an answer has at the most: a line for each model, with its words and two lists of numbers.
-pub const REPORT: usize = (MODELS as usize) * (46 + 8 * RECORDS);
+// How many digits a record's number has at the most.
+const DIGITS: usize = 3;
+
+// How many bytes an answer has at the most: a line for each model, with its words and two lists of numbers, a space before each.
+pub const REPORT: usize = (MODELS as usize) * (46 + 2 * (1 + DIGITS) * RECORDS);
 
 // The lines of a trace, one for each model, in a buffer that has room for them.
 fn put_models(t: Trace, out: &mut [u8]) -> usize

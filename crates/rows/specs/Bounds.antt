@@ -10,7 +10,7 @@ abbrev pub WIDTH : ℕ
 WIDTH = 64
 
 abbrev pub WORDS : ℕ
-WORDS = 1
+WORDS = 4
 
 abbrev pub CELLS : ℕ
 CELLS = RECORDS * WORDS

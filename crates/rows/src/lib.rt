@@ -21,7 +21,7 @@ ghost use Rattle.rows.specs.AddRow.{addRowOf};
 pub const WIDTH: usize = 64;
 
 // The words of a row: enough for RECORDS bits.
-pub const WORDS: usize = 1;
+pub const WORDS: usize = 4;
 
 // The words of all rows.
 pub const CELLS: usize = trace::RECORDS * WORDS;

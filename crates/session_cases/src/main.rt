@@ -341,7 +341,7 @@ fn disordered(k: Stack, way: usize) -> Stack {
     if way == 8 {
         d.pairs[0] = Pair {
             first: 0,
-            second: 64,
+            second: trace::RECORDS,
         };
         d.count = 1;
     }
@@ -420,7 +420,7 @@ fn pick(seed: u64, n: u64) -> u64 {
 fn by_chance(talk: Talk, a: u64, b: u64, c: u64) -> Talk {
     let t = talk.trace;
     let n = long(t.len);
-    let bound = if n < 64 { n + 2 } else { 66 };
+    let bound = if n < 256 { n + 2 } else { 258 };
     let what = pick(a, 16);
     let x = size(pick(b, bound));
     let y = size(pick(c, bound));
@@ -575,12 +575,12 @@ fn named(i: usize) -> i32 {
 
 // The trace that argument i names, and the script that argument j names.
 fn case(i: usize, j: usize) {
-    let mut text = [0u8; 8193];
+    let mut text = [0u8; 32769];
     let file = named(i);
     let n = io::read_full(file, &mut text);
     libc::close(file);
     say(b" ");
-    let mut script = [0u8; 8193];
+    let mut script = [0u8; 32769];
     let file = named(j);
     let m = io::read_full(file, &mut script);
     libc::close(file);

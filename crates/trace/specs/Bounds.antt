@@ -7,7 +7,7 @@
 use Prim.Native.Nat.{ℕ}
 
 abbrev pub RECORDS : ℕ
-RECORDS = 64
+RECORDS = 256
 
 abbrev pub THREADS : ℕ
 THREADS = 8

@@ -6,7 +6,7 @@ ghost use Rattle.trace.specs.Trace.{empty, pushed, first};
 pub mod form;
 
 // The bounds of document 01, in this one place; specs/Bounds.antt has the same numbers for the definitions.
-pub const RECORDS: usize = 64;
+pub const RECORDS: usize = 256;
 
 pub const THREADS: u8 = 8;
 

@@ -6,7 +6,7 @@ use libc::STDERR_FILENO;
 use libc::STDOUT_FILENO;
 
 // One byte more than a text may have, so that a text that is too long shows itself.
-const ROOM: usize = 8193;
+const ROOM: usize = 32769;
 
 // Prints the answer to a text.
 fn answer(text: &[u8]) {
@@ -19,7 +19,7 @@ fn answer(text: &[u8]) {
 
 // Reads the text and answers it. Where a read failed nothing is judged: half a trace may be good where the whole one is not.
 fn judge() {
-    let mut text: [u8; ROOM] = [0; 8193];
+    let mut text: [u8; ROOM] = [0; 32769];
     let got = input::fill(&mut text);
     let n = got.count;
     if got.whole {
