@@ -8,7 +8,7 @@ use lib.ListN.{length, getD}
 use Rattle.laws.specs.Latest.{lastOf}
 use Rattle.laws.proofs.Latest.{last-on, last-off, last-all}
 use Rattle.trace.specs.Meaning.{frameOf}
-use Rattle.orders.specs.Valid.{visible?, seen}
+use Rattle.orders.specs.Seen.{visible?, seen}
 use Rattle.orders.proofs.Sited.{visible-at}
 use borrow.Author.Needs.{needs}
 use Rattle.orders.proofs.judging.seen.Statement.{statement}
