@@ -2,7 +2,7 @@
 --
 --   sited-none, sited-write, sited-skip, sited-all == nothing looked at; one place more, of a record or of a number past the end; everything
 --   out-sited, early-sited                         == the lowest pair out of turn, over the array
---   visible-at                                     == what a judge tests at one place of a list
+--   visible-at, visible-by                         == what a judge tests at one place of a list; the same from the two records
 use mathlib.Core.Path.{_≡_, refl, sym, ap, ap₂, _∙_}
 use mathlib.Core.Logic.{_≢_, inl, inr}
 use mathlib.Core.Bool.{Bool, not, _&&_, _||_}
@@ -19,10 +19,11 @@ use Rattle.laws.proofs.Tests.{eq?}
 use Rattle.laws.proofs.Places.{pos-here, pos-later}
 use Rattle.laws.proofs.Congruence.{any-cong}
 use Rattle.trace.specs.Bounds.{RECORDS}
+use Rattle.trace.specs.Trace.{at}
 use Rattle.trace.specs.Meaning.{frameOf}
 use Rattle.trace.specs.declared.Trace.{Trace}
 use Rattle.rules.specs.Tests.{writer?}
-use Rattle.orders.specs.Seen.{visible?}
+use Rattle.orders.specs.Seen.{visible?, visibleBy}
 use Rattle.orders.specs.Sited.{Sited, SitedFrom, outAt, earlyAt}
 use Rattle.orders.specs.Judged.{out?, early?}
 use Rattle.orders.proofs.Found.{lowest-cong}
@@ -80,6 +81,10 @@ module _ (xs : List ℕ) where
     early-sited = lowest-cong n 0 (λ x _ p. any-cong n (λ y q. out-at x y (omega arith) q))
 
 module _ (t : Trace) where
+  pub visible-by : (x L : ℕ) (before : Bool) → visibleBy (t .len) (at t x) x (at t L) L before ≡ (writer? (frameOf t) x L && (before || frameOf t .earlier x L))
+  unfolding visibleBy writer? frameOf
+  visible-by x L before = refl
+
   pub visible-at : (xs s : List ℕ) → Sited xs s → (i L : ℕ) → L < RECORDS → (b : Bool)
       → (writer? (frameOf t) (getD xs i 0) L && (ltb i (getD s L 0) || frameOf t .earlier (getD xs i 0) L)) ≡ b → visible? (frameOf t) xs i L ≡ b
   unfolding visible?

@@ -1,6 +1,5 @@
 // The judge of a proposed order: a list of any length from anyone.
 ghost use mathlib.Core.Path.{_≡_};
-ghost use mathlib.Core.Bool.{true, _&&_, _||_};
 ghost use mathlib.Core.Option.{none};
 ghost use Prim.Native.Nat.{_<_, _≤_};
 ghost use lib.ListN.{length, replicate};
@@ -9,9 +8,8 @@ ghost use Rattle.laws.specs.Lowest.{lowest};
 ghost use Rattle.trace.specs.Bounds.{RECORDS};
 ghost use Rattle.trace.specs.Meaning.{frameOf};
 ghost use Rattle.pairs.specs.Kept.{keptOf};
-ghost use Rattle.rules.specs.Tests.{writer?};
 ghost use Rattle.orders.specs.Ready.{operations};
-ghost use Rattle.orders.specs.Seen.{seen};
+ghost use Rattle.orders.specs.Seen.{visibleBy, seen};
 ghost use Rattle.orders.specs.Sited.{Sited, outAt, earlyAt};
 ghost use Rattle.orders.specs.MissingOf.{found};
 ghost use Rattle.orders.specs.Judged.{bad?, twice?, wrong?, turnsBy, judgedBy, judgedOf};
@@ -19,6 +17,7 @@ use crate::sources::Found;
 use pairs::kept_pair;
 use pairs::modelled;
 use pairs::op_at;
+use trace::Op;
 use trace::RECORDS;
 use trace::Trace;
 use trace::first;
@@ -154,13 +153,10 @@ fn out_of_turn(t: Trace, model: u8, sites: &[usize]) -> Found
     Found::Nothing
 }
 
-// Whether a load's value may be taken from record x, told whether x stands before the load.
-fn visible(t: Trace, x: usize, load: usize, before: bool) -> bool
-    ensures { λ r. ⌜ r ≡ (writer? (frameOf t) x load && (before || frameOf t .earlier x load)) ⌝ }
+// Whether a load's value may be taken from record x of n, told both records and whether x stands before the load. No trace is handed on in the loop.
+fn visible(n: usize, a: Op, x: usize, b: Op, load: usize, before: bool) -> bool
+    ensures { λ r. ⌜ r ≡ visibleBy n a x b load before ⌝ }
 {
-    let n = t.len;
-    let a = op_at(t, x);
-    let b = op_at(t, load);
     let writer = (x < n) & a.writes() & (a.address() == b.address()) & (x != load);
     writer & (before | ((x < load) & (a.thread() == b.thread())))
 }
@@ -171,12 +167,15 @@ fn seen(t: Trace, list: &[u16], sites: &[usize], load: usize) -> u16
     ensures { λ r. ⌜ r ≡ seen (frameOf t) (now (list .entry)) load ⌝ }
 {
     let place = sites[load];
-    let mut value = first(t, op_at(t, load).address());
+    let n = t.len;
+    let b = op_at(t, load);
+    let mut value = first(t, b.address());
     let mut i = 0;
     while i < list.len() {
         let x = list[i] as usize;
-        if visible(t, x, load, i < place) {
-            value = op_at(t, x).written();
+        let a = op_at(t, x);
+        if visible(n, a, x, b, load, i < place) {
+            value = a.written();
         }
         i += 1;
     }

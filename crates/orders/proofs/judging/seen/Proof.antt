@@ -1,24 +1,26 @@
 -- `orders::judging::seen`: the value is what the latest visible writer of the places passed wrote.
-use mathlib.Core.Path.{_≡_, sym, _∙_}
+use mathlib.Core.Path.{_≡_, sym, ap₂, _∙_}
 use mathlib.Core.Logic.{⊎-elim}
 use mathlib.Core.Bool.{true, false}
 use Prim.Native.Nat.{_-_, _≤_}
 use native.Mathlib.Omega.{arith}
+use lib.Dec.{ltb}
 use lib.ListN.{length, getD}
 use Rattle.laws.specs.Latest.{lastOf}
 use Rattle.laws.proofs.Latest.{last-on, last-off, last-all}
 use Rattle.trace.specs.Meaning.{frameOf}
-use Rattle.orders.specs.Seen.{visible?, seen}
-use Rattle.orders.proofs.Sited.{visible-at}
+use Rattle.trace.specs.declared.Op.{Op}
+use Rattle.orders.specs.Seen.{visible?, visibleBy, seen}
+use Rattle.orders.proofs.Sited.{visible-at, visible-by}
 use borrow.Author.Needs.{needs}
 use Rattle.orders.proofs.judging.seen.Statement.{statement}
 use Rattle.orders.proofs.judging.seen.Tie as tie
 
 abbrev Inv-loop : tie.InvT-loop
-Inv-loop t list sites load place value₀ i₀ value i = (i ≤ length list) × (value ≡ lastOf (λ j. visible? (frameOf t) list j load) (λ j. frameOf t .written (getD list j 0)) (frameOf t .first (frameOf t .address load)) i)
+Inv-loop t list sites load place n b value₀ i₀ value i = (i ≤ length list) × (value ≡ lastOf (λ j. visible? (frameOf t) list j load) (λ j. frameOf t .written (getD list j 0)) (frameOf t .first (frameOf t .address load)) i)
 
 abbrev μ-loop : tie.MeasureT-loop
-μ-loop t list sites load place value₀ i₀ value i = length list - i
+μ-loop t list sites load place n b value₀ i₀ value i = length list - i
 
 mul-place : tie.Need-mul-place Inv-loop μ-loop
 mul-place c = omega arith
@@ -66,13 +68,21 @@ loop-less c = search needs
 loop-again : tie.Need-loop-again Inv-loop μ-loop
 unfolding frameOf
 loop-again c =
-    let s = c .before .before .before .before .before .before .before .before .before .before .before in
-    let l = c .before .before .before .before .loop in
-    let at = visible-at (s .args .t) (s .args .list .now) (s .args .sites .now) (s .pre .1) (l .i) (s .args .load) (s .pre .0) in (
+    let v = c .before in
+    let o = v .before in
+    let h = o .before .before .before in
+    let p = h .before .before .before in
+    let s = p .before .before .before .before in
+    let l = h .loop in
+    let a = s .args in
+    let x = getD (a .list .now) (l .i) 0 in
+    let before = ltb (l .i) (getD (a .sites .now) (a .load) 0) in
+    let e = v .visible .ensures ∙ ap₂ (λ (r q : Op). visibleBy (a .t .len) r x q (a .load) before) (o .op-at2 .ensures) (p .op-at .ensures) ∙ visible-by (a .t) x (a .load) before in
+    let at = visible-at (a .t) (a .list .now) (a .sites .now) (s .pre .1) (l .i) (a .load) (s .pre .0) in (
       omega arith,
       ⊎-elim
-          (λ w. last-on _ _ _ (l .i) (at true (sym (c .before .visible .ensures) ∙ w .0 .taken)) (cc))
-          (λ w. last-off _ _ _ (l .i) (at false (sym (c .before .visible .ensures) ∙ w .0 .left)) (w .1 ∙ l .inv .1))
+          (λ w. last-on _ _ _ (l .i) (at true (sym e ∙ w .0 .taken)) (cc))
+          (λ w. last-off _ _ _ (l .i) (at false (sym e ∙ w .0 .left)) (w .1 ∙ l .inv .1))
           (c .if1 .came),
     )
 
@@ -95,8 +105,8 @@ seen-spec =
     mul-x
     shared-slice-read-x
     cast-x
-    visible-requires
     op-at-requires-2
+    visible-requires
     written-requires
     add-i
     loop-less
