@@ -3,16 +3,20 @@
 --   length-told, number-told, repeat-told, turns-told == the length is wrong; a number is bad; a record stands twice; each operation stands there once
 --   pair-told, value-told, yes-told  == then a pair is out of turn; a value is wrong; neither
 --   no-pair                          == a record that begins a pair out of turn has one
+--   good-numbers                     == where no number is bad, each is that of a record
 --   nine-told, ten-told, judged-told == the model does not exist; the trace is not well formed; neither
 use mathlib.Core.Path.{_≡_, refl, sym, ap, _∙_}
-use mathlib.Core.Bool.{false, So}
+use mathlib.Core.Logic.{inl, inr}
+use mathlib.Core.Bool.{false, So, false≢true}
 use mathlib.Core.List.{List}
 use mathlib.Core.Option.{Option, none, some}
 use Prim.Native.Nat.{ℕ, _≤_}
-use lib.Dec.{eqb}
-use lib.ListN.{length}
+use native.Mathlib.Omega.{arith}
+use lib.Dec.{eqb, ltb}
+use lib.ListN.{length, getD}
 use Rattle.laws.specs.Relation.{Table}
 use Rattle.laws.specs.Lowest.{lowest}
+use Rattle.laws.proofs.Tests.{test, so-lt}
 use Rattle.trace.specs.Bounds.{RECORDS}
 use Rattle.trace.specs.Frame.{Frame}
 use Rattle.trace.specs.WellFormed.{wellFormed}
@@ -20,11 +24,18 @@ use Rattle.trace.specs.Meaning.{frameOf}
 use Rattle.trace.specs.declared.Trace.{Trace}
 use Rattle.pairs.specs.Kept.{modelled, keptOf}
 use Rattle.orders.specs.Ready.{operations}
-use Rattle.orders.specs.Sited.{Sited, outAt, earlyAt}
+use Rattle.orders.specs.Sited.{Sited, Numbers, outAt, earlyAt}
 use Rattle.orders.specs.Judged.{bad?, twice?, wrong?, pairOf, turnsBy, judgedBy, judgedOf}
 use Rattle.orders.specs.declared.judging.Judgement.the-variants.{Yes, NoModel, NotWellFormed, WrongLength, BadNumber, Repeat, OutOfTurn, WrongValue}
-use Rattle.orders.proofs.Found.{lowest-at}
+use Rattle.orders.proofs.Found.{lowest-at, lowest-none}
 use Rattle.orders.proofs.Sited.{out-sited, early-sited}
+
+pub good-numbers : (t : Trace) → t .len ≤ RECORDS → (xs : List ℕ) → lowest (bad? (frameOf t) xs) (length xs) 0 ≡ none → Numbers xs
+unfolding bad? frameOf
+good-numbers t fits xs e i l = elim (test (ltb (getD xs i 0) (t .len))) [
+  | inl u ↦ omega (arith, so-lt {m = getD xs i 0} {n = t .len} .0 u)
+  | inr z ↦ absurd (false≢true (sym (rw z at (lowest-none (bad? (frameOf t) xs) (length xs) e i l))))
+]
 
 module _ (f : Frame) (K : Table) (xs : List ℕ) where
   pub length-told : eqb (length xs) (operations f) ≡ false → WrongLength ≡ judgedBy f K xs

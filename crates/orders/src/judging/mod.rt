@@ -10,7 +10,7 @@ ghost use Rattle.trace.specs.Meaning.{frameOf};
 ghost use Rattle.pairs.specs.Kept.{keptOf};
 ghost use Rattle.orders.specs.Ready.{operations};
 ghost use Rattle.orders.specs.Seen.{visibleBy, seen};
-ghost use Rattle.orders.specs.Sited.{Sited, outAt, earlyAt};
+ghost use Rattle.orders.specs.Sited.{Sited, Numbers, outAt, earlyAt};
 ghost use Rattle.orders.specs.MissingOf.{found};
 ghost use Rattle.orders.specs.Judged.{bad?, twice?, wrong?, turnsBy, judgedBy, judgedOf};
 use crate::sources::Found;
@@ -125,7 +125,8 @@ fn out_from(t: Trace, model: u8, x: usize, sites: &[usize]) -> Found
     let mut passed = false;
     let mut y = x;
     while y < n {
-        let b = op_at(t, y);
+        let record = t.records[y];
+        let b = record.op;
         if sites[y] <= place {
             if kept_pair(model, a, b, (x < y) & (y < n), passed) {
                 return Found::At(y);
@@ -153,7 +154,7 @@ fn out_of_turn(t: Trace, model: u8, sites: &[usize]) -> Found
     Found::Nothing
 }
 
-// Whether a load's value may be taken from record x of n, told both records and whether x stands before the load. No trace is handed on in the loop.
+// Whether a load's value may be taken from record x of n, told both records and whether x stands before the load.
 fn visible(n: usize, a: Op, x: usize, b: Op, load: usize, before: bool) -> bool
     ensures { λ r. ⌜ r ≡ visibleBy n a x b load before ⌝ }
 {
@@ -161,9 +162,9 @@ fn visible(n: usize, a: Op, x: usize, b: Op, load: usize, before: bool) -> bool
     writer & (before | ((x < load) & (a.thread() == b.thread())))
 }
 
-// The value that a load must read.
+// The value that a load must read. The loop reads records itself: to hand the trace on is to copy it.
 fn seen(t: Trace, list: &[u16], sites: &[usize], load: usize) -> u16
-    requires { ⌜ (load < RECORDS) × Sited (now list) (now sites) ⌝ }
+    requires { ⌜ (load < RECORDS) × Sited (now list) (now sites) × Numbers (now list) ⌝ }
     ensures { λ r. ⌜ r ≡ seen (frameOf t) (now (list .entry)) load ⌝ }
 {
     let place = sites[load];
@@ -173,7 +174,8 @@ fn seen(t: Trace, list: &[u16], sites: &[usize], load: usize) -> u16
     let mut i = 0;
     while i < list.len() {
         let x = list[i] as usize;
-        let a = op_at(t, x);
+        let record = t.records[x];
+        let a = record.op;
         if visible(n, a, x, b, load, i < place) {
             value = a.written();
         }
@@ -184,7 +186,7 @@ fn seen(t: Trace, list: &[u16], sites: &[usize], load: usize) -> u16
 
 // The lowest load or swap that reads another value than it must read.
 fn wrong_value(t: Trace, list: &[u16], sites: &[usize]) -> Found
-    requires { ⌜ (t .len ≤ RECORDS) × Sited (now list) (now sites) ⌝ }
+    requires { ⌜ (t .len ≤ RECORDS) × Sited (now list) (now sites) × Numbers (now list) ⌝ }
     ensures { λ r. ⌜ r ≡ found (lowest (wrong? (frameOf t) (now (list .entry))) (t .len) 0) ⌝ }
 {
     let n = t.len;
@@ -203,7 +205,7 @@ fn wrong_value(t: Trace, list: &[u16], sites: &[usize]) -> Found
 
 // What a list is that has each operation once: the kept pairs come before the values.
 fn judged_turns(t: Trace, model: u8, list: &[u16]) -> Judgement
-    requires { ⌜ t .len ≤ RECORDS ⌝ }
+    requires { ⌜ (t .len ≤ RECORDS) × Numbers (now list) ⌝ }
     ensures { λ r. ⌜ r ≡ turnsBy (frameOf t) (keptOf model t) (now (list .entry)) ⌝ }
 {
     let len = list.len();

@@ -8,7 +8,7 @@ use Rattle.trace.specs.Meaning.{frameOf}
 use Rattle.pairs.specs.Kept.{keptOf}
 use Rattle.orders.specs.Ready.{operations}
 use Rattle.orders.proofs.Found.{some-lowest, none-lowest}
-use Rattle.orders.proofs.Told.{length-told, number-told, repeat-told, turns-told}
+use Rattle.orders.proofs.Told.{length-told, number-told, repeat-told, turns-told, good-numbers}
 use borrow.Author.Needs.{needs}
 use Rattle.orders.proofs.judging.judged.Statement.{statement}
 use Rattle.orders.proofs.judging.judged.Tie as tie
@@ -62,7 +62,11 @@ enum-told-2 : tie.Need-enum-told-2
 enum-told-2 c = search needs
 
 judged-turns-requires : tie.Need-judged-turns-requires
-judged-turns-requires c κs = search needs
+judged-turns-requires c κs =
+    let e = c .before .before in
+    let b = e .before .before .before in
+    let s = b .before .before .before .before in
+    (s .pre, good-numbers (s .args .t) (s .pre) (s .args .list .now) (none-lowest _ _ (b .bad-place .ensures) (e .enum-told .given .1)))
 
 returns-4 : tie.Need-returns-4
 unfolding frameOf

@@ -30,7 +30,7 @@ out-from-requires c κs =
     let x = c .before .before in
     let o = x .before .before in
     let i = o .before .before .before in
-    (lowest-at _ _ _ (some-lowest _ _ (o .out-of-turn .ensures) (x .x .given .1)) .0, i .before .before .before .pre, i .site .ensures .long)
+    (lowest-at _ _ _ (some-lowest _ _ (o .out-of-turn .ensures) (x .x .given .1)) .0, i .before .before .before .pre .0, i .site .ensures .long)
 
 enum-known-y : tie.Need-enum-known-y
 enum-known-y c = search needs
@@ -62,7 +62,7 @@ returns c =
     let o = x .before .before in
     let i = o .before .before .before in
     let s = i .before .before .before in
-    pair-told (frameOf (s .args .t)) (keptOf (s .args .model) (s .args .t)) (s .args .list .now) _ (i .site .ensures) (s .pre) _ _
+    pair-told (frameOf (s .args .t)) (keptOf (s .args .model) (s .args .t)) (s .args .list .now) _ (i .site .ensures) (s .pre .0) _ _
     (some-lowest _ _ (o .out-of-turn .ensures) (x .x .given .1)) (some-lowest _ _ (p .out-from .ensures) (y .y .given .1))
 
 returns-2 : tie.Need-returns-2
@@ -73,7 +73,7 @@ returns-2 c =
     let o = x .before .before in
     let i = o .before .before .before in
     let s = i .before .before .before in
-    no-pair (frameOf (s .args .t)) (keptOf (s .args .model) (s .args .t)) (s .args .list .now) _ (i .site .ensures) (s .pre) _
+    no-pair (frameOf (s .args .t)) (keptOf (s .args .model) (s .args .t)) (s .args .list .now) _ (i .site .ensures) (s .pre .0) _
     (some-lowest _ _ (o .out-of-turn .ensures) (x .x .given .1)) (none-lowest _ _ (p .out-from .ensures) (c .enum-told .given .1))
 
 returns-3 : tie.Need-returns-3
@@ -85,7 +85,7 @@ returns-3 c =
     let o = e .before .before in
     let i = o .before .before .before in
     let s = i .before .before .before in
-    value-told (frameOf (s .args .t)) (keptOf (s .args .model) (s .args .t)) (s .args .list .now) _ (i .site .ensures) (s .pre)
+    value-told (frameOf (s .args .t)) (keptOf (s .args .model) (s .args .t)) (s .args .list .now) _ (i .site .ensures) (s .pre .0)
     (none-lowest _ _ (o .out-of-turn .ensures) (e .enum-told2 .given .1)) _ (some-lowest _ _ (v .wrong-value .ensures) (l .load .given .1))
 
 returns-4 : tie.Need-returns-4
@@ -96,7 +96,7 @@ returns-4 c =
     let o = e .before .before in
     let i = o .before .before .before in
     let s = i .before .before .before in
-    yes-told (frameOf (s .args .t)) (keptOf (s .args .model) (s .args .t)) (s .args .list .now) _ (i .site .ensures) (s .pre)
+    yes-told (frameOf (s .args .t)) (keptOf (s .args .model) (s .args .t)) (s .args .list .now) _ (i .site .ensures) (s .pre .0)
     (none-lowest _ _ (o .out-of-turn .ensures) (e .enum-told2 .given .1)) (none-lowest _ _ (v .wrong-value .ensures) (c .enum-told3 .given .1))
 
 pub judged-turns-spec : {M : Type 1} → statement M

@@ -1,5 +1,5 @@
 -- `orders::judging::out_from`: x makes no pair out of turn with the records passed, and it is known whether a fence of its thread was passed.
-use mathlib.Core.Path.{_≡_, _∙_}
+use mathlib.Core.Path.{_≡_, refl, _∙_}
 use mathlib.Core.Logic.{⊎-elim}
 use Prim.Native.Nat.{_-_}
 use native.Mathlib.Omega.{arith}
@@ -14,10 +14,10 @@ use Rattle.orders.proofs.judging.out_from.Statement.{statement}
 use Rattle.orders.proofs.judging.out_from.Tie as tie
 
 abbrev Inv-loop : tie.InvT-loop
-Inv-loop t model x sites n a place passed₀ y₀ passed y = (passed ≡ fenced t x y) × NoneBelow (outAt (keptOf model t) sites x) y
+Inv-loop model x sites t n a place passed₀ y₀ passed y = (passed ≡ fenced t x y) × NoneBelow (outAt (keptOf model t) sites x) y
 
 abbrev μ-loop : tie.MeasureT-loop
-μ-loop t model x sites n a place passed₀ y₀ passed y = n - y
+μ-loop model x sites t n a place passed₀ y₀ passed y = n - y
 
 op-at-requires : tie.Need-op-at-requires Inv-loop μ-loop
 op-at-requires c κs = search needs
@@ -29,10 +29,13 @@ shared-slice-read-place : tie.Need-shared-slice-read-place Inv-loop μ-loop
 shared-slice-read-place c = let p = c .before .before .before .pre in omega arith
 
 loop-holds : tie.Need-loop-holds Inv-loop μ-loop
-loop-holds c = let a = c .before .before .before .args in (not-fenced (a .t) (a .x), none-earlier (a .model) (a .t) (a .sites .now) (a .x))
+loop-holds c = let a = c .before .before .before .args in (not-fenced (a .t1) (a .x), none-earlier (a .model) (a .t1) (a .sites .now) (a .x))
 
-op-at-requires-2 : tie.Need-op-at-requires-2 Inv-loop μ-loop
-op-at-requires-2 c κs = search needs
+mul-record : tie.Need-mul-record Inv-loop μ-loop
+mul-record c = search needs
+
+element-copy-out-record : tie.Need-element-copy-out-record Inv-loop μ-loop
+element-copy-out-record c = search needs
 
 mul-if1 : tie.Need-mul-if1 Inv-loop μ-loop
 mul-if1 c = omega arith
@@ -47,7 +50,7 @@ returns : tie.Need-returns Inv-loop μ-loop
 returns c =
     let l = c .before .before .before .before .before .before .loop in
     let a = c .before .before .before .before .before .before .before .before .before .before .args in
-    let k = kept-at (a .model) (a .t) (a .x) (l .y) (c .before .before .before .before .before .before .before .before .op-at .ensures) (c .before .before .before .before .op-at2 .ensures) (l .inv .0) (c .before .kept-pair .ensures) ∙ c .if2 .taken in
+    let k = kept-at (a .model) (a .t1) (a .x) (l .y) (c .before .before .before .before .before .before .before .before .op-at .ensures) refl (l .inv .0) (c .before .kept-pair .ensures) ∙ c .if2 .taken in
     at-lowest _ _ (l .y) (l .inv .1) (c .before .before .before .before .before .loop-test .taken) (out-here _ (a .sites .now) (a .x) (l .y) k (c .before .before .if1 .taken))
 
 fence-requires : tie.Need-fence-requires Inv-loop μ-loop
@@ -70,10 +73,10 @@ loop-again c =
     let j = c .before .before .before in
     let l = j .before .before .before .before .loop in
     let a = j .before .before .before .before .before .before .before .before .args in (
-      cc (fenced-more (a .t) (a .x) (l .y)),
+      cc (fenced-more (a .t1) (a .x) (l .y)),
       more-below _ (l .y) (l .inv .1)
           (⊎-elim
-          (λ w. out-idle _ (a .sites .now) (a .x) (l .y) (kept-at (a .model) (a .t) (a .x) (l .y) (j .before .before .before .before .before .before .op-at .ensures) (j .before .before .op-at2 .ensures) (l .inv .0) (w .1 .ensures) ∙ w .2 .left))
+          (λ w. out-idle _ (a .sites .now) (a .x) (l .y) (kept-at (a .model) (a .t1) (a .x) (l .y) (j .before .before .before .before .before .before .op-at .ensures) refl (l .inv .0) (w .1 .ensures) ∙ w .2 .left))
           (λ w. out-right _ (a .sites .now) (a .x) (l .y) (w .left))
           (j .if1 .came)),
     )
@@ -91,7 +94,8 @@ out-from-spec =
     mul-place
     shared-slice-read-place
     loop-holds
-    op-at-requires-2
+    mul-record
+    element-copy-out-record
     mul-if1
     shared-slice-read-if1
     kept-pair-requires

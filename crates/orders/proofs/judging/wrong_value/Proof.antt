@@ -36,7 +36,7 @@ read-requires : tie.Need-read-requires Inv-loop μ-loop
 read-requires c κs = search needs
 
 seen-requires : tie.Need-seen-requires Inv-loop μ-loop
-seen-requires c κs = let p = c .before .before .before .before .before .before .before .before .pre in (omega arith, p .1)
+seen-requires c κs = let p = c .before .before .before .before .before .before .before .before .pre in (omega arith, p .1, p .2)
 
 returns : tie.Need-returns Inv-loop μ-loop
 unfolding frameOf
