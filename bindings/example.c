@@ -67,7 +67,16 @@ static void print_verdict(uint8_t model) {
         printf("refused %u", answer);
     }
     const uint16_t list[] = {1, 2, 3, 0};
-    printf("; is 1 2 3 0 an order: %s\n", wheelotter_judge(text, text_len, model, list, 4) ? "yes" : "no");
+    uint8_t why[WHEELOTTER_JUDGEMENT];
+    answer = wheelotter_judge(text, text_len, model, list, 4, why, sizeof why);
+    printf("; is 1 2 3 0 an order: ");
+    if (answer == WHEELOTTER_VALID) {
+        printf("yes\n");
+    } else if (answer == WHEELOTTER_OUT_OF_TURN) {
+        printf("no, %u comes before %u\n", number(why), number(why + 2));
+    } else {
+        printf("no, %u\n", answer);
+    }
 }
 
 static const char *word(uint8_t answer) {

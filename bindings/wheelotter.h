@@ -6,7 +6,6 @@
 #ifndef WHEELOTTER_H
 #define WHEELOTTER_H
 
-#include <stdbool.h>
 #include <stddef.h>
 #include <stdint.h>
 
@@ -47,6 +46,12 @@ extern "C" {
 #define WHEELOTTER_HELD 67              /* the first before the second is held */
 #define WHEELOTTER_NOT_HELD 68          /* it is not */
 #define WHEELOTTER_CONTRADICTED 69      /* the supposed pairs cannot all be */
+#define WHEELOTTER_VALID 70             /* the list is a valid order */
+#define WHEELOTTER_WRONG_LENGTH 71      /* it has not as many numbers as there are operations */
+#define WHEELOTTER_BAD_NUMBER 72        /* a number in it is a fence or past the end */
+#define WHEELOTTER_REPEAT 73            /* a record stands in it twice */
+#define WHEELOTTER_OUT_OF_TURN 74       /* a kept pair stands the wrong way round */
+#define WHEELOTTER_WRONG_VALUE 75       /* a record would read another value */
 
 /* Bounds, lengths in bytes, and places. */
 #define WHEELOTTER_RECORDS 256          /* a trace has at most so many records */
@@ -60,6 +65,7 @@ extern "C" {
 #define WHEELOTTER_STANDING 2           /* where the pairs begin in a session */
 #define WHEELOTTER_MARK 66              /* where a session says whether it is contradicted */
 #define WHEELOTTER_TABLE 67             /* where the table of what is held begins in a session */
+#define WHEELOTTER_JUDGEMENT 4          /* what the judge names has so many bytes */
 
 /* Functions. */
 
@@ -91,8 +97,17 @@ size_t wheelotter_end(const uint8_t *text, size_t text_len);
  *   WHEELOTTER_NONE_LEFT                  every order was ruled out; none is named. */
 uint8_t wheelotter_verdict(const uint8_t *text, size_t text_len, uint8_t model, uint8_t *out, size_t out_len);
 
-/* Whether a list of record numbers is a valid order of the trace that a text writes, under a model. A text that is turned back has none. */
-bool wheelotter_judge(const uint8_t *text, size_t text_len, uint8_t model, const uint16_t *list, size_t list_len);
+/* Whether a list of record numbers is a valid order of the trace that a text writes, under a model; or which condition fails first. Gives back
+ *   1 to 8, or else WHEELOTTER_NO_MODEL   the text is turned back, or there is no such model; out stays as it was;
+ *   WHEELOTTER_NO_ROOM                    else out has fewer than WHEELOTTER_JUDGEMENT bytes, and stays as it was;
+ *   WHEELOTTER_VALID                      it is;
+ *   WHEELOTTER_WRONG_LENGTH               it has not as many numbers as there are operations;
+ *   WHEELOTTER_BAD_NUMBER                 a fence or past the end: the first place, from 0;
+ *   WHEELOTTER_REPEAT                     the lowest record that stands in it twice;
+ *   WHEELOTTER_OUT_OF_TURN                of the kept pairs the wrong way round the lowest first record, and with it the lowest second;
+ *   WHEELOTTER_WRONG_VALUE                the lowest record that would read another value.
+ * The place or the record, of a pair both, are laid into out, two bytes each; unused ones are 0, and the rest of out stays. */
+uint8_t wheelotter_judge(const uint8_t *text, size_t text_len, uint8_t model, const uint16_t *list, size_t list_len, uint8_t *out, size_t out_len);
 
 /* A session in bytes, WHEELOTTER_HEAD and as many more as its text has:
  *   0                      the model

@@ -2,7 +2,7 @@
 //! 1 2 3 0 is an order, and a short talk with a session under TSO.
 
 use std::io::{self, Read};
-use wheelotter::{check, judge, report, verdict, Answer, Asked, Model, Session, Verdict, MODELS};
+use wheelotter::{check, judge, report, verdict, Answer, Asked, Judgement, Model, Session, Verdict, MODELS};
 
 fn main() -> io::Result<()> {
     let mut text = Vec::new();
@@ -45,8 +45,13 @@ fn print_verdict(text: &[u8], model: Model) {
         Ok(Verdict::NoneLeft) => "none left".to_string(),
         Err(refusal) => format!("refused {}", refusal.answer as u8),
     };
-    let yes = judge(text, model, &[1, 2, 3, 0]);
-    println!("model {}: {told}; is 1 2 3 0 an order: {}", model as u8, if yes { "yes" } else { "no" });
+    let judged = match judge(text, model, &[1, 2, 3, 0]) {
+        Ok(Judgement::Valid) => "yes".to_string(),
+        Ok(Judgement::OutOfTurn(first, second)) => format!("no, {first} comes before {second}"),
+        Ok(other) => format!("no, {other:?}"),
+        Err(refusal) => format!("no, {}", refusal.answer as u8),
+    };
+    println!("model {}: {told}; is 1 2 3 0 an order: {judged}", model as u8);
 }
 
 fn done(answer: Result<(), Answer>) -> &'static str {

@@ -10,7 +10,15 @@ mod linked {
         pub fn wheelotter_start(text: *const u8, text_len: usize) -> usize;
         pub fn wheelotter_end(text: *const u8, text_len: usize) -> usize;
         pub fn wheelotter_verdict(text: *const u8, text_len: usize, model: u8, out: *mut u8, out_len: usize) -> u8;
-        pub fn wheelotter_judge(text: *const u8, text_len: usize, model: u8, list: *const u16, list_len: usize) -> bool;
+        pub fn wheelotter_judge(
+            text: *const u8,
+            text_len: usize,
+            model: u8,
+            list: *const u16,
+            list_len: usize,
+            out: *mut u8,
+            out_len: usize,
+        ) -> u8;
         pub fn wheelotter_open(text: *const u8, text_len: usize, model: u8, session: *mut u8, session_len: usize) -> u8;
         pub fn wheelotter_suppose(session: *mut u8, session_len: usize, x: usize, y: usize) -> u8;
         pub fn wheelotter_take_back(session: *mut u8, session_len: usize) -> u8;
@@ -55,9 +63,11 @@ pub fn verdict(text: &[u8], model: u8, out: &mut [u8]) -> u8 {
     unsafe { linked::wheelotter_verdict(text.as_ptr(), text.len(), model, out.as_mut_ptr(), out.len()) }
 }
 
-/// Whether a list of record numbers is a valid order of the trace that a text writes, under a model.
-pub fn judge(text: &[u8], model: u8, list: &[u16]) -> bool {
-    unsafe { linked::wheelotter_judge(text.as_ptr(), text.len(), model, list.as_ptr(), list.len()) }
+/// Whether a list of record numbers is a valid order of the trace that a text writes, under a model, or which condition fails first; the place or
+/// the records concerned in the first [`JUDGEMENT`](crate::JUDGEMENT) bytes of `out`, two each, the low one first. Where the text or the model is
+/// turned back, or else `out` is shorter, it stays as it was.
+pub fn judge(text: &[u8], model: u8, list: &[u16], out: &mut [u8]) -> u8 {
+    unsafe { linked::wheelotter_judge(text.as_ptr(), text.len(), model, list.as_ptr(), list.len(), out.as_mut_ptr(), out.len()) }
 }
 
 /// Opens a session on a text in the first [`HEAD`](crate::HEAD) and as many bytes more as the text has; the rest of `session` stays. Where the text,

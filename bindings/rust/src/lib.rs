@@ -84,9 +84,36 @@ pub fn verdict(text: &[u8], model: Model) -> Result<Verdict, Refusal<'_>> {
     }
 }
 
-/// Whether a list of record numbers is a valid order of the trace that a text writes. A text that is turned back has none.
-pub fn judge(text: &[u8], model: Model, list: &[u16]) -> bool {
-    entries::judge(text, model as u8, list)
+/// Whether a list is an order, or which condition fails first.
+#[derive(Clone, Copy, Debug, PartialEq, Eq)]
+pub enum Judgement {
+    Valid,
+    /// Not as many numbers as there are operations.
+    WrongLength,
+    /// The first place, from 0, of a fence or a number past the end.
+    BadNumber(u16),
+    /// The lowest record that stands there twice.
+    Repeat(u16),
+    /// Of the kept pairs the wrong way round the lowest first record, and with it the lowest second.
+    OutOfTurn(u16, u16),
+    /// The lowest record that would read another value.
+    WrongValue(u16),
+}
+
+/// Whether a list of record numbers is a valid order of the trace that a text writes.
+pub fn judge<'a>(text: &'a [u8], model: Model, list: &[u16]) -> Result<Judgement, Refusal<'a>> {
+    let mut out = [0; JUDGEMENT];
+    let answer = Answer::of(entries::judge(text, model as u8, list, &mut out));
+    let [first, second] = [[out[0], out[1]], [out[2], out[3]]].map(u16::from_le_bytes);
+    match answer {
+        Answer::Valid => Ok(Judgement::Valid),
+        Answer::WrongLength => Ok(Judgement::WrongLength),
+        Answer::BadNumber => Ok(Judgement::BadNumber(first)),
+        Answer::Repeat => Ok(Judgement::Repeat(first)),
+        Answer::OutOfTurn => Ok(Judgement::OutOfTurn(first, second)),
+        Answer::WrongValue => Ok(Judgement::WrongValue(first)),
+        _ => check(text).map(|()| unreachable!("a list is judged under every model")),
+    }
 }
 
 /// What a session knows of two operations.

@@ -33,6 +33,9 @@ pub const MARK: usize = 66;
 /// Where the table of what is held begins in a session.
 pub const TABLE: usize = 67;
 
+/// What the judge names has so many bytes.
+pub const JUDGEMENT: usize = 4;
+
 /// What orders a memory may show.
 #[derive(Clone, Copy, Debug, PartialEq, Eq)]
 pub enum Model {
@@ -94,11 +97,23 @@ pub enum Answer {
     NotHeld = 68,
     /// The supposed pairs cannot all be.
     Contradicted = 69,
+    /// The list is a valid order.
+    Valid = 70,
+    /// It has not as many numbers as there are operations.
+    WrongLength = 71,
+    /// A number in it is a fence or past the end.
+    BadNumber = 72,
+    /// A record stands in it twice.
+    Repeat = 73,
+    /// A kept pair stands the wrong way round.
+    OutOfTurn = 74,
+    /// A record would read another value.
+    WrongValue = 75,
 }
 
 /// In the order of their numbers.
 #[rustfmt::skip]
-pub(crate) const ANSWERS: [Answer; 23] = [
+pub(crate) const ANSWERS: [Answer; 29] = [
     Answer::Done,
     Answer::LongText,
     Answer::LongLine,
@@ -122,4 +137,10 @@ pub(crate) const ANSWERS: [Answer; 23] = [
     Answer::Held,
     Answer::NotHeld,
     Answer::Contradicted,
+    Answer::Valid,
+    Answer::WrongLength,
+    Answer::BadNumber,
+    Answer::Repeat,
+    Answer::OutOfTurn,
+    Answer::WrongValue,
 ];

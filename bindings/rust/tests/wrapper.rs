@@ -1,7 +1,7 @@
 //! Each kind of answer through the safe functions, worked out from document 01.
 
-use wheelotter::{check, entries, judge, report, verdict, Answer, Asked, Model, Refusal, Session, Verdict};
-use wheelotter::{HEAD, MARK, MODELS, OPERATIONS, PAIRS, RECORDS, REPORT, RULES, STANDING, TABLE, TEXT, VERDICT};
+use wheelotter::{check, entries, judge, report, verdict, Answer, Asked, Judgement, Model, Refusal, Session, Verdict};
+use wheelotter::{HEAD, JUDGEMENT, MARK, MODELS, OPERATIONS, PAIRS, RECORDS, REPORT, RULES, STANDING, TABLE, TEXT, VERDICT};
 
 const BUFFERS: &[u8] = b"0: M[0] := 1\n0: M[1] == 0\n1: M[1] := 1\n1: M[0] == 0\n";
 const NO_SOURCE: &[u8] = b"0: M[0] := 1\n0: sync\n0: M[0] == 2\n";
@@ -34,7 +34,19 @@ fn texts() {
     assert_eq!(check(b"0: sync\n8: sync\n"), Err(Refusal { answer: Answer::PastBound, line: 2, part: b"8: sync" }));
     assert_eq!(check(&[b'\n'; TEXT + 1]), Err(Refusal { answer: Answer::LongText, line: 0, part: b"" }));
     assert_eq!(check(b"0").map_err(|refusal| refusal.to_string()), Err("refused 3 line 1".to_string()));
-    assert!(judge(BUFFERS, Model::Tso, &[1, 2, 3, 0]) && !judge(BUFFERS, Model::Sc, &[1, 2, 3, 0]));
+}
+
+#[test]
+fn judgements() {
+    let judged = |model, list: &[u16]| judge(BUFFERS, model, list).expect("a good text");
+    assert_eq!(judged(Model::Tso, &[1, 2, 3, 0]), Judgement::Valid);
+    assert_eq!(judged(Model::Sc, &[1, 2, 3, 0]), Judgement::OutOfTurn(0, 1));
+    assert_eq!(judged(Model::Sc, &[1, 2, 3]), Judgement::WrongLength);
+    assert_eq!(judged(Model::Sc, &[1, 2, 256, 4]), Judgement::BadNumber(2));
+    assert_eq!(judged(Model::Sc, &[3, 2, 3, 2]), Judgement::Repeat(2));
+    assert_eq!(judged(Model::Tso, &[0, 1, 2, 3]), Judgement::WrongValue(3));
+    assert_eq!(judge(b"\n", Model::Sc, &[]).map_err(|refusal| refusal.answer), Err(Answer::NoForm));
+    assert_eq!(entries::judge(BUFFERS, 1, &[], &mut [0; JUDGEMENT - 1]), Answer::NoRoom as u8);
 }
 
 #[test]

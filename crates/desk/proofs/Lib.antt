@@ -1,5 +1,7 @@
 -- Laws of the entries.
+pub mod Ranked
 pub mod Spelling
+pub mod Judging
 pub mod Laying
 pub mod Tabled
 pub mod Keeping

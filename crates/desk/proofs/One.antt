@@ -5,10 +5,10 @@
 use mathlib.Core.Path.{sym, _∙_}
 use denote.Ref.{now}
 use Rattle.laws.specs.Settles.{Settles, Leaves}
-use Rattle.laws.proofs.Tests.{test-one}
 use Rattle.session.proofs.Forcing.{closings-some}
 use Rattle.report.proofs.One.{reported-one}
 use Rattle.desk.proofs.Spelling.{answered-one}
+use Rattle.desk.proofs.Judging.{judged-one}
 use Rattle.desk.proofs.texts.wheelotter_report.Reads as report
 use Rattle.desk.proofs.texts.wheelotter_report.Kinds as report-kinds
 use Rattle.desk.proofs.texts.wheelotter_number.Reads as number
@@ -21,8 +21,8 @@ use Rattle.desk.proofs.texts.wheelotter_end.Reads as end
 use Rattle.desk.proofs.texts.wheelotter_end.Kinds as end-kinds
 use Rattle.desk.proofs.verdicts.wheelotter_verdict.Reads as verdict
 use Rattle.desk.proofs.verdicts.wheelotter_verdict.Kinds as verdict-kinds
-use Rattle.desk.proofs.verdicts.wheelotter_judge.Reads as judge
-use Rattle.desk.proofs.verdicts.wheelotter_judge.Kinds as judge-kinds
+use Rattle.desk.proofs.judgements.wheelotter_judge.Reads as judge
+use Rattle.desk.proofs.judgements.wheelotter_judge.Kinds as judge-kinds
 use Rattle.desk.proofs.sessions.wheelotter_open.Reads as opens
 use Rattle.desk.proofs.sessions.wheelotter_open.Kinds as open-kinds
 use Rattle.desk.proofs.sessions.wheelotter_suppose.Reads as suppose
@@ -56,8 +56,13 @@ verdict-settles κs a x y s t p q = answered-one (now (a .0)) (a .1 .0) (now (a 
 pub verdict-leaves : Leaves 2 verdict-kinds.ps verdict-kinds.r (λ κs s. now (s .1 .1 .0)) verdict.Post
 verdict-leaves κs a x y s t p q = answered-one (now (a .0)) (a .1 .0) (now (a .1 .1 .0)) (now (s .1 .1 .0)) (now (t .1 .1 .0)) x y p q .1
 
-pub judge-settles : Settles 2 judge-kinds.ps judge-kinds.r judge.Post
-judge-settles κs a x y s t p q = test-one p q
+pub judge-settles : Settles 3 judge-kinds.ps judge-kinds.r judge.Post
+judge-settles κs a x y s t p q =
+    judged-one (now (a .0)) (a .1 .0) (now (a .1 .1 .0)) (now (a .1 .1 .1 .0)) (now (s .1 .1 .1 .0)) (now (t .1 .1 .1 .0)) x y p q .0
+
+pub judge-leaves : Leaves 3 judge-kinds.ps judge-kinds.r (λ κs s. now (s .1 .1 .1 .0)) judge.Post
+judge-leaves κs a x y s t p q =
+    judged-one (now (a .0)) (a .1 .0) (now (a .1 .1 .0)) (now (a .1 .1 .1 .0)) (now (s .1 .1 .1 .0)) (now (t .1 .1 .1 .0)) x y p q .1
 
 pub open-settles : Settles 2 open-kinds.ps open-kinds.r opens.Post
 open-settles κs a x y s t p q = p .0 ∙ sym (q .0)

@@ -5,15 +5,14 @@
 --   spelled-laid             == the bytes of a verdict, as the code lays them
 --   source-below             == a record that lacks a source is one of the trace
 --   laid-down                == a count, operations and rules put one behind the other
---   told-refused, told-model, told-short, told-good == what is answered and left in the buffer: of a refused text, of no model, of too short a buffer, and else
+--   told-good                == what is answered and left in the buffer, where nothing is wrong
 --   answered-one             == no second answer, and no second state of the buffer
 use mathlib.Core.Path.{_≡_, refl, sym, ap, _∙_}
 use mathlib.Core.Logic.{inl, inr}
-use mathlib.Core.Bool.{So, false, false≢true}
+use mathlib.Core.Bool.{So}
 use mathlib.Core.List.{List, [], _∷_, _++_}
 use Prim.Native.Nat.{ℕ, _+_, _*_, _/_, _%_, _≤_, _<_}
 use native.Mathlib.Numerals.{add-one}
-use native.Mathlib.Decide.{decLt}
 use native.Mathlib.Omega.{arith}
 use lib.ListN.{length, getD, take, drop, length-append}
 use lib.Seq.{take-suc}
@@ -35,10 +34,11 @@ use Rattle.verdict.specs.Told.{laid, Told}
 use Rattle.verdict.specs.declared.Outcome.{Outcome}
 use Rattle.verdict.specs.declared.Outcome.the-variants.{NoSource, Circle, Order, NoneLeft, NoModel, NotWellFormed}
 use Rattle.verdict.specs.declared.Verdict.{Verdict}
-use Rattle.desk.specs.Answers.{NO-ROOM, NO-MODEL, answerTo, outcomeNumber}
+use Rattle.desk.specs.Answers.{answerTo, outcomeNumber}
 use Rattle.desk.specs.Text.{numberOf}
 use Rattle.desk.specs.Verdict.{VERDICT, wide, bytesOf, Answered}
 use Rattle.desk.specs.Spelled.{lacking, spelledAs, spelled, laidOut}
+use Rattle.desk.proofs.Ranked.{ranked-says, ranked-one}
 
 pub wide-long : (ns : List ℕ) → length (wide ns) ≡ 2 * length ns
 unfolding wide
@@ -110,65 +110,25 @@ module _ (os rs : List ℕ) (n : ℕ) (long : length os ≡ RECORDS) (long′ : 
       ∙ put-front (wide (n ∷ os) ++ rs) before (omega arith)
       ∙ ap (λ (k : ℕ). (wide (n ∷ os) ++ rs) ++ drop k before) all
 
-module _ (text : List ℕ) (m : ℕ) (before : List ℕ) where
-  pub told-refused : 0 < numberOf text → Answered text m before before (numberOf text)
-  told-refused w = record {
-    wrong = λ _. (refl, refl);
-    model = λ z. absurd (omega (arith, z));
-    short = λ z. absurd (omega (arith, z));
-    says = λ z. absurd (omega (arith, z));
-  }
-
-  module _ (z : numberOf text ≡ 0) where
-    pub told-model : modelled m ≡ false → Answered text m before before NO-MODEL
-    told-model e = record {
-      wrong = λ w. absurd (omega (arith, z));
-      model = λ _ _. (refl, refl);
-      short = λ _ k. absurd (false≢true (sym e ∙ k));
-      says = λ _ k. absurd (false≢true (sym e ∙ k));
-    }
-
-    module _ (k : So (modelled m)) where
-      pub told-short : length before < VERDICT → Answered text m before before NO-ROOM
-      told-short h = record {
-        wrong = λ w. absurd (omega (arith, z));
-        model = λ _ e. absurd (false≢true (sym e ∙ k));
-        short = λ _ _ _. (refl, refl);
-        says = λ _ _ l. absurd (omega arith);
-      }
-
-      pub told-good : VERDICT ≤ length before → (r : Verdict) → Told (readText text .trace) m r
-          → Answered text m before (laidOut (spelled r) ++ drop VERDICT before) (outcomeNumber (r .outcome))
-      told-good h r t =
-          let (v, s, e) = t .says k (read-well text) in
-          record {
-            wrong = λ w. absurd (omega (arith, z));
-            model = λ _ e. absurd (false≢true (sym e ∙ k));
-            short = λ _ _ l. absurd (omega arith);
-            says = λ _ _ _. (
-              v,
-              s,
-              ap (λ (r : Verdict). outcomeNumber (r .outcome)) e ∙ answer-laid v,
-              ap (λ (r : Verdict). laidOut (spelled r) ++ drop VERDICT before) e ∙ ap (λ (bytes : List ℕ). bytes ++ drop VERDICT before) (spelled-laid v),
-            );
-          }
+pub told-good : (text : List ℕ) (m : ℕ) (before : List ℕ) → numberOf text ≡ 0 → So (modelled m) → VERDICT ≤ length before → (r : Verdict) → Told (readText text .trace) m r
+    → Answered text m before (laidOut (spelled r) ++ drop VERDICT before) (outcomeNumber (r .outcome))
+told-good text m before z k h r t =
+    let (v, s, e) = t .says k (read-well text) in
+    ranked-says text m VERDICT _ before z k h _ _ (
+      v,
+      s,
+      ap (λ (r : Verdict). outcomeNumber (r .outcome)) e ∙ answer-laid v,
+      ap (λ (r : Verdict). laidOut (spelled r) ++ drop VERDICT before) e ∙ ap (λ (bytes : List ℕ). bytes ++ drop VERDICT before) (spelled-laid v),
+    )
 
 pub answered-one : (text : List ℕ) (m : ℕ) (before a b : List ℕ) (r s : ℕ) → Answered text m before a r → Answered text m before b s → (r ≡ s) × (a ≡ b)
-answered-one text m before a b r s p q = elim (decLt 0 (numberOf text)) [
-  | yes g ↦ both (p .wrong g) (q .wrong g)
-  | no g ↦ elim (test (modelled m)) [
-    | inr e ↦ both (p .model (omega arith) e) (q .model (omega arith) e)
-    | inl k ↦ elim (decLt (length before) VERDICT) [
-      | yes h ↦ both (p .short (omega arith) k h) (q .short (omega arith) k h)
-      | no h ↦
-          let t = readText text .trace in
-          let (v, x, e, f) = p .says (omega arith) k (omega arith) in
-          let (u, y, i, j) = q .says (omega arith) k (omega arith) in
-          let same = verdict-one (frameOf t) (keptOf m t) u v y x in
-          both (e, f) (i ∙ ap answerTo same, j ∙ ap (λ (v : said.Verdict). bytesOf v ++ drop VERDICT before) same)
-    ]
-  ]
-]
+answered-one text m before = ranked-one text m VERDICT _ before (λ r s a b p q. one p q)
   where
-    both : {x y n : ℕ} {xs ys zs : List ℕ} → (x ≡ n) × (xs ≡ zs) → (y ≡ n) × (ys ≡ zs) → (x ≡ y) × (xs ≡ ys)
-    both (p, q) (r, s) = (p ∙ sym r, q ∙ sym s)
+    t : Trace
+    t = readText text .trace
+
+    one : {r s : ℕ} {a b : List ℕ} → (v : said.Verdict) × said.Says (frameOf t) (keptOf m t) v × (r ≡ answerTo v) × (a ≡ bytesOf v ++ drop VERDICT before)
+        → (v : said.Verdict) × said.Says (frameOf t) (keptOf m t) v × (s ≡ answerTo v) × (b ≡ bytesOf v ++ drop VERDICT before) → (r ≡ s) × (a ≡ b)
+    one (v, x, e, f) (u, y, i, j) =
+        let same = verdict-one (frameOf t) (keptOf m t) v u x y in
+        (e ∙ ap answerTo same ∙ sym i, f ∙ ap (λ (v : said.Verdict). bytesOf v ++ drop VERDICT before) same ∙ sym j)

@@ -3,7 +3,9 @@
 --   NO-ROOM                        == the lent buffer is too short
 --   ORDER, CIRCLE, NONE-LEFT       == a verdict
 --   HELD, NOT-HELD, CONTRADICTED   == what a session says when it is asked
---   NO-MODEL, NO-SOURCE            == document 01's numbers of a model that does not exist, and of a missing source
+--   VALID                          == the judge: a valid order
+--   WRONG-LENGTH, BAD-NUMBER, REPEAT, OUT-OF-TURN, WRONG-VALUE == the condition that a list fails first
+--   NO-MODEL, NOT-WELL-FORMED, NO-SOURCE == document 01's numbers of a model that does not exist, of a trace that is not well formed, and of a missing source
 --   answerTo v                     == the answer to a verdict: a missing source is document 01's 11
 --   outcomeNumber o                == the same, by its outcome as the code holds it
 use Prim.Native.Nat.{ℕ}
@@ -33,8 +35,29 @@ NOT-HELD = 68
 abbrev pub CONTRADICTED : ℕ
 CONTRADICTED = 69
 
+abbrev pub VALID : ℕ
+VALID = 70
+
+abbrev pub WRONG-LENGTH : ℕ
+WRONG-LENGTH = 71
+
+abbrev pub BAD-NUMBER : ℕ
+BAD-NUMBER = 72
+
+abbrev pub REPEAT : ℕ
+REPEAT = 73
+
+abbrev pub OUT-OF-TURN : ℕ
+OUT-OF-TURN = 74
+
+abbrev pub WRONG-VALUE : ℕ
+WRONG-VALUE = 75
+
 abbrev pub NO-MODEL : ℕ
 NO-MODEL = 9
+
+abbrev pub NOT-WELL-FORMED : ℕ
+NOT-WELL-FORMED = 10
 
 abbrev pub NO-SOURCE : ℕ
 NO-SOURCE = 11

@@ -1,6 +1,7 @@
 -- What the entries answer, in numbers.
 pub mod Text
 pub mod Answers
+pub mod Ranked
 pub mod Verdict
 pub mod Spelled
 pub mod Heard

@@ -2,6 +2,7 @@
 
 mod answers;
 mod heads;
+pub mod judgements;
 pub mod sessions;
 pub mod texts;
 pub mod verdicts;

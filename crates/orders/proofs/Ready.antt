@@ -42,7 +42,7 @@ use Rattle.rules.proofs.Sound.{source-latest, chains-sound, edge-sound, held-so
 use Rattle.rules.proofs.Orders.{either}
 use Rattle.rules.proofs.Clear.{clear-valid}
 use Rattle.orders.specs.Ready.{operations, Ready, Disciplined, Served, Guide}
-use Rattle.orders.proofs.Valid.{at-most-one, operation-there}
+use Rattle.orders.proofs.Seen.{at-most-one, operation-there}
 
 module _ (f : Frame) (p : List ℕ) (c : ℕ) (s : List ℕ) (o : Once f (p ++ c ∷ s)) where
   pub not-before : count c p ≡ 0

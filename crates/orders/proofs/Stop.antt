@@ -29,7 +29,7 @@ use Rattle.trace.specs.Order.{Once, Valid}
 use Rattle.rules.specs.Missing.{Sourced}
 use Rattle.orders.specs.Ready.{Ready, Guide}
 use Rattle.orders.specs.Stop.{Harmless, Stop, unread, covered, Failed}
-use Rattle.orders.proofs.Valid.{at-most-one}
+use Rattle.orders.proofs.Seen.{at-most-one}
 use Rattle.orders.proofs.Ready.{before-in, ready-same, valid-ready, valid-steps, valid-disciplined, full-valid}
 
 module _ (f : Frame) (g : Good f) (K : Table) (H : Rel) (G : Guide f K H) where

@@ -1,6 +1,6 @@
 -- The valid orders of a trace, over any table of kept pairs, and what a verdict is.
 pub mod Verdict
-pub mod Valid
+pub mod Seen
 pub mod Ready
 pub mod Stop
 pub mod Seek
@@ -9,3 +9,5 @@ pub mod Starred
 pub mod Sited
 pub mod Accepted
 pub mod MissingOf
+pub mod Judged
+pub mod Judges

@@ -11,7 +11,7 @@ pub enum Call {
     Start,
     End,
     Verdict { model: u8, room: usize },
-    Judge { model: u8, list: Vec<u16> },
+    Judge { model: u8, list: Vec<u16>, room: usize },
     Open { model: u8, room: usize },
     Suppose { x: usize, y: usize },
     TakeBack,
@@ -45,7 +45,7 @@ impl Call {
         }
     }
 
-    /// What comes back is a row of the table of answers, or yes and no: few enough to be counted one by one.
+    /// What comes back is a row of the table of answers: few enough to be counted one by one.
     pub fn answers_by_table(&self) -> bool {
         !matches!(self, Call::Report { .. } | Call::Line | Call::Start | Call::End)
     }
@@ -57,7 +57,7 @@ impl fmt::Display for Call {
         match self {
             Call::Report { room } => write!(f, " into {room} bytes"),
             Call::Verdict { model, room } => write!(f, " under {model} into {room} bytes"),
-            Call::Judge { model, list } => write!(f, " under {model} of {list:?}"),
+            Call::Judge { model, list, room } => write!(f, " under {model} of {list:?} into {room} bytes"),
             Call::Open { model, room } => write!(f, " under {model} in {room} bytes"),
             Call::Suppose { x, y } | Call::Ask { x, y } => write!(f, " {x} {y}"),
             Call::Number | Call::Line | Call::Start | Call::End | Call::TakeBack => Ok(()),

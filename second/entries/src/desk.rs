@@ -9,7 +9,7 @@ pub trait Desk: Sync {
     fn start(&self, text: &[u8]) -> usize;
     fn end(&self, text: &[u8]) -> usize;
     fn verdict(&self, text: &[u8], model: u8, out: &mut [u8]) -> u8;
-    fn judge(&self, text: &[u8], model: u8, list: &[u16]) -> bool;
+    fn judge(&self, text: &[u8], model: u8, list: &[u16], out: &mut [u8]) -> u8;
     fn open(&self, text: &[u8], model: u8, session: &mut [u8]) -> u8;
     fn suppose(&self, session: &mut [u8], x: usize, y: usize) -> u8;
     fn take_back(&self, session: &mut [u8]) -> u8;
@@ -38,8 +38,8 @@ impl Desk for Proved {
     fn verdict(&self, text: &[u8], model: u8, out: &mut [u8]) -> u8 {
         entries::verdict(text, model, out)
     }
-    fn judge(&self, text: &[u8], model: u8, list: &[u16]) -> bool {
-        entries::judge(text, model, list)
+    fn judge(&self, text: &[u8], model: u8, list: &[u16], out: &mut [u8]) -> u8 {
+        entries::judge(text, model, list, out)
     }
     fn open(&self, text: &[u8], model: u8, session: &mut [u8]) -> u8 {
         entries::open(text, model, session)

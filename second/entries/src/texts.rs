@@ -4,7 +4,7 @@ use crate::call::{Call, LAST_MODEL, OTHER_MODELS};
 use crate::case::Case;
 use crate::desk::Desk;
 use crate::lent::Lent;
-use second::desk::{lay_verdict, number_at, NONE_LEFT, OPERATIONS_AT, ORDER, RULES_AT, VERDICT};
+use second::desk::{lay_verdict, number_at, JUDGEMENT, NONE_LEFT, OPERATIONS_AT, ORDER, RULES_AT, VERDICT};
 use second::lists::drawn;
 use second::report::NOT_KNOWN;
 use second::trace::{Model, Trace, MODELS, MOST_RECORDS};
@@ -92,9 +92,12 @@ fn judged<D: Desk>(case: &mut Case<'_, D>) -> bool {
     for _ in 0..3 {
         let list = list(case);
         let model = if case.chance.percent(90) { case.chance.between(1, MODELS) as u8 } else { *case.chance.of(&OTHER_MODELS) };
-        let wanted = case.page.judge(model, &list);
-        let got = case.desk.judge(case.text, model, &list);
-        same &= case.same_answer(Call::Judge { model, list }, wanted.into(), got.into());
+        let room = if case.chance.percent(85) { JUDGEMENT + case.chance.below(3) } else { case.chance.below(JUDGEMENT) };
+        let mut mine = Lent::drawn(&mut case.chance, room);
+        let mut theirs = mine.clone();
+        let wanted = case.page.judgement(model, &list, mine.bytes_mut());
+        let got = case.desk.judge(case.text, model, &list, theirs.bytes_mut());
+        same &= case.same(Call::Judge { model, list, room }, (wanted.into(), &mine), (got.into(), &theirs));
     }
     same
 }

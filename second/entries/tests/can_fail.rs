@@ -5,7 +5,7 @@ use entries::desk::Desk;
 use second::desk::{
     self, head_of, number_at, place_of, put_number, Page, CONTRADICTED_AT, DONE, HEAD, OPERATIONS_AT, PAIRS_AT, RULES_AT, VERDICT,
 };
-use second::desk::{CONTRADICTED, NONE_LEFT, NOT_HELD, NO_ROOM, ORDER};
+use second::desk::{BAD_NUMBER, CONTRADICTED, JUDGEMENT, NONE_LEFT, NOT_HELD, NO_ROOM, ORDER, REPEAT, VALID, WRONG_LENGTH, WRONG_VALUE};
 use second::families::FAMILIES;
 use second::session::{self, Session, MOST_PAIRS};
 use second::trace::Model;
@@ -17,7 +17,7 @@ struct Faulty(&'static str);
 
 const RIGHT: &str = "none";
 
-const FAULTS: [&str; 50] = [
+const FAULTS: [&str; 57] = [
     "report: a letter too far",
     "report: short memory written",
     "report: length of one line",
@@ -43,6 +43,13 @@ const FAULTS: [&str; 50] = [
     "judge: repeats",
     "judge: no model",
     "judge: low bytes of numbers",
+    "judge: room first",
+    "judge: what lies behind is wiped",
+    "judge: the pair turned round",
+    "judge: places from 1",
+    "judge: the first repeat",
+    "judge: the first wrong value",
+    "judge: a bad number is a wrong length",
     "open: one byte less is enough",
     "open: room before the text",
     "open: refused, and too short is written",
@@ -231,24 +238,52 @@ impl Desk for Faulty {
         }
     }
 
-    fn judge(&self, text: &[u8], model: u8, list: &[u16]) -> bool {
+    fn judge(&self, text: &[u8], model: u8, list: &[u16], out: &mut [u8]) -> u8 {
         let page = self.page(text);
-        let mut seen: Vec<u16> = Vec::new();
+        let mut seen = list.to_vec();
         if self.is("judge: repeats") {
+            seen.clear();
             list.iter().for_each(|x| {
                 if !seen.contains(x) {
                     seen.push(*x)
                 }
             });
-        } else {
-            seen = list.to_vec();
         }
         if self.is("judge: low bytes of numbers") {
             seen.iter_mut().for_each(|x| *x &= 255);
         }
         let no_model = Model::numbered(model.into()).is_none();
         let model = if self.is("judge: no model") && no_model { 2 } else { model };
-        self.is("judge: yes to all") || page.judge(model, &seen)
+        if self.is("judge: room first") && out.len() < JUDGEMENT {
+            return NO_ROOM;
+        }
+        let answer = page.judgement(model, &seen, out);
+        if answer < VALID {
+            return answer;
+        }
+        if self.is("judge: what lies behind is wiped") {
+            out[JUDGEMENT..].fill(0);
+        }
+        if self.is("judge: the pair turned round") {
+            out[..JUDGEMENT].rotate_left(2);
+        }
+        if self.is("judge: places from 1") && answer == BAD_NUMBER {
+            out[0] = out[0].wrapping_add(1);
+        }
+        if self.is("judge: the first repeat") && answer == REPEAT {
+            let first = (0..list.len()).find(|&i| list[..i].contains(&list[i])).expect("one stands there twice");
+            put_number(out, list[first].into());
+        }
+        if self.is("judge: the first wrong value") && answer == WRONG_VALUE {
+            let trace = page.trace().expect("a good text");
+            let wrong = |x: &&u16| trace.places[usize::from(**x)].read().is_some() && **x >= number_at(out) as u16;
+            put_number(out, usize::from(*list.iter().find(wrong).expect("one is wrong")));
+        }
+        match answer {
+            BAD_NUMBER if self.is("judge: a bad number is a wrong length") => WRONG_LENGTH,
+            _ if self.is("judge: yes to all") => VALID,
+            answer => answer,
+        }
     }
 
     fn open(&self, text: &[u8], model: u8, session: &mut [u8]) -> u8 {

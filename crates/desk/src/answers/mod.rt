@@ -18,3 +18,16 @@ pub const HELD: u8 = 67;
 pub const NOT_HELD: u8 = 68;
 
 pub const CONTRADICTED: u8 = 69;
+
+// The judge of a list: a valid order, or the condition that it fails first.
+pub const VALID: u8 = 70;
+
+pub const WRONG_LENGTH: u8 = 71;
+
+pub const BAD_NUMBER: u8 = 72;
+
+pub const REPEAT: u8 = 73;
+
+pub const OUT_OF_TURN: u8 = 74;
+
+pub const WRONG_VALUE: u8 = 75;

@@ -1,7 +1,5 @@
 // What is said of the trace that a text writes.
 ghost use mathlib.Core.Path.{_≡_};
-ghost use mathlib.Core.Bool.{So};
-ghost use mathlib.Core.Logic.{_↔_};
 ghost use mathlib.Core.List.{_++_};
 ghost use Prim.Native.Nat.{_+_, _*_, _≤_, _<_};
 ghost use lib.ListN.{length, drop};
@@ -10,13 +8,11 @@ ghost use Rattle.desk.specs.Answers.{outcomeNumber};
 ghost use Rattle.text.specs.Room.{putAt};
 ghost use Rattle.desk.specs.Verdict.{VERDICT, wide, Answered};
 ghost use Rattle.desk.specs.Spelled.{lacking, spelled, laidOut};
-ghost use Rattle.desk.specs.Judged.{Judged};
 use crate::answers::CIRCLE;
 use crate::answers::NO_ROOM;
 use crate::answers::NONE_LEFT;
 use crate::answers::ORDER;
 use crate::texts::number_in;
-use orders::judging::judge;
 use pairs::modelled;
 use reader::read;
 use text::room::put;
@@ -68,7 +64,7 @@ fn spelled(v: Verdict) -> Verdict
 }
 
 // Numbers in two bytes each, the low byte first, from a place on where they have room.
-fn put_wide(numbers: &[u16], out: &mut [u8], at: usize)
+pub(crate) fn put_wide(numbers: &[u16], out: &mut [u8], at: usize)
     requires { ⌜ at + 2 * length (now numbers) ≤ length (now out) ⌝ }
     ensures { λ _. ⌜ now (out .exit) ≡ putAt (wide (now (numbers .entry))) (now (out .entry)) at ⌝ }
 {
@@ -120,18 +116,4 @@ pub extern "C" fn wheelotter_verdict(text: &[u8], model: u8, out: &mut [u8]) -> 
     let outcome = verdict.outcome;
     lay(spelled(verdict), out);
     outcome_number(outcome)
-}
-
-// Whether a list is a valid order of the trace that a text writes. A text that is turned back has none.
-#[no_mangle]
-pub extern "C" fn wheelotter_judge(text: &[u8], model: u8, list: &[u16]) -> bool
-    ensures { λ r. ⌜ So r ↔ Judged (now (text .entry)) model (now (list .entry)) ⌝ }
-{
-    let reading = read(text);
-    let answer = reading.answer;
-    if number_in(answer) != 0 {
-        return false;
-    }
-    let trace = reading.trace;
-    judge(trace, model, list)
 }

@@ -10,7 +10,9 @@ use Rattle.reader.proofs.RoundTrip.{read-well}
 use Rattle.verdict.specs.Told.{Told}
 use Rattle.verdict.specs.declared.Verdict.{Verdict}
 use Rattle.desk.specs.Text.{numberIn, numberOf}
-use Rattle.desk.proofs.Spelling.{spelled-fits, source-below, told-refused, told-model, told-short, told-good}
+use Rattle.desk.specs.Verdict.{VERDICT}
+use Rattle.desk.proofs.Ranked.{ranked-wrong, ranked-model, ranked-short}
+use Rattle.desk.proofs.Spelling.{spelled-fits, source-below, told-good}
 use borrow.Author.Needs.{needs}
 use Rattle.desk.proofs.verdicts.wheelotter_verdict.Statement.{statement}
 use Rattle.desk.proofs.verdicts.wheelotter_verdict.Tie as tie
@@ -29,7 +31,7 @@ returns : tie.Need-returns
 returns c =
     let n = c .before in
     let a = n .before .before .before .before .args in
-    rw (numbered n) (told-refused (a .text .now) (a .model) (a .out .now) (omega (arith, numbered n, c .if1 .taken)))
+    rw (numbered n) (ranked-wrong (a .text .now) (a .model) VERDICT _ (a .out .now) (omega (arith, numbered n, c .if1 .taken)))
 
 modelled-requires : tie.Need-modelled-requires
 modelled-requires c κs = search needs
@@ -39,14 +41,14 @@ returns-2 c =
     let k = c .before in
     let n = k .before .before in
     let a = n .before .before .before .before .args in
-    told-model (a .text .now) (a .model) (a .out .now) (omega (arith, numbered n, k .before .if1 .left)) (sym (k .modelled .ensures) ∙ not-true _ (c .if2 .taken))
+    ranked-model (a .text .now) (a .model) VERDICT _ (a .out .now) (omega (arith, numbered n, k .before .if1 .left)) (sym (k .modelled .ensures) ∙ not-true _ (c .if2 .taken))
 
 returns-3 : tie.Need-returns-3
 returns-3 c =
     let i = c .before in
     let n = i .before .before .before in
     let a = n .before .before .before .before .args in
-    told-short (a .text .now) (a .model) (a .out .now) (omega (arith, numbered n, i .before .before .if1 .left)) (sym (i .before .modelled .ensures) ∙ not-false _ (i .if2 .left)) (c .if3 .taken)
+    ranked-short (a .text .now) (a .model) VERDICT _ (a .out .now) (omega (arith, numbered n, i .before .before .if1 .left)) (sym (i .before .modelled .ensures) ∙ not-false _ (i .if2 .left)) (c .if3 .taken)
 
 verdict-of-requires : tie.Need-verdict-of-requires
 verdict-of-requires c κs = search needs

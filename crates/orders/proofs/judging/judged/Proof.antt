@@ -1,59 +1,99 @@
--- `orders::judging::judged`: the four tests over the array of places, joined.
+-- `orders::judging::judged`: each of its ways out.
+use mathlib.Core.Path.{sym, _∙_}
+use mathlib.Core.Bool.{So}
+use borrow.Author.Tests.{eq-eqb, ne-eqb}
+use lib.Dec.{eqb}
+use lib.ListN.{length}
 use Rattle.trace.specs.Meaning.{frameOf}
-use Rattle.orders.proofs.Sited.{valid-sited}
+use Rattle.pairs.specs.Kept.{keptOf}
+use Rattle.orders.specs.Ready.{operations}
+use Rattle.orders.proofs.Found.{some-lowest, none-lowest}
+use Rattle.orders.proofs.Told.{length-told, number-told, repeat-told, turns-told, good-numbers}
 use borrow.Author.Needs.{needs}
 use Rattle.orders.proofs.judging.judged.Statement.{statement}
 use Rattle.orders.proofs.judging.judged.Tie as tie
 
-slice-aggregate-site : tie.Need-slice-aggregate-site
-slice-aggregate-site c = search needs
+-- the length is right where the test passed
+right : (c : tie.Else1) → So (eqb (length (c .before .before .before .args .list .now)) (operations (frameOf (c .before .before .before .args .t))))
+right c = eq-eqb _ _ (c .if1 .left ∙ c .before .operations .ensures)
 
-site-requires : tie.Need-site-requires
-site-requires c κs = search needs
-
-slice-aggregate-each-stands : tie.Need-slice-aggregate-each-stands
-slice-aggregate-each-stands c = search needs
-
-each-stands-requires : tie.Need-each-stands-requires
-each-stands-requires c κs = search needs
-
-slice-aggregate-each-there : tie.Need-slice-aggregate-each-there
-slice-aggregate-each-there c = search needs
-
-each-there-requires : tie.Need-each-there-requires
-each-there-requires c κs = search needs
-
-slice-aggregate-keeps : tie.Need-slice-aggregate-keeps
-slice-aggregate-keeps c = search needs
-
-keeps-requires : tie.Need-keeps-requires
-keeps-requires c κs = search needs
-
-slice-aggregate-each-read : tie.Need-slice-aggregate-each-read
-slice-aggregate-each-read c = search needs
-
-each-read-requires : tie.Need-each-read-requires
-each-read-requires c κs = search needs
+operations-requires : tie.Need-operations-requires
+operations-requires c κs = search needs
 
 returns : tie.Need-returns
-unfolding frameOf
 returns c =
-    let s = c .before .before .before .before .before .before .before .before .before .before .before .before in
-    valid-sited _ _ (c .before .before .before .before .before .before .before .before .before .site .ensures) (frameOf (s .args .t)) _ (s .pre)
-    (c .before .before .before .before .before .before .each-stands .ensures) (c .before .before .before .before .each-there .ensures) (c .before .before .keeps .ensures) (c .each-read .ensures)
+    let a = c .before .before .before .args in
+    length-told (frameOf (a .t)) (keptOf (a .model) (a .t)) (a .list .now) (ne-eqb _ _ (λ q. c .if1 .taken (q ∙ sym (c .before .operations .ensures))))
+
+bad-place-requires : tie.Need-bad-place-requires
+bad-place-requires c κs = search needs
+
+repeated-requires : tie.Need-repeated-requires
+repeated-requires c κs = search needs
+
+enum-known-place : tie.Need-enum-known-place
+enum-known-place c = search needs
+
+returns-2 : tie.Need-returns-2
+returns-2 c =
+    let b = c .before .before .before .before in
+    let i = b .before in
+    let a = i .before .before .before .args in
+    number-told (frameOf (a .t)) (keptOf (a .model) (a .t)) (a .list .now) (right i) _ (some-lowest _ _ (b .bad-place .ensures) (c .before .place .given .1))
+
+enum-told : tie.Need-enum-told
+enum-told c = search needs
+
+enum-known-twice : tie.Need-enum-known-twice
+enum-known-twice c = search needs
+
+returns-3 : tie.Need-returns-3
+unfolding frameOf
+returns-3 c =
+    let e = c .before .before .before in
+    let r = e .before .before in
+    let b = r .before in
+    let i = b .before in
+    let a = i .before .before .before .args in
+    repeat-told (frameOf (a .t)) (keptOf (a .model) (a .t)) (a .list .now) (right i) (none-lowest _ _ (b .bad-place .ensures) (e .enum-told .given .1)) _
+    (some-lowest _ _ (r .repeated .ensures) (c .before .twice .given .1))
+
+enum-told-2 : tie.Need-enum-told-2
+enum-told-2 c = search needs
+
+judged-turns-requires : tie.Need-judged-turns-requires
+judged-turns-requires c κs =
+    let e = c .before .before in
+    let b = e .before .before .before in
+    let s = b .before .before .before .before in
+    (s .pre, good-numbers (s .args .t) (s .pre) (s .args .list .now) (none-lowest _ _ (b .bad-place .ensures) (e .enum-told .given .1)))
+
+returns-4 : tie.Need-returns-4
+unfolding frameOf
+returns-4 c =
+    let f = c .before in
+    let e = f .before .before in
+    let r = e .before .before in
+    let b = r .before in
+    let i = b .before in
+    let a = i .before .before .before .args in
+    c .judged-turns .ensures
+    ∙ turns-told (frameOf (a .t)) (keptOf (a .model) (a .t)) (a .list .now) (right i) (none-lowest _ _ (b .bad-place .ensures) (e .enum-told .given .1))
+    (none-lowest _ _ (r .repeated .ensures) (f .enum-told2 .given .1))
 
 pub judged-spec : {M : Type 1} → statement M
 judged-spec =
     tie.close
     (tie.spec
-    slice-aggregate-site
-    site-requires
-    slice-aggregate-each-stands
-    each-stands-requires
-    slice-aggregate-each-there
-    each-there-requires
-    slice-aggregate-keeps
-    keeps-requires
-    slice-aggregate-each-read
-    each-read-requires
-    returns)
+    operations-requires
+    returns
+    bad-place-requires
+    repeated-requires
+    enum-known-place
+    returns-2
+    enum-told
+    enum-known-twice
+    returns-3
+    enum-told-2
+    judged-turns-requires
+    returns-4)

@@ -1,15 +1,8 @@
 -- `orders::judging::visible`: the parts of the test, joined.
-use Rattle.trace.specs.Meaning.{frameOf}
-use Rattle.rules.specs.Tests.{writer?}
+use Rattle.orders.specs.Seen.{visibleBy}
 use borrow.Author.Needs.{needs}
 use Rattle.orders.proofs.judging.visible.Statement.{statement}
 use Rattle.orders.proofs.judging.visible.Tie as tie
-
-op-at-requires : tie.Need-op-at-requires
-op-at-requires c κs = search needs
-
-op-at-requires-2 : tie.Need-op-at-requires-2
-op-at-requires-2 c κs = search needs
 
 writes-requires : tie.Need-writes-requires
 writes-requires c κs = search needs
@@ -27,18 +20,8 @@ thread-requires-2 : tie.Need-thread-requires-2
 thread-requires-2 c κs = search needs
 
 returns : tie.Need-returns
-unfolding writer? frameOf
+unfolding visibleBy
 returns c = cc
 
 pub visible-spec : {M : Type 1} → statement M
-visible-spec =
-    tie.close
-    (tie.spec
-    op-at-requires
-    op-at-requires-2
-    writes-requires
-    address-requires
-    address-requires-2
-    thread-requires
-    thread-requires-2
-    returns)
+visible-spec = tie.close (tie.spec writes-requires address-requires address-requires-2 thread-requires thread-requires-2 returns)
