@@ -38,13 +38,12 @@ pub fn text_of(records: &[Record]) -> Vec<u8> {
     records.iter().map(line).collect::<String>().into_bytes()
 }
 
-/// Programs of some threads on some addresses, in a chance text order; nothing has been read yet.
-fn programs(chance: &mut Chance, records: usize, addresses: &[usize]) -> Vec<Record> {
-    let threads = chance.between(2, THREADS);
+/// Programs of threads on addresses, in a chance text order; nothing has been read yet.
+fn programs(chance: &mut Chance, records: usize, threads: &[usize], addresses: &[usize]) -> Vec<Record> {
     let (stores, swaps, fences) = (chance.between(25, 60), *chance.of(&[0, 5, 15]), *chance.of(&[0, 3]));
     let mut values = [0; ADDRESSES];
     let mut record = || {
-        let (thread, address, kind) = (chance.below(threads), *chance.of(addresses), chance.below(100));
+        let (thread, address, kind) = (*chance.of(threads), *chance.of(addresses), chance.below(100));
         values[address] += 1;
         let written = values[address];
         if kind < stores {
@@ -90,9 +89,9 @@ fn set_read(record: &mut Record, value: usize) {
 
 /// A trace that keeps its model.
 fn valid(chance: &mut Chance, records: usize, model: Model) -> Vec<Record> {
-    let count = chance.between(1, ADDRESSES);
-    let addresses = &chance.shuffled(ADDRESSES)[..count];
-    let mut trace = programs(chance, records, addresses);
+    let (threads, addresses) = (chance.between(2, THREADS), chance.between(1, ADDRESSES));
+    let (threads, addresses) = (&chance.shuffled(threads), &chance.shuffled(ADDRESSES)[..addresses]);
+    let mut trace = programs(chance, records, threads, addresses);
     run(chance, &mut trace, model);
     numbered(trace)
 }
@@ -112,12 +111,12 @@ fn changed(chance: &mut Chance, records: usize, model: Model) -> Vec<Record> {
     trace
 }
 
-/// Two of document 01's KNOT on addresses of their own, mixed or one behind the other: no order, and no circle under SC and TSO.
-fn two_knots(chance: &mut Chance, addresses: &[usize]) -> Vec<Record> {
+/// One or two of document 01's KNOT on addresses of their own, mixed or one behind the other: no order under SC and TSO, and mostly no circle.
+fn some_knots(chance: &mut Chance, count: usize, threads: &[usize], addresses: &[usize]) -> Vec<Record> {
     let knot = reader::read(include_bytes!("../../tests/traces/knot.txt"), 64).expect("KNOT is good");
     let own: Vec<usize> = knot.iter().filter_map(Record::address).collect::<BTreeSet<_>>().into_iter().collect();
-    let copies = addresses.chunks_exact(own.len()).map(|addresses| {
-        let threads = chance.shuffled(THREADS);
+    let copies = addresses.chunks_exact(own.len()).take(count).map(|addresses| {
+        let threads: Vec<usize> = chance.shuffled(threads.len()).into_iter().map(|i| threads[i]).collect();
         let place = |address: usize| addresses[own.iter().position(|&a| a == address).expect("an address of KNOT")];
         knot.iter().map(|record| renamed(*record, &threads, place)).collect()
     });
@@ -130,15 +129,17 @@ fn two_knots(chance: &mut Chance, addresses: &[usize]) -> Vec<Record> {
 }
 
 fn knots(chance: &mut Chance, _records: usize, _model: Model) -> Vec<Record> {
-    let addresses = &chance.shuffled(ADDRESSES)[2..];
-    numbered(two_knots(chance, addresses))
+    let (threads, addresses) = (chance.shuffled(THREADS), chance.shuffled(ADDRESSES));
+    numbered(some_knots(chance, 2, &threads, &addresses))
 }
 
-/// Knots in the midst of a run on the two addresses that they leave free.
+/// Knots in the midst of a run on the two addresses that they leave free, by the two threads that they leave free or, which often closes a circle,
+/// by all.
 fn padded(chance: &mut Chance, records: usize, model: Model) -> Vec<Record> {
-    let addresses = chance.shuffled(ADDRESSES);
-    let knots = two_knots(chance, &addresses[2..]);
-    let mut rest = programs(chance, records - knots.len(), &addresses[..2]);
+    let (threads, addresses) = (chance.shuffled(THREADS), chance.shuffled(ADDRESSES));
+    let (count, free) = (chance.between(1, 2), *chance.of(&[2, 2, THREADS]));
+    let knots = some_knots(chance, count, &threads[2..], &addresses[2..]);
+    let mut rest = programs(chance, records - knots.len(), &threads[..free], &addresses[..2]);
     run(chance, &mut rest, model);
     numbered(merged(chance, vec![knots, rest]))
 }

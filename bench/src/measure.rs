@@ -18,7 +18,7 @@ const SHORT_LIMIT: u64 = 20_000;
 const SHORT_TRACES: u64 = 25;
 
 /// Each program has so many runs on a trace, and its best counts; one that takes longer than LONG has one.
-const TIMES: usize = 3;
+pub const TIMES: usize = 3;
 const LONG: f64 = 50_000.0;
 
 const PROGRAMS: [&str; 3] = ["simple", "by rows", "library"];
