@@ -5,28 +5,35 @@ use crate::{Record, Table};
 use std::collections::VecDeque;
 
 pub fn shortest<T: Table>(closed: &Closed<T>) -> Option<Vec<usize>> {
-    let records = closed.edges.records();
-    if !(0..records).any(|x| closed.chains.has(x, x)) {
-        return None;
+    let edges = &closed.edges;
+    let mut found: Option<(usize, usize, Vec<Option<usize>>)> = None;
+    for start in (0..edges.records()).filter(|&x| closed.chains.has(x, x)) {
+        let most = found.as_ref().map_or(edges.records(), |(length, ..)| length - 1);
+        let steps = steps_to(edges, start, most);
+        if let Some(length) = steps[start] {
+            found = Some((length, start, steps));
+        }
     }
-    let ways: Vec<Vec<Option<usize>>> = (0..records).map(|start| steps_to(&closed.edges, start)).collect();
-    let start = (0..records).filter(|&x| ways[x][x].is_some()).min_by_key(|&x| ways[x][x])?;
+    let (length, start, steps) = found?;
     let mut operations = vec![start];
-    for left in (1..ways[start][start]?).rev() {
+    for left in (1..length).rev() {
         let last = operations[operations.len() - 1];
-        let next = (0..records).find(|&y| closed.edges.has(last, y) && ways[start][y] == Some(left))?;
+        let next = (0..edges.records()).find(|&y| edges.has(last, y) && steps[y] == Some(left))?;
         operations.push(next);
     }
     Some(operations)
 }
 
-/// How many edges lead from each record to one of them, by breadth first; at least one.
-fn steps_to<T: Table>(edges: &T, start: usize) -> Vec<Option<usize>> {
+/// How many edges lead from each record to one of them, by breadth first: at least one, and no more than so many.
+fn steps_to<T: Table>(edges: &T, start: usize, most: usize) -> Vec<Option<usize>> {
     let mut steps = vec![None; edges.records()];
     let mut queue = VecDeque::from([(start, 0)]);
     while let Some((y, count)) = queue.pop_front() {
+        if count == most {
+            break;
+        }
         for (x, step) in steps.iter_mut().enumerate() {
-            if edges.has(x, y) && step.is_none() {
+            if step.is_none() && edges.has(x, y) {
                 *step = Some(count + 1);
                 queue.push_back((x, count + 1));
             }
