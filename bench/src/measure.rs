@@ -203,7 +203,7 @@ fn table(all: &[Figures], kind: fn(&Verdict) -> bool) {
     for f in all {
         let [simple, rows, library] = f.summaries(kind);
         let times = |[median, late, _]: [f64; 3]| format!("{median:.0} ({late:.0})");
-        let ratios = |other: [f64; 3]| [0, 1, 2].map(|i| format!("{:.2}", library[i] / other[i])).join(", ");
+        let ratios = |other: [f64; 3]| [0, 1, 2].map(|i| format!("{:.3}", library[i] / other[i])).join(", ");
         println!(
             "| {} | {} | {} | {} | {} | {} | {} | {} |",
             f.records,
