@@ -1,52 +1,26 @@
-//! How many placements the search needs on traces of 64 records, and how long the proved library takes for a whole answer.
+//! The proved library measured; bench/run builds it and calls this.
 //!
-//!     bench count CASES [SEED]     placements, by the same search in Rust (search.rs)
-//!     bench time CASES [SEED]      milliseconds a text, reading and printing included
-//!
-//! The second needs the feature `linked`; bench/run builds with it. second/entries compares the library with the second program.
+//!     bench measure TRACES SECONDS FIGURES [SEED]   against the same checks written simply: so many traces a size and model, or so many seconds;
+//!                                                   prints tables, and writes the figures into a file
+//!     bench short [SEED]                            only whether the verdicts agree
+//!     bench worst TRACES [SEED]                     the most placements and the longest time in each family
 
-mod closing;
+mod chance;
+mod draw;
+mod library;
+mod measure;
 mod search;
-mod shapes;
-mod timing;
+mod worst;
 
-use second::chance::Chance;
-use second::reader;
-
-/// More placements than this on any trace, and the search is not good enough.
-const MOST: u64 = 20_000;
-
-fn main() {
-    let words: Vec<String> = std::env::args().collect();
-    let number = |i: usize, other: u64| words.get(i).and_then(|w| w.parse().ok()).unwrap_or(other);
-    let (cases, seed) = (number(2, 1000), number(3, 1));
-    match words.get(1).map(String::as_str) {
-        Some("count") => count(cases, seed),
-        Some("time") => timing::time(cases, seed),
-        _ => eprintln!("usage: bench count|time CASES [SEED]"),
+fn main() -> std::io::Result<()> {
+    let words: Vec<String> = std::env::args().skip(1).collect();
+    let number = |i: usize, other: u64| words.get(i).and_then(|word| word.parse().ok()).unwrap_or(other);
+    match words.first().map(String::as_str) {
+        Some("measure") if words.len() > 3 => measure::measure(number(1, 200), number(2, 600), &words[3], number(4, 1))?,
+        Some("short") if !measure::short(number(1, 1)) => std::process::exit(1),
+        Some("short") => {}
+        Some("worst") => worst::worst(number(1, 1000), number(2, 1)),
+        _ => eprintln!("usage: bench measure TRACES SECONDS FIGURES [SEED] | short [SEED] | worst TRACES [SEED]"),
     }
-}
-
-/// A line for each family and model: how often there is an order, and the most and the mean number of placements.
-fn count(cases: u64, seed: u64) {
-    for shape in &shapes::SHAPES {
-        for model in [1, 2] {
-            let (mut orders, mut most, mut sum, mut over) = (0u64, 0u64, 0u64, 0u64);
-            for case in 0..cases {
-                let text = (shape.draw)(&mut Chance::of_case(seed, case));
-                let trace = reader::read(&text).expect("the shapes are good texts");
-                let tables = closing::tables(trace.records(), model);
-                let found = search::search(&tables);
-                orders += u64::from(found.order.is_some());
-                most = most.max(found.placements);
-                sum += found.placements;
-                over += u64::from(found.placements > MOST);
-            }
-            println!(
-                "{:<12} model {model}: {orders} of {cases} have an order; placements: most {most}, mean {:.1}, over {MOST}: {over}",
-                shape.name,
-                sum as f64 / cases as f64
-            );
-        }
-    }
+    Ok(())
 }

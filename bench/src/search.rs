@@ -1,91 +1,149 @@
-//! The search of crates/search, with its placements counted: ready operations only, two stops of the loop, dead sets remembered.
+//! The search of crates/search, with its placements counted: ready operations only, three stops of the loop, dead sets remembered.
 
-use crate::closing::{Row, Tables};
+use simple::models::{kept, Model};
+use simple::rules::{missing, rounds, source, writes_there};
+use simple::{Record, Table, Words};
+
+/// A set of records.
+type Row = [u64; 4];
 
 /// As many sets are remembered as in crates/search.
-const SLOTS: usize = 4093;
+const SLOTS: u64 = 4093;
+
+/// The third stop is asked where the search below a failed operation cost so many placements.
+const PATIENCE: u64 = 64;
 
 pub struct Found {
-    pub order: Option<Vec<usize>>,
+    pub order: bool,
     pub placements: u64,
 }
 
-struct Search<'a> {
-    tables: &'a Tables,
-    /// Who reads from each record.
-    readers: Vec<Row>,
+struct Search {
+    operations: Row,
+    /// What is held before each record.
+    before: Vec<Row>,
+    /// The other writers of each record's address.
+    writers: Vec<Row>,
+    sources: Vec<Option<usize>>,
     dead: Vec<Row>,
-    list: Vec<usize>,
     placements: u64,
 }
 
-impl Search<'_> {
+fn has(set: &Row, x: usize) -> bool {
+    set[x / 64] >> (x % 64) & 1 == 1
+}
+
+fn put(set: &mut Row, x: usize) {
+    set[x / 64] |= 1 << (x % 64);
+}
+
+fn within(a: &Row, b: &Row) -> bool {
+    a.iter().zip(b).all(|(a, b)| a & !b == 0)
+}
+
+fn set(records: usize, test: impl Fn(usize) -> bool) -> Row {
+    let mut row = [0; 4];
+    (0..records).filter(|&x| test(x)).for_each(|x| put(&mut row, x));
+    row
+}
+
+/// Nothing is placed where a source is missing or the rules run in a circle.
+pub fn search(trace: &[Record], model: Model) -> Found {
+    let n = trace.len();
+    let sources: Vec<Option<usize>> = (0..n).map(|load| source(trace, load)).collect();
+    let held = rounds::<Words>(trace, &kept(trace, model), &sources).chains;
+    if missing(trace, &sources).is_some() || (0..n).any(|x| held.has(x, x)) {
+        return Found { order: false, placements: 0 };
+    }
+    let mut search = Search {
+        operations: set(n, |x| !trace[x].is_fence()),
+        before: (0..n).map(|y| set(n, |x| held.has(x, y))).collect(),
+        writers: (0..n).map(|y| set(n, |x| !trace[y].is_fence() && writes_there(trace, y, x))).collect(),
+        sources,
+        dead: vec![[0; 4]; SLOTS as usize],
+        placements: 0,
+    };
+    let order = search.find(&[0; 4]) == 0;
+    Found { order, placements: search.placements }
+}
+
+impl Search {
     fn records(&self) -> usize {
-        self.tables.before.len()
+        self.before.len()
     }
 
     /// Nobody else waits at the address that y writes: a reader whose source is placed while it is not.
-    fn quiet(&self, placed: Row, y: usize) -> bool {
-        (0..self.records()).all(|load| {
-            self.tables.writers[load] >> y & 1 == 0
-                || placed >> load & 1 == 1
-                || self.tables.sources[load].is_none_or(|s| placed >> s & 1 == 0)
-        })
+    fn ready(&self, placed: &Row, y: usize) -> bool {
+        let waits =
+            |load: usize| has(&self.writers[load], y) && !has(placed, load) && self.sources[load].is_some_and(|source| has(placed, source));
+        has(&self.operations, y) && !has(placed, y) && within(&self.before[y], placed) && !(0..self.records()).any(waits)
     }
 
-    fn ready(&self, placed: Row, y: usize) -> bool {
-        let open = self.tables.operations & !placed;
-        open >> y & 1 == 1 && self.tables.before[y] & !placed == 0 && (!self.tables.writes[y] || self.quiet(placed, y))
+    /// Whoever reads from y is placed; or each other writer there that did not fail has an unplaced one before it; or, where it is worth asking, the
+    /// rules refute the set.
+    fn stops(&self, placed: &Row, failed: &Row, y: usize, below: u64) -> bool {
+        let led = |z: usize| (0..self.records()).any(|x| has(&self.writers[z], x) && has(&self.before[z], x) && !has(placed, x));
+        let open = |z: usize| has(&self.writers[y], z) && !has(placed, z) && !has(failed, z);
+        (0..self.records()).all(|load| self.sources[load] != Some(y) || has(placed, load))
+            || (0..self.records()).all(|z| !open(z) || led(z))
+            || (below >= PATIENCE && self.refuted(placed))
     }
 
-    /// Whoever reads from y is placed; or each other writer there that did not fail has an unplaced one before it.
-    fn stops(&self, placed: Row, failed: Row, y: usize) -> bool {
-        if self.readers[y] & !placed == 0 {
-            return true;
+    /// With all that is placed before all that is not, rules 6 and 7 close a circle.
+    fn refuted(&self, placed: &Row) -> bool {
+        let n = self.records();
+        let mut led = Words::empty(n);
+        (0..n).for_each(|y| (0..n).filter(|&x| has(&self.before[y], x)).for_each(|x| led.put(y, x)));
+        loop {
+            let was = led.clone();
+            for load in (0..n).filter(|&load| !has(placed, load)) {
+                let Some(source) = self.sources[load] else { continue };
+                for z in (0..n).filter(|&z| z != source && has(&self.writers[load], z)) {
+                    if led.has(load, z) {
+                        led.put(source, z);
+                    }
+                    if led.has(z, source) || (has(placed, source) && !has(placed, z)) {
+                        led.put(z, load);
+                    }
+                }
+            }
+            if led == was {
+                return false;
+            }
+            led.close();
+            if (0..n).any(|x| led.has(x, x)) {
+                return true;
+            }
         }
-        let open = self.tables.writers[y] & !placed & !failed;
-        (0..self.records()).all(|z| open >> z & 1 == 0 || self.tables.before[z] & self.tables.writers[z] & !placed != 0)
     }
 
-    fn find(&mut self, placed: Row) -> bool {
-        if placed == self.tables.operations {
-            return true;
+    /// 0 where an order is found, and otherwise what the search cost, up to PATIENCE.
+    fn find(&mut self, placed: &Row) -> u64 {
+        if *placed == self.operations {
+            return 0;
         }
-        let slot = (placed % SLOTS as u64) as usize;
-        if placed != 0 && self.dead[slot] == placed {
-            return false;
+        let slot = placed.iter().fold(0, |fold, word| (fold % SLOTS) * 31 + word % SLOTS) % SLOTS;
+        if *placed != [0; 4] && self.dead[slot as usize] == *placed {
+            return 1;
         }
-        let mut failed = 0;
+        let (mut failed, mut cost) = ([0; 4], 1);
         for y in 0..self.records() {
             if self.ready(placed, y) {
                 self.placements += 1;
-                self.list.push(y);
-                if self.find(placed | 1 << y) {
-                    return true;
+                let mut next = *placed;
+                put(&mut next, y);
+                let below = self.find(&next);
+                if below == 0 {
+                    return 0;
                 }
-                self.list.pop();
-                failed |= 1 << y;
-                if self.stops(placed, failed, y) {
+                cost = PATIENCE.min(cost + below + 1);
+                put(&mut failed, y);
+                if self.stops(placed, &failed, y, below) {
                     break;
                 }
             }
         }
-        self.dead[slot] = placed;
-        false
+        self.dead[slot as usize] = *placed;
+        cost
     }
-}
-
-pub fn search(tables: &Tables) -> Found {
-    if tables.hopeless {
-        return Found { order: None, placements: 0 };
-    }
-    let mut readers = vec![0; tables.before.len()];
-    for (load, source) in tables.sources.iter().enumerate() {
-        if let Some(s) = source {
-            readers[*s] |= 1 << load;
-        }
-    }
-    let mut search = Search { tables, readers, dead: vec![0; SLOTS], list: Vec::new(), placements: 0 };
-    let found = search.find(0);
-    Found { order: found.then_some(search.list), placements: search.placements }
 }

@@ -1,5 +1,5 @@
-//! Times one closing, of 64 rows and of 256, by three loops in one run: bit by bit, as crates/rows had it at first; the proved code of crates/rows as it
-//! stands; and Rust's plain loop over words.
+//! Times one closing, of 64 rows and of 256, by three loops in one run: bit by bit, as crates/rows had it at first; the proved code of crates/rows
+//! as it stands; and Rust's plain loop over words.
 //!
 //!     rows [RELATIONS]
 
@@ -9,7 +9,7 @@ mod words;
 /// The proved code for so many records.
 macro_rules! proved {
     ($name:ident, $records:expr) => {
-        #[allow(dead_code)]
+        #[allow(dead_code, clippy::all)]
         mod $name {
             mod trace {
                 pub const RECORDS: usize = $records;
@@ -80,8 +80,8 @@ fn median(mut times: Vec<f64>) -> f64 {
     times[times.len() / 2]
 }
 
-/// A relation as the rules draw it at first: eight cores, each in its own order, and as many pairs between them as there are records, all from a lower
-/// number to a higher one.
+/// A relation as the rules draw it at first: eight cores, each in its own order, and as many pairs between them as there are records, all from a
+/// lower number to a higher one.
 fn relation(records: usize, seed: u64) -> Vec<u64> {
     let words = records / 64;
     let mut rows = vec![0; records * words];
