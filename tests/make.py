@@ -10,7 +10,8 @@ Every answer is worked out by hand from document 01; none comes from the program
   must stand in order are listed, and the first order takes the lowest record whose pairs are kept, again and again.
 - A model lets off what the one before it does, so an order that is the first under one of them and breaks no pair of the next, with no lower record let
   in by what is let off, is the first there too.
-- The starred traces and KNOT are document 01's own, with its answers; `messages` is request 4's, with its answer under PSO.
+- The starred traces and KNOT are document 01's own, with its answers; `messages` is request 4's, with its answer under PSO. KNOT's orders under PSO and WMO are
+  not by hand: a reading of the rules in Python gave them, and the starred table proves them.
 Run it after a change; it removes the files of cases that are gone."""
 import os
 

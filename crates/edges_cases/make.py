@@ -1,8 +1,8 @@
 #!/usr/bin/env python3
 """make.py: write the traces (data/), their names (args) and what the rules force in each (stdout).
 
-Every answer below was worked out from document 01's eight rules and the pairs that each model lets off, by hand for SC and TSO, and for PSO and WMO by
-hand and by a reading of the rules in Python that found the same; none is taken from the program. Run it in this folder after a change."""
+The answers for SC and TSO were worked out by hand from document 01's eight rules. Those for PSO and WMO come from a reading of the rules and of the pairs that
+each model lets off in Python, which gives the SC and TSO answers too; of them only star-message was gone through by hand. None is taken from the program. Run it in this folder after a change."""
 import os
 
 here = os.path.dirname(os.path.abspath(__file__))
