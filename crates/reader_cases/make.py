@@ -10,15 +10,22 @@ cases = []
 
 def good(name, text, *records):
     words = ''.join(' ' + r for r in records)
-    cases.append((name, text, f'{len(records)} records{words} <>'))
+    cases.append((name, text, f'{len(records)} records{words} 0..0 <>'))
 
 
 def shown(part):
     return ''.join(chr(b) if 32 <= b <= 126 else '\\%02x' % b for b in part)
 
 
-def refused(name, text, number, line, part=b''):
-    cases.append((name, text, f'refused {number} line {line} <{shown(part)}>'))
+def start(text, line):
+    """Where a line starts: behind the feeds of all lines above it; line 0 is the top."""
+    return sum(len(above) + 1 for above in text.split(b'\n')[:line - 1]) if line else 0
+
+
+def refused(name, text, number, line, part=b'', at=None):
+    """A text that is turned back; `at` is where its part starts, counted by hand where that is the point of the case."""
+    at = start(text, line) if at is None else at
+    cases.append((name, text, f'refused {number} line {line} {at}..{at + len(part)} <{shown(part)}>'))
 
 
 def store(i, thread=0):
@@ -71,7 +78,7 @@ refused('line-81-last', stores(3) + b'z' * 81 + b'\n', 2, 4, b'z' * 81)
 refused('no-feed', b'0: sync', 3, 1, b'0: sync')
 refused('no-feed-last', stores(2) + b'0: sync', 3, 3, b'0: sync')
 refused('blank-first', b'\n0: sync\n', 3, 1)
-refused('blank-last', b'0: sync\n\n', 3, 2)
+refused('blank-last', b'0: sync\n\n', 3, 2, at=8)
 refused('carriage-return', b'0: sync\r\n', 3, 1, b'0: sync\r')
 refused('nul-inside', b'0: M[\x000] := 1\n', 3, 1, b'0: M[\x000] := 1')
 refused('over-127', b'0: \xc3\xa9ync\n', 3, 1, b'0: \xc3\xa9ync')
@@ -139,6 +146,8 @@ refused('records-257-no-feed', stores(256) + b'0: sync', 3, 257, b'0: sync')
 
 # 8: a value that was written above at that address; what was read does not count
 refused('twice', store(1) + store(2) + store(1), 8, 3, b'0: M[0] := 1')
+refused('twice-alike', store(1) + store(1), 8, 2, b'0: M[0] := 1', at=13)
+refused('twice-alike-further-down', b'0: sync\n' + store(1) + b'1: sync\n' + store(1), 8, 4, b'0: M[0] := 1', at=29)
 refused('twice-another-thread', store(1) + store(1, 7), 8, 2, b'7: M[0] := 1')
 refused('twice-by-swap', store(1) + b'1: { M[0] == 1; M[0] := 1 }\n', 8, 2, b'1: { M[0] == 1; M[0] := 1 }')
 refused('twice-after-swap', b'1: { M[0] == 0; M[0] := 1 }\n' + store(1), 8, 2, b'0: M[0] := 1')
@@ -148,7 +157,8 @@ good('read-before-written', b'0: M[0] == 1\n0: M[0] := 1\n', 'load 0 0 1', 'stor
 good('nobody-wrote', b'0: M[0] == 7\n', 'load 0 0 7')
 
 # the first bad line is the one that counts
-refused('first-of-two', b'0: M[0] := 0\n0: syn\n', 6, 1, b'0: M[0] := 0')
+refused('first-of-two', b'0: M[0] := 0\n0: syn\n', 6, 1, b'0: M[0] := 0', at=0)
+refused('second-of-three', b'0: sync\n0: M[0] := 0\n0: M[0] := 0\n', 6, 2, b'0: M[0] := 0', at=8)
 
 # document 01's first trace
 good('store-buffers', b'0: M[0] := 1\n0: M[1] == 0\n1: M[1] := 1\n1: M[0] == 0\n',

@@ -22,6 +22,8 @@ use Rattle.reader.proofs.turns.turned.Reads as turned
 use Rattle.reader.proofs.turns.turned.Kinds as turned-kinds
 use Rattle.reader.proofs.read.Reads as read
 use Rattle.reader.proofs.read.Kinds as read-kinds
+use Rattle.reader.proofs.bad_place.Reads as bad-place
+use Rattle.reader.proofs.bad_place.Kinds as bad-place-kinds
 use Rattle.reader.proofs.bad_line.Reads as bad-line
 use Rattle.reader.proofs.bad_line.Kinds as bad-line-kinds
 
@@ -48,6 +50,9 @@ turned-settles κs a x y s t p q = p ∙ sym q
 
 pub read-settles : Settles 1 read-kinds.ps read-kinds.r read.Post
 read-settles κs a x y s t p q = p ∙ sym q
+
+pub bad-place-settles : Settles 1 bad-place-kinds.ps bad-place-kinds.r bad-place.Post
+bad-place-settles κs a x y s t p q = p ∙ sym q
 
 pub bad-line-shows : Shows 1 bad-line-kinds.ps bad-line-kinds.r (λ κs x. laid x) bad-line.Post
 bad-line-shows κs a x y s t p q = part-one (a .0) p q

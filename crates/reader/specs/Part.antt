@@ -7,6 +7,7 @@
 --   lineEnd text n   == where line n ends, before its line feed; 0 for line 0
 --   startOf text     == where the bad line starts; 0 where no line is to blame
 --   endOf text       == where it ends, before its line feed; 0 where no line is to blame
+--   placeOf text     == both
 use mathlib.Core.Bool.{cond}
 use mathlib.Core.List.{List}
 use Prim.Native.Nat.{ℕ, zero, suc, _-_}
@@ -15,6 +16,7 @@ use Rattle.text.specs.Lines.{endAt, nextAt}
 use Rattle.reader.specs.Read.{readText}
 use Rattle.reader.specs.declared.Answer.{Answer}
 use Rattle.reader.specs.declared.Answer.the-variants.{Good, Refused}
+use Rattle.reader.specs.declared.Place.{Place}
 
 abbrev pub lineIn : Answer → ℕ
 lineIn Good = 0
@@ -38,3 +40,6 @@ startOf text = lineStart text (lineOf text)
 
 unfoldable pub endOf : List ℕ → ℕ
 endOf text = lineEnd text (lineOf text)
+
+unfoldable pub placeOf : List ℕ → Place
+placeOf text = record { start = startOf text; end = endOf text }

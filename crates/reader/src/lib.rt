@@ -4,7 +4,7 @@ ghost use Rattle.trace.specs.Trace.{empty};
 ghost use Rattle.text.specs.Lines.{lines};
 ghost use Rattle.text.specs.Part.{PartOf};
 ghost use Rattle.reader.specs.Read.{readLines, readText};
-ghost use Rattle.reader.specs.Part.{lineIn, lineStart, lineEnd, startOf, endOf};
+ghost use Rattle.reader.specs.Part.{lineIn, lineStart, lineEnd, startOf, endOf, placeOf};
 
 pub mod forms;
 pub mod turns;
@@ -82,6 +82,12 @@ pub struct Reading {
     pub trace: Trace,
 }
 
+// Where the bad line of a text starts, and where it ends, before its feed; both 0 where no line is to blame.
+pub struct Place {
+    pub start: usize,
+    pub end: usize,
+}
+
 // A reading, and where the line starts and ends, before its feed, that it is about; both 0 where it is about none.
 struct Stand {
     reading: Reading,
@@ -145,17 +151,27 @@ pub fn read(text: &[u8]) -> Reading
     walked(text).reading
 }
 
+// Where the line lies that `read` turns back; the top of the text where no line is to blame.
+pub fn bad_place(text: &[u8]) -> Place
+    ensures { λ r. ⌜ r ≡ placeOf (now (text .entry)) ⌝ }
+{
+    if TEXT < text.len() {
+        return Place { start: 0, end: 0 };
+    }
+    let stand = walked(text);
+    Place {
+        start: stand.start,
+        end: stand.end,
+    }
+}
+
 // The line that `read` turns back, without its line feed: the lent text's own part, from where that line starts; where no line is to blame, beside
 // number 1 and for a good text, the empty part at the top of the text.
 pub fn bad_line<'a>(text: &'a [u8]) -> &'a [u8]
     ensures { λ r. ⌜ PartOf (text .entry) (startOf (now (text .entry))) (endOf (now (text .entry))) r ⌝ }
 {
-    if TEXT < text.len() {
-        let top: usize = 0;
-        return &text[top..top];
-    }
-    let stand = walked(text);
-    let start = stand.start;
-    let end = stand.end;
+    let place = bad_place(text);
+    let start = place.start;
+    let end = place.end;
     &text[start..end]
 }

@@ -1,6 +1,7 @@
-// Reads each text that is named as an argument and prints what the reader answers: the records, or the number, the line and the part.
+// Reads each text that is named as an argument and prints what the reader answers: the records, or the number, the line, where the part lies and its bytes.
 use libc::STDOUT_FILENO;
 use reader::Answer;
+use reader::Place;
 use trace::Op;
 use trace::Trace;
 
@@ -43,6 +44,12 @@ fn say_part(part: &[u8]) {
         say_byte(b);
         i += 1;
     }
+}
+
+// Where the part lies: no program can see that of the part itself, and the reader promises that this is its place.
+fn say_place(place: Place) {
+    say_number(b" ", long(place.start));
+    say_number(b"..", long(place.end));
 }
 
 fn say_record(op: Op) {
@@ -107,6 +114,7 @@ fn answer(text: &[u8]) {
             say_number(b" line ", long(line));
         }
     }
+    say_place(reader::bad_place(text));
     say(b" <");
     say_part(reader::bad_line(text));
     say(b">\n");

@@ -1,13 +1,12 @@
 // What is said of a text: the whole answer, and what is wrong with it.
 ghost use mathlib.Core.Path.{_≡_};
 ghost use Rattle.report.specs.Wrote.{Reported};
-ghost use Rattle.reader.specs.Part.{lineIn, lineOf, passed, startOf, endOf};
+ghost use Rattle.reader.specs.Part.{lineIn, lineOf, startOf, endOf};
 ghost use Rattle.desk.specs.Text.{numberIn, numberOf};
 use reader::Answer;
+use reader::bad_place;
 use reader::read;
 use reader::turns::number;
-use text::Cursor;
-use text::walk::line_end;
 
 // The whole answer to a text, in a lent buffer, and how many bytes it has; 0, and the buffer as it was, where it is too short.
 #[no_mangle]
@@ -57,29 +56,13 @@ pub extern "C" fn wheelotter_line(text: &[u8]) -> usize
     line_in(answer)
 }
 
-// The place behind the first n lines of a text; its end where it has fewer.
-fn passed(text: &[u8], n: usize) -> usize
-    ensures { λ r. ⌜ r ≡ passed (now (text .entry)) n ⌝ }
-{
-    let mut cursor = Cursor::new();
-    let mut i: usize = 0;
-    while i < n {
-        cursor = cursor.next(text);
-        i += 1;
-    }
-    cursor.at
-}
-
 // Where the line starts that a text is turned back for; 0 where no line is to blame.
 #[no_mangle]
 pub extern "C" fn wheelotter_start(text: &[u8]) -> usize
     ensures { λ r. ⌜ r ≡ startOf (now (text .entry)) ⌝ }
 {
-    let line = wheelotter_line(text);
-    if 0 < line {
-        return passed(text, line - 1);
-    }
-    0
+    let place = bad_place(text);
+    place.start
 }
 
 // Where that line ends, before its line feed; 0 where no line is to blame.
@@ -87,9 +70,6 @@ pub extern "C" fn wheelotter_start(text: &[u8]) -> usize
 pub extern "C" fn wheelotter_end(text: &[u8]) -> usize
     ensures { λ r. ⌜ r ≡ endOf (now (text .entry)) ⌝ }
 {
-    let line = wheelotter_line(text);
-    if 0 < line {
-        return line_end(text, passed(text, line - 1));
-    }
-    0
+    let place = bad_place(text);
+    place.end
 }
