@@ -12,9 +12,9 @@ use mathlib.Core.Bool.{So}
 use Prim.Native.Nat.{ℕ, suc, _<_, _≤_}
 use native.Mathlib.Decide.{decLt}
 use native.Mathlib.Omega.{arith}
-use lib.ListN.{length, length-replicate}
+use lib.ListN.{length, length-replicate, getD-replicate}
 use Rattle.laws.proofs.Tests.{three, last?}
-use Rattle.trace.specs.Bounds.{RECORDS}
+use Rattle.trace.specs.Bounds.{RECORDS, ADDRESSES}
 use Rattle.trace.specs.Op.{address}
 use Rattle.trace.specs.Trace.{at, idle, empty, pushed, upTo, first}
 use Rattle.trace.specs.WellFormed.{follows, wellFormed}
@@ -22,7 +22,7 @@ use Rattle.trace.specs.Form.{Follows, Form}
 use Rattle.trace.specs.declared.Op.{Op}
 use Rattle.trace.specs.declared.Record.{Record}
 use Rattle.trace.specs.declared.Trace.{Trace}
-use Rattle.trace.proofs.Places.{same-trace, empty-rest, pushed-len, pushed-places, pushed-last, pushed-other, upTo-places, upTo-used, upTo-rest}
+use Rattle.trace.proofs.Places.{same-trace, empty-rest, pushed-len, pushed-firsts, pushed-places, pushed-last, pushed-other, upTo-places, upTo-used, upTo-rest}
 use Rattle.trace.proofs.WellFormed.{follows-iff, form-iff}
 
 pub follows-agree : (t u : Trace) (n : ℕ) (o : Op) → ((a : ℕ) → first u a ≡ first t a) → ((j : ℕ) → j < n → at u j ≡ at t j) → Follows t n o → Follows u n o
@@ -35,9 +35,12 @@ follows-agree t u n o e h f = record {
 }
 
 empty-form : Form empty
+unfolding first
 empty-form = record {
   places = length-replicate {A = Record} RECORDS (record { op = idle });
   fits = omega arith;
+  addresses = length-replicate {A = ℕ} ADDRESSES 0;
+  begins = λ a h. rw (getD-replicate {A = ℕ} ADDRESSES a 0 0 h) (omega arith);
   used = λ i h. absurd (omega arith);
   rest = λ i h l. empty-rest i l;
 }
@@ -52,12 +55,15 @@ module _ (t : Trace) (o : Op) (room : t .len < RECORDS) (f : Form t) (g : Follow
 
   agrees : (n : ℕ) (p : Op) → n ≤ t .len → Follows t n p → Follows (pushed t o) n p
   unfolding first
-  agrees n p h = follows-agree t (pushed t o) n p (λ a. refl) (λ j l. kept j (omega arith))
+  agrees n p h = follows-agree t (pushed t o) n p (λ a. rw (pushed-firsts t o room) refl) (λ j l. kept j (omega arith))
 
   pushed-form : Form (pushed t o)
+  unfolding first
   pushed-form = record {
     places = pushed-places t o room ∙ f .places;
     fits = rw (pushed-len t o room) (omega arith);
+    addresses = rw (pushed-firsts t o room) (f .addresses);
+    begins = λ a h. rw (pushed-firsts t o room) (f .begins a h);
     used = λ i h. elim (last? {i = i} {n = t .len} (let e = pushed-len t o room in omega arith)) [
       | inl e ↦ rw (e, pushed-last t o room (f .places)) (agrees (t .len) o (omega arith) g)
       | inr l ↦ rw (kept i l) (agrees i (at t i) (omega arith) (f .used i l))
@@ -72,16 +78,20 @@ pub upTo-len : (t : Trace) (k : ℕ) → upTo t k .len ≡ k
 unfolding upTo
 upTo-len t k = refl
 
-pub upTo-none : (t : Trace) → upTo t 0 ≡ empty
+pub upTo-none : (t : Trace) → upTo t 0 ≡ record { records = empty .records; len = 0; firsts = t .firsts }
 unfolding upTo
 upTo-none t = refl
+
+pub upTo-firsts : (t : Trace) (k : ℕ) → upTo t k .firsts ≡ t .firsts
+unfolding upTo
+upTo-firsts t k = refl
 
 module _ (t : Trace) (w : So (wellFormed t)) where
   form : Form t
   form = form-iff t .0 w
 
   pub upTo-all : upTo t (t .len) ≡ t
-  upTo-all = same-trace (upTo t (t .len)) t (upTo-len t (t .len)) (upTo-places t (form .places) (t .len) (form .fits)) (form .places) places
+  upTo-all = same-trace (upTo t (t .len)) t (upTo-len t (t .len)) (upTo-firsts t (t .len)) (upTo-places t (form .places) (t .len) (form .fits)) (form .places) places
     where
       places : (i : ℕ) → i < RECORDS → at (upTo t (t .len)) i ≡ at t i
       places i h =
@@ -96,12 +106,15 @@ module _ (t : Trace) (w : So (wellFormed t)) where
 
     agrees-upTo : (n : ℕ) (o : Op) → n ≤ k → Follows t n o → Follows (upTo t k) n o
     unfolding first
-    agrees-upTo n o l = follows-agree t (upTo t k) n o (λ a. refl) (λ j b. upTo-used t (form .places) k fits j (omega arith))
+    agrees-upTo n o l = follows-agree t (upTo t k) n o (λ a. rw (upTo-firsts t k) refl) (λ j b. upTo-used t (form .places) k fits j (omega arith))
 
     upTo-form : Form (upTo t k)
+    unfolding first
     upTo-form = record {
       places = upTo-places t (form .places) k fits;
       fits = rw (upTo-len t k) fits;
+      addresses = rw (upTo-firsts t k) (form .addresses);
+      begins = λ a l. rw (upTo-firsts t k) (form .begins a l);
       used = λ i l.
           let e = upTo-len t k in
           rw (upTo-used t (form .places) k fits i (omega arith)) (agrees-upTo i (at t i) (omega arith) (form .used i (omega arith)));
@@ -118,6 +131,7 @@ module _ (t : Trace) (w : So (wellFormed t)) where
   upTo-more k h =
       same-trace (pushed u o) (upTo t (suc k))
       (omega (arith, pushed-len u o room, len, upTo-len t (suc k)))
+      (pushed-firsts u o room ∙ upTo-firsts t k ∙ sym (upTo-firsts t (suc k)))
       (pushed-places u o room ∙ places)
       (upTo-places t (form .places) (suc k) next)
       at-each

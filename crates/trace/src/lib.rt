@@ -12,6 +12,9 @@ pub const THREADS: u8 = 8;
 
 pub const ADDRESSES: u8 = 16;
 
+// As many values does a memory begin with.
+pub const FIRSTS: usize = 16;
+
 pub const VALUES: u32 = 65536;
 
 // One recorded step of a core, carrying only its own numbers.
@@ -129,10 +132,12 @@ pub struct Record {
     pub op: Op,
 }
 
-// The first len places are used; the others hold a fence of thread 0, so that equal traces are equal throughout.
+// The first len places are used; the others hold a fence of thread 0, so that equal traces are equal throughout. Beside them, the value that each
+// address begins with.
 pub struct Trace {
     pub records: [Record; RECORDS],
     pub len: usize,
+    pub firsts: [u16; FIRSTS],
 }
 
 // The trace of no records.
@@ -144,6 +149,7 @@ pub fn empty() -> Trace
             op: Op::Fence { thread: 0 },
         }; RECORDS],
         len: 0,
+        firsts: [0; FIRSTS],
     }
 }
 
@@ -151,6 +157,10 @@ pub fn empty() -> Trace
 pub fn first(t: Trace, addr: u8) -> u16
     ensures { λ r. ⌜ r ≡ first t addr ⌝ }
 {
+    let i = addr as usize;
+    if i < FIRSTS {
+        return t.firsts[i];
+    }
     0
 }
 
