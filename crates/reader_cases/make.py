@@ -234,8 +234,8 @@ refused('zero-twice', init(3, 7) + b'0: M[3] := 0\n1: M[3] := 0\n', 8, 3, b'1: M
 refused('five-before-six', init(3, 7) + b'0: { M[4] == 0; M[3] := 7 }\n', 5, 2, b'0: { M[4] == 0; M[3] := 7 }')
 
 # the length of a text with init lines
-refused('init-text-32769', init(3, 7) + b'\n' * (32769 - len(init(3, 7))), 1, 0)
-refused('init-text-32768', init(3, 7) + b'\n' * (32768 - len(init(3, 7))), 3, 2)
+refused('init-text-32769', init(3, 7) + b'x' * 80 + b'\n' + b'y' * (32688 - len(init(3, 7))), 1, 0)
+refused('init-text-32768', init(3, 7) + b'x' * 80 + b'\n' + b'y' * (32687 - len(init(3, 7))), 3, 2, b'x' * 80)
 
 # the first bad line is the one that counts
 refused('first-of-two', b'0: M[0] := 0\n0: syn\n', 6, 1, b'0: M[0] := 0', at=0)

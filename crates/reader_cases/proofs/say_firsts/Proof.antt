@@ -6,10 +6,10 @@ use Rattle.reader_cases.proofs.say_firsts.Statement.{statement}
 use Rattle.reader_cases.proofs.say_firsts.Tie as tie
 
 abbrev Inv-loop : tie.InvT-loop
-Inv-loop t i₀ i = i ≤ ADDRESSES
+Inv-loop t i₀ word blank i = i ≤ ADDRESSES
 
 abbrev μ-loop : tie.MeasureT-loop
-μ-loop t i₀ i = ADDRESSES - i
+μ-loop t i₀ word blank i = ADDRESSES - i
 
 loop-holds : tie.Need-loop-holds Inv-loop μ-loop
 loop-holds c = search needs
