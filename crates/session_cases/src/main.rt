@@ -126,7 +126,9 @@ fn same_op(a: Op, b: Op) -> bool {
 fn same_firsts(a: Trace, b: Trace) -> bool {
     let mut i: usize = 0;
     while i < FIRSTS {
-        if a.firsts[i] != b.firsts[i] {
+        let first = a.firsts[i];
+        let other = b.firsts[i];
+        if first != other {
             return false;
         }
         i += 1;
