@@ -4,12 +4,21 @@
 //!                                                   prints tables, and writes the figures into a file
 //!     bench short [SEED]                            only whether the verdicts agree
 //!     bench worst TRACES [SEED]                     the most placements and the longest time in each family
+//!     bench entries TRACES [SEED]                   the time of every entry, over so many traces of each family and model
+//!     bench stack TRACES [SEED]                     the same for its stack
 
+mod agree;
+mod calls;
+mod case;
 mod chance;
+mod clock;
 mod draw;
+mod entries;
 mod library;
 mod measure;
 mod search;
+mod stack;
+mod tables;
 mod worst;
 
 fn main() -> std::io::Result<()> {
@@ -20,7 +29,9 @@ fn main() -> std::io::Result<()> {
         Some("short") if !measure::short(number(1, 1)) => std::process::exit(1),
         Some("short") => {}
         Some("worst") => worst::worst(number(1, 1000), number(2, 1)),
-        _ => eprintln!("usage: bench measure TRACES SECONDS FIGURES [SEED] | short [SEED] | worst TRACES [SEED]"),
+        Some("entries") => entries::entries(number(1, 100), number(2, 1)),
+        Some("stack") => stack::stack(number(1, 100), number(2, 1)),
+        _ => eprintln!("usage: bench measure TRACES SECONDS FIGURES [SEED] | short [SEED] | worst|entries|stack TRACES [SEED]"),
     }
     Ok(())
 }

@@ -1,0 +1,133 @@
+//! How much stack every entry uses: it is called on a thread whose stack is memory of ours, painted beforehand; what is no longer painted was used.
+
+use crate::calls::CALLS;
+use crate::case::Case;
+use crate::chance::Chance;
+use crate::draw::{text_of, FAMILIES};
+use crate::library::{self, Lent};
+use simple::Record;
+use std::ffi::c_void;
+use std::ptr;
+use wheelotter::TEXT;
+
+/// The stack that is painted: much more than any entry takes.
+const ROOM: usize = 1 << 21;
+const PAINT: u8 = 0xA5;
+
+/// Where the C library keeps what a thread is made with: more bytes than it asks for.
+#[repr(C, align(16))]
+struct Manner([u8; 256]);
+
+type Start = extern "C" fn(*mut c_void) -> *mut c_void;
+
+extern "C" {
+    fn pthread_attr_init(manner: *mut Manner) -> i32;
+    fn pthread_attr_setstack(manner: *mut Manner, stack: *mut c_void, size: usize) -> i32;
+    fn pthread_attr_destroy(manner: *mut Manner) -> i32;
+    fn pthread_create(thread: *mut usize, manner: *const Manner, start: Start, work: *mut c_void) -> i32;
+    fn pthread_join(thread: usize, back: *mut *mut c_void) -> i32;
+}
+
+/// The memory that is lent as a stack, aligned as stacks are.
+#[repr(C, align(65536))]
+struct Stack([u8; ROOM]);
+
+struct Work<'a> {
+    call: &'a mut dyn FnMut(),
+    /// Where the stack stood when the call was made.
+    from: usize,
+}
+
+extern "C" fn start(work: *mut c_void) -> *mut c_void {
+    // SAFETY: it is the work that `used` lends and leaves alone until this thread has ended.
+    let work = unsafe { &mut *work.cast::<Work>() };
+    let here = 0u8;
+    work.from = ptr::from_ref(&here) as usize;
+    (work.call)();
+    ptr::null_mut()
+}
+
+/// How many bytes of stack a call used: down to the lowest that is no longer painted.
+fn used(stack: &mut Stack, call: &mut dyn FnMut()) -> usize {
+    stack.0.fill(PAINT);
+    let (mut manner, mut thread, mut work) = (Manner([0; 256]), 0, Work { call, from: 0 });
+    let (lent, low) = (ptr::from_mut(stack), ptr::from_ref(stack) as usize);
+    // SAFETY: the stack is lent to nobody else, and the thread has ended before it, the work or the manner is looked at again.
+    let failed = unsafe {
+        pthread_attr_init(&mut manner)
+            | pthread_attr_setstack(&mut manner, lent.cast(), ROOM)
+            | pthread_create(&mut thread, &manner, start, ptr::from_mut(&mut work).cast())
+            | pthread_join(thread, ptr::null_mut())
+            | pthread_attr_destroy(&mut manner)
+    };
+    let deepest = stack.0.iter().position(|&byte| byte != PAINT);
+    assert!(failed == 0 && deepest.is_some_and(|deepest| deepest > 0), "no thread, or its stack was too small");
+    work.from - low - deepest.unwrap_or(0)
+}
+
+/// The most that was seen of an entry, and on what.
+#[derive(Clone, Default)]
+struct Most {
+    calls: u64,
+    bytes: usize,
+    on: String,
+}
+
+/// A line for each entry: the most bytes of stack over so many traces of each family and model, and over texts that are turned back.
+pub fn stack(traces: u64, seed: u64) {
+    let records = library::most_records();
+    let mut stack = Box::new(Stack([0; ROOM]));
+    let mut most = vec![Most::default(); CALLS.len()];
+    for family in &FAMILIES {
+        for model in library::models() {
+            for number in 0..traces {
+                let mut chance = Chance::of_case(seed, number);
+                let trace = (family.draw)(&mut chance, records, model);
+                let mut case = Case::of(&mut chance, &trace, model);
+                note(&mut stack, &case, &format!("{}, {}", family.name, model.name()), &mut most);
+                if number < 8 {
+                    spoil(&mut case, &trace, number);
+                    note(&mut stack, &case, "a refused text", &mut most);
+                }
+                eprint!("\r{}, {}: {} of {traces}  ", family.name, model.name(), number + 1);
+            }
+            eprintln!();
+        }
+    }
+    println!("| entry | calls | most stack, bytes | seen on |\n|---|---|---|---|");
+    for (call, most) in CALLS.iter().zip(most) {
+        println!("| {} | {} | {} | {} |", call.name, most.calls, most.bytes, most.on);
+    }
+}
+
+fn note(stack: &mut Stack, case: &Case, on: &str, most: &mut [Most]) {
+    let mut lent = Lent::new();
+    for (call, most) in CALLS.iter().zip(most).filter(|(call, _)| call.applies(case)) {
+        lent.ready_for(case);
+        let bytes = used(stack, &mut || (call.library)(case, &mut lent));
+        most.calls += 1;
+        if bytes > most.bytes {
+            (most.bytes, most.on) = (bytes, on.to_string());
+        }
+    }
+}
+
+/// Makes the text one that is turned back for its last line, or is too long: one of numbers 1 to 8, and so a session that is none.
+fn spoil(case: &mut Case, trace: &[Record], number: u64) {
+    let last = |line: &str| [text_of(&trace[..trace.len() - 1]), line.as_bytes().to_vec()].concat();
+    let again = trace.iter().find(|record| matches!(record, Record::Store { .. })).map(|store| text_of(&[*store]));
+    case.text = match number {
+        0 => b"0: sync\n".repeat(TEXT / 8 + 1),
+        1 => last(&" ".repeat(81)),
+        2 => last("0: M[0] = 1\n"),
+        3 => last("8: sync\n"),
+        4 => last("0: { M[0] == 0; M[1] := 65535 }\n"),
+        5 => last("0: M[0] := 0\n"),
+        6 => [case.text.clone(), b"0: sync\n".repeat(257)].concat(),
+        _ => last(&String::from_utf8_lossy(&again.unwrap_or_default())),
+    };
+    if !case.session.is_empty() {
+        case.session.truncate(wheelotter::HEAD);
+        case.session.extend_from_slice(&case.text);
+    }
+}
