@@ -1,6 +1,6 @@
 //! How much stack every entry uses: it is called on a thread whose stack is memory of ours, painted beforehand; what is no longer painted was used.
 
-use crate::calls::CALLS;
+use crate::calls::{Call, CALLS};
 use crate::case::Case;
 use crate::chance::Chance;
 use crate::draw::{text_of, FAMILIES};
@@ -8,7 +8,7 @@ use crate::library::{self, Lent};
 use simple::Record;
 use std::ffi::c_void;
 use std::ptr;
-use wheelotter::TEXT;
+use wheelotter::{HEAD, RECORDS, TEXT};
 
 /// The stack that is painted: much more than any entry takes.
 const ROOM: usize = 1 << 21;
@@ -65,69 +65,72 @@ fn used(stack: &mut Stack, call: &mut dyn FnMut()) -> usize {
     work.from - low - deepest.unwrap_or(0)
 }
 
-/// The most that was seen of an entry, and on what.
-#[derive(Clone, Default)]
-struct Most {
-    calls: u64,
-    bytes: usize,
-    on: String,
-}
+/// The kinds of cases: a family each, and what is turned back.
+const KINDS: usize = FAMILIES.len() + 1;
 
-/// A line for each entry: the most bytes of stack over so many traces of each family and model, and over texts that are turned back.
+/// So many ways to spoil a case; with the last one only its session is turned back.
+const SPOILT: u64 = 9;
+
+/// A line for each entry: the most bytes of stack over so many traces of each family and model, the first few of them spoilt too.
 pub fn stack(traces: u64, seed: u64) {
     let records = library::most_records();
     let mut stack = Box::new(Stack([0; ROOM]));
-    let mut most = vec![Most::default(); CALLS.len()];
-    for family in &FAMILIES {
+    let mut most = vec![[0; KINDS]; CALLS.len()];
+    for (kind, family) in FAMILIES.iter().enumerate() {
         for model in library::models() {
             for number in 0..traces {
                 let mut chance = Chance::of_case(seed, number);
                 let trace = (family.draw)(&mut chance, records, model);
                 let mut case = Case::of(&mut chance, &trace, model);
-                note(&mut stack, &case, &format!("{}, {}", family.name, model.name()), &mut most);
-                if number < 8 {
+                note(&mut stack, &case, kind, &mut most, |_| true);
+                if number < SPOILT {
                     spoil(&mut case, &trace, number);
-                    note(&mut stack, &case, "a refused text", &mut most);
+                    note(&mut stack, &case, KINDS - 1, &mut most, |call| call.session || number + 1 < SPOILT);
                 }
                 eprint!("\r{}, {}: {} of {traces}  ", family.name, model.name(), number + 1);
             }
             eprintln!();
         }
     }
-    println!("| entry | calls | most stack, bytes | seen on |\n|---|---|---|---|");
-    for (call, most) in CALLS.iter().zip(most) {
-        println!("| {} | {} | {} | {} |", call.name, most.calls, most.bytes, most.on);
-    }
+    print(&most);
 }
 
-fn note(stack: &mut Stack, case: &Case, on: &str, most: &mut [Most]) {
+fn note(stack: &mut Stack, case: &Case, kind: usize, most: &mut [[usize; KINDS]], wanted: impl Fn(&Call) -> bool) {
     let mut lent = Lent::new();
-    for (call, most) in CALLS.iter().zip(most).filter(|(call, _)| call.applies(case)) {
+    for (call, most) in CALLS.iter().zip(most).filter(|(call, _)| call.applies(case) && wanted(call)) {
         lent.ready_for(case);
-        let bytes = used(stack, &mut || (call.library)(case, &mut lent));
-        most.calls += 1;
-        if bytes > most.bytes {
-            (most.bytes, most.on) = (bytes, on.to_string());
-        }
+        most[kind] = most[kind].max(used(stack, &mut || (call.library)(case, &mut lent)));
     }
 }
 
-/// Makes the text one that is turned back for its last line, or is too long: one of numbers 1 to 8, and so a session that is none.
+fn print(most: &[[usize; KINDS]]) {
+    println!("| entry, most bytes of stack | {} | turned back | of all |", FAMILIES.map(|family| family.name).join(" | "));
+    println!("|---|{}---|", "---|".repeat(KINDS));
+    for (call, most) in CALLS.iter().zip(most) {
+        let all = most.iter().max().unwrap_or(&0);
+        println!("| {} | {} | {all} |", call.name, most.map(|bytes| bytes.to_string()).join(" | "));
+    }
+}
+
+/// Makes a text that is turned back for its last line, or is too long, by numbers 1 to 8, and so a session that is none; or only spoils the session.
 fn spoil(case: &mut Case, trace: &[Record], number: u64) {
-    let last = |line: &str| [text_of(&trace[..trace.len() - 1]), line.as_bytes().to_vec()].concat();
-    let again = trace.iter().find(|record| matches!(record, Record::Store { .. })).map(|store| text_of(&[*store]));
-    case.text = match number {
+    let last = |line: &[u8]| [&text_of(&trace[..trace.len() - 1]), line].concat();
+    let store = trace.iter().find(|record| matches!(record, Record::Store { .. }));
+    let text = match number {
         0 => b"0: sync\n".repeat(TEXT / 8 + 1),
-        1 => last(&" ".repeat(81)),
-        2 => last("0: M[0] = 1\n"),
-        3 => last("8: sync\n"),
-        4 => last("0: { M[0] == 0; M[1] := 65535 }\n"),
-        5 => last("0: M[0] := 0\n"),
-        6 => [case.text.clone(), b"0: sync\n".repeat(257)].concat(),
-        _ => last(&String::from_utf8_lossy(&again.unwrap_or_default())),
+        1 => last(&[b' '; 81]),
+        2 => last(b"0: M[0] = 1\n"),
+        3 => last(b"8: sync\n"),
+        4 => last(b"0: { M[0] == 0; M[1] := 65535 }\n"),
+        5 => last(b"0: M[0] := 0\n"),
+        6 => [&case.text[..], &b"0: sync\n".repeat(RECORDS)].concat(),
+        7 => last(&store.map_or(Vec::new(), |store| text_of(&[*store]))),
+        _ => case.text.clone(),
     };
+    case.text = text;
     if !case.session.is_empty() {
-        case.session.truncate(wheelotter::HEAD);
+        case.session[HEAD - 1] ^= 1;
+        case.session.truncate(HEAD);
         case.session.extend_from_slice(&case.text);
     }
 }

@@ -11,14 +11,15 @@ use simple::Model;
 use wheelotter::{entries, Answer};
 
 /// A run of so many milliseconds and more is looked at again: the best of TIMES counts.
-const LATE: f64 = 4.0;
+const LATE: f64 = 10.0;
 
 /// A line for each family and model: how often there is an order; the most placements of the search, by its copy in Rust; the library's time.
-pub fn worst(traces: u64, seed: u64) {
+/// Of one family, where it is named.
+pub fn worst(traces: u64, seed: u64, only: Option<&str>) {
     let records = library::most_records();
     println!("| family, {records} records | model | traces | order | placements: median, p99, most | library, ms: median, p99, most |");
     println!("|---|---|---|---|---|---|");
-    for family in &FAMILIES {
+    for family in FAMILIES.iter().filter(|family| only.is_none_or(|name| name == family.name)) {
         for model in library::models() {
             let (mut orders, mut placements, mut times) = (0, Vec::new(), Vec::new());
             for number in 0..traces {
