@@ -36,12 +36,10 @@ pub fn entries(traces: u64, seed: u64) {
 }
 
 fn lines() -> Vec<Line> {
-    let under = |call: &'static Call| match call.name == CALLS[the_verdict()].name {
-        true => library::models().into_iter().map(|model| (call, Some(model))).collect(),
-        false => vec![(call, None)],
-    };
-    let line = |(call, model)| Line { call, model, times: std::array::from_fn(|_| Vec::new()) };
-    CALLS.iter().flat_map(under).map(line).collect()
+    let models: Vec<Option<Model>> = library::models().into_iter().map(Some).collect();
+    let under = |i: usize| if i == the_verdict() { models.clone() } else { vec![None] };
+    let line = |call, model| Line { call, model, times: std::array::from_fn(|_| Vec::new()) };
+    CALLS.iter().enumerate().flat_map(|(i, call)| under(i).into_iter().map(move |model| line(call, model))).collect()
 }
 
 /// All lines over so many traces of each family and model.

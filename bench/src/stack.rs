@@ -47,22 +47,22 @@ extern "C" fn start(work: *mut c_void) -> *mut c_void {
     ptr::null_mut()
 }
 
-/// How many bytes of stack a call used: down to the lowest that is no longer painted.
+/// How many bytes of stack a call used: down to the lowest that is no longer painted, and up to where this thread began it, so about a hundred too many.
 fn used(stack: &mut Stack, call: &mut dyn FnMut()) -> usize {
     stack.0.fill(PAINT);
     let (mut manner, mut thread, mut work) = (Manner([0; 256]), 0, Work { call, from: 0 });
     let (lent, low) = (ptr::from_mut(stack), ptr::from_ref(stack) as usize);
     // SAFETY: the stack is lent to nobody else, and the thread has ended before it, the work or the manner is looked at again.
-    let failed = unsafe {
-        pthread_attr_init(&mut manner)
-            | pthread_attr_setstack(&mut manner, lent.cast(), ROOM)
-            | pthread_create(&mut thread, &manner, start, ptr::from_mut(&mut work).cast())
-            | pthread_join(thread, ptr::null_mut())
-            | pthread_attr_destroy(&mut manner)
+    let ended = unsafe {
+        pthread_attr_init(&mut manner) == 0
+            && pthread_attr_setstack(&mut manner, lent.cast(), ROOM) == 0
+            && pthread_create(&mut thread, &manner, start, ptr::from_mut(&mut work).cast()) == 0
+            && pthread_join(thread, ptr::null_mut()) == 0
+            && pthread_attr_destroy(&mut manner) == 0
     };
-    let deepest = stack.0.iter().position(|&byte| byte != PAINT);
-    assert!(failed == 0 && deepest.is_some_and(|deepest| deepest > 0), "no thread, or its stack was too small");
-    work.from - low - deepest.unwrap_or(0)
+    let deepest = stack.0.iter().position(|&byte| byte != PAINT).unwrap_or(0);
+    assert!(ended && deepest > 0, "no thread, or its stack was too small");
+    work.from - low - deepest
 }
 
 /// The kinds of cases: a family each, and what is turned back.
