@@ -18,7 +18,7 @@ pub struct Call {
     pub simple: Option<[fn(&Case); 2]>,
 }
 
-/// The whole answer has no counterpart, since the plain search seldom ends under every model. Nor has where a bad line starts and ends.
+/// The whole answer has no counterpart, since the plain search would have to end under every model. Nor has where a bad line starts and ends.
 #[rustfmt::skip]
 pub static CALLS: [Call; 11] = [
     Call { name: "report", session: false, library: |case, lent| keep(entries::report(&case.text, &mut lent.out)), simple: None },
