@@ -15,12 +15,15 @@ pub struct Family {
     pub draw: fn(&mut Chance, usize, Model) -> Vec<Record>,
 }
 
-pub const FAMILIES: [Family; 4] = [
-    Family { name: "valid", draw: valid },
-    Family { name: "one read changed", draw: changed },
-    Family { name: "knots", draw: knots },
-    Family { name: "padded knots", draw: padded },
-];
+const VALID: Family = Family { name: "valid", draw: valid };
+const CHANGED: Family = Family { name: "one read changed", draw: changed };
+const KNOTS: Family = Family { name: "knots", draw: knots };
+const PADDED: Family = Family { name: "padded knots", draw: padded };
+
+pub const FAMILIES: [Family; 4] = [VALID, CHANGED, KNOTS, PADDED];
+
+/// Those that have as many records as they are asked for.
+pub const FULL: [Family; 3] = [VALID, CHANGED, PADDED];
 
 /// What is measured: half of the traces keep the model, half have one read changed.
 pub fn drawn(chance: &mut Chance, records: usize, model: Model) -> Vec<Record> {

@@ -1,25 +1,35 @@
 //! The proved library, by its entries over bytes; and what it has room for, found by asking it.
 
+use crate::case::Case;
 use simple::models::{Model, MODELS};
-use wheelotter::entries;
+use wheelotter::{entries, HEAD};
 
-/// More than any verdict takes.
+/// More than any answer takes.
 const ROOM: usize = 1 << 14;
+
+/// Memory lent to the library.
+pub struct Lent {
+    pub out: Vec<u8>,
+    pub session: Vec<u8>,
+}
+
+impl Lent {
+    pub fn new() -> Lent {
+        Lent { out: vec![0; ROOM], session: Vec::new() }
+    }
+
+    /// The session as it stands before a call on a case, which may change it.
+    pub fn ready_for(&mut self, case: &Case) {
+        self.session.clone_from(&case.session);
+        self.session.resize(HEAD + case.text.len(), 0);
+    }
+}
 
 /// The printed lines of the whole answer to a text.
 pub fn lines(text: &[u8]) -> Vec<String> {
     let mut out = [0; ROOM];
     let length = entries::report(text, &mut out);
     String::from_utf8_lossy(&out[..length]).lines().map(str::to_string).collect()
-}
-
-/// The verdict under one model, in lent bytes.
-pub fn verdict(text: &[u8], model: Model, out: &mut [u8; ROOM]) -> u8 {
-    entries::verdict(text, model as u8, out)
-}
-
-pub fn room() -> [u8; ROOM] {
-    [0; ROOM]
 }
 
 /// The models that it has: a line for each in its answer to the empty text.

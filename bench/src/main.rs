@@ -3,13 +3,22 @@
 //!     bench measure TRACES SECONDS FIGURES [SEED]   against the same checks written simply: so many traces a size and model, or so many seconds;
 //!                                                   prints tables, and writes the figures into a file
 //!     bench short [SEED]                            only whether the verdicts agree
-//!     bench worst TRACES [SEED]                     the most placements and the longest time in each family
+//!     bench worst TRACES [SEED [FAMILY]]            the most placements and the longest time in each family, or in one
+//!     bench entries TRACES [SEED]                   the time of every entry, over so many traces of each family and model
+//!     bench stack TRACES [SEED]                     the same for its stack
 
+mod agree;
+mod calls;
+mod case;
 mod chance;
+mod clock;
 mod draw;
+mod entries;
 mod library;
 mod measure;
 mod search;
+mod stack;
+mod tables;
 mod worst;
 
 fn main() -> std::io::Result<()> {
@@ -19,8 +28,10 @@ fn main() -> std::io::Result<()> {
         Some("measure") if words.len() > 3 => measure::measure(number(1, 200), number(2, 600), &words[3], number(4, 1))?,
         Some("short") if !measure::short(number(1, 1)) => std::process::exit(1),
         Some("short") => {}
-        Some("worst") => worst::worst(number(1, 1000), number(2, 1)),
-        _ => eprintln!("usage: bench measure TRACES SECONDS FIGURES [SEED] | short [SEED] | worst TRACES [SEED]"),
+        Some("worst") => worst::worst(number(1, 1000), number(2, 1), words.get(3).map(String::as_str)),
+        Some("entries") => entries::entries(number(1, 100), number(2, 1)),
+        Some("stack") => stack::stack(number(1, 100), number(2, 1)),
+        _ => eprintln!("usage: bench measure TRACES SECONDS FIGURES [SEED] | short [SEED] | worst TRACES [SEED [FAMILY]] | entries|stack TRACES [SEED]"),
     }
     Ok(())
 }

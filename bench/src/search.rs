@@ -47,6 +47,16 @@ fn set(records: usize, test: impl Fn(usize) -> bool) -> Row {
     row
 }
 
+/// Adds every chain.
+fn close(rows: &mut [Row]) {
+    for k in 0..rows.len() {
+        let through = rows[k];
+        for row in rows.iter_mut().filter(|row| has(row, k)) {
+            row.iter_mut().zip(through).for_each(|(word, more)| *word |= more);
+        }
+    }
+}
+
 /// Nothing is placed where a source is missing or the rules run in a circle.
 pub fn search(trace: &[Record], model: Model) -> Found {
     let n = trace.len();
@@ -91,27 +101,25 @@ impl Search {
 
     /// With all that is placed before all that is not, rules 6 and 7 close a circle.
     fn refuted(&self, placed: &Row) -> bool {
-        let n = self.records();
-        let mut led = Words::empty(n);
-        (0..n).for_each(|y| (0..n).filter(|&x| has(&self.before[y], x)).for_each(|x| led.put(y, x)));
+        let mut led = self.before.clone();
         loop {
             let was = led.clone();
-            for load in (0..n).filter(|&load| !has(placed, load)) {
+            for load in (0..self.records()).filter(|&load| !has(placed, load)) {
                 let Some(source) = self.sources[load] else { continue };
-                for z in (0..n).filter(|&z| z != source && has(&self.writers[load], z)) {
-                    if led.has(load, z) {
-                        led.put(source, z);
+                for z in (0..self.records()).filter(|&z| z != source && has(&self.writers[load], z)) {
+                    if has(&led[load], z) {
+                        put(&mut led[source], z);
                     }
-                    if led.has(z, source) || (has(placed, source) && !has(placed, z)) {
-                        led.put(z, load);
+                    if has(&led[z], source) || (has(placed, source) && !has(placed, z)) {
+                        put(&mut led[z], load);
                     }
                 }
             }
             if led == was {
                 return false;
             }
-            led.close();
-            if (0..n).any(|x| led.has(x, x)) {
+            close(&mut led);
+            if (0..self.records()).any(|x| has(&led[x], x)) {
                 return true;
             }
         }

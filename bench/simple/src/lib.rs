@@ -5,10 +5,12 @@
 //! The tables of edges are [`Bools`], a list of lists, or [`Words`], rows of bits; all else is the same code.
 
 pub mod circle;
+pub mod judge;
 pub mod models;
 pub mod reader;
 pub mod rules;
 pub mod search;
+pub mod session;
 pub mod table;
 
 pub use models::Model;
