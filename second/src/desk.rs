@@ -3,7 +3,7 @@
 //! | Answer | Meaning |
 //! |---|---|
 //! | 0 | done, or nothing is wrong |
-//! | 1 to 16 | the document's numbers |
+//! | 1 to 17 | the document's numbers |
 //! | 21 | no room in the lent memory, which stays as it was; whatever is wrong with the input is told before it |
 //! | 64, 65, 66 | the verdict: order, circle, none left |
 //! | 67, 68, 69 | asked: held, not held, contradicted |

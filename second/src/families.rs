@@ -3,6 +3,7 @@
 use crate::chance::Chance;
 use crate::trace::MOST_RECORDS;
 
+mod firsts;
 mod knot;
 mod runs;
 mod texts;
@@ -43,6 +44,7 @@ const ALL: &[Family] = &[
     often("rounds", "runs on 1 to 3 crowded addresses, a read changed to a neighbouring value", runs::rounds),
     often("edges", "one line of a good text on either side of a refusal's edge", texts::edges),
     often("numbers", "lines of the forms with numbers at and past their bounds", texts::numbers),
+    often("inits", "init lines, twice or late or past a bound, and records that write what they say", texts::inits),
     often("ranks", "a line to which several numbers apply, often one record past the bound", texts::ranks),
     often("sizes", "lines, records and bytes at their bounds and one past", texts::sizes),
     often("damaged", "a good text with one to three bytes put in, taken out or changed", texts::damaged),

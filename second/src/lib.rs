@@ -6,8 +6,8 @@
 //! | Module | Its part of the document |
 //! |---|---|
 //! | `bounds` | the bounds |
-//! | `trace` | what the bench records, models, kept pairs, well formed |
-//! | `reader` | the four line forms, numbers 1 to 8 |
+//! | `trace` | what the bench records, first values, models, kept pairs, well formed |
+//! | `reader` | the line forms, numbers 1 to 8 and 17 |
 //! | `rules` | the edges that the rules force, rounds, held, the circle shown |
 //! | `orders` | valid orders, the judge, the first order in dictionary order |
 //! | `verdict` | the verdict, numbers 9 and 10 |

@@ -1,4 +1,4 @@
-//! Simulated machines whose traces keep their model by construction.
+//! Simulated machines whose traces keep their model by construction. Their memory starts at the first values.
 //!
 //! SC: one memory, each operation at once. TSO: each core has a buffer of its stores, first in first out; a load looks into its own
 //! buffer first; swaps and fences wait for their own buffer to be empty. PSO: the same, but a core has such a buffer for each address, and a swap
@@ -10,7 +10,7 @@
 //! a valid order.
 
 use crate::chance::Chance;
-use crate::trace::{Model, Record, BEGINNING, LAST_VALUE};
+use crate::trace::{Firsts, Model, Record, LAST_VALUE};
 use std::collections::{BTreeMap, BTreeSet, VecDeque};
 
 /// What a chance program looks like.
@@ -31,21 +31,26 @@ pub struct Shape {
     /// Times in a hundred that a store goes to the thread's home, an address that it seldom shares with others. Threads that store all
     /// over see mostly their own values, and then a TSO run is seldom anything that SC forbids.
     pub home: usize,
+    pub firsts: Firsts,
 }
 
-/// Values that were not written yet, address by address.
-#[derive(Default)]
+/// Values that were not written yet, address by address, and are not its first.
 pub struct Values {
     used: BTreeSet<(u64, u64)>,
 }
 
 impl Values {
-    /// Mostly low numbers, at times the highest ones.
+    pub fn other_than(firsts: &Firsts) -> Values {
+        Values { used: firsts.iter().enumerate().map(|(address, &value)| (address as u64, value)).collect() }
+    }
+
+    /// Mostly low numbers, at times the highest ones, or 0.
     pub fn fresh(&mut self, chance: &mut Chance, address: u64) -> u64 {
         loop {
             let value = match chance.below(20) {
                 0 => LAST_VALUE - chance.below(70) as u64,
                 1 => 1 + chance.below(LAST_VALUE as usize) as u64,
+                2 => 0,
                 _ => 1 + chance.below(80) as u64,
             };
             if self.used.insert((address, value)) {
@@ -62,7 +67,7 @@ impl Values {
 /// What all but WMO's have: buffers of stores, which are empty after every step under SC.
 struct Machine {
     model: Model,
-    memory: BTreeMap<u64, u64>,
+    memory: Firsts,
     buffers: BTreeMap<u64, VecDeque<(u64, u64)>>,
 }
 
@@ -79,7 +84,7 @@ impl Machine {
         };
         match place.and_then(|place| buffer.remove(place)) {
             Some((address, value)) => {
-                self.memory.insert(address, value);
+                self.memory[address as usize] = value;
                 true
             }
             None => false,
@@ -99,13 +104,13 @@ impl Machine {
         let newest = buffer.iter().rev().find(|(to, _)| *to == address).map(|(_, value)| *value);
         buffer.retain(|(to, _)| *to != address);
         if let Some(value) = newest {
-            self.memory.insert(address, value);
+            self.memory[address as usize] = value;
         }
     }
 
     fn load(&self, thread: u64, address: u64) -> u64 {
         let own = self.buffers.get(&thread).and_then(|buffer| buffer.iter().rev().find(|(to, _)| *to == address));
-        own.map(|&(_, value)| value).or_else(|| self.memory.get(&address).copied()).unwrap_or(BEGINNING)
+        own.map_or(self.memory[address as usize], |&(_, value)| value)
     }
 
     fn waiting(&self, thread: u64) -> Vec<u64> {
@@ -123,8 +128,8 @@ pub fn run_under(chance: &mut Chance, shape: &Shape, model: Model) -> Vec<Record
     if model == Model::Wmo {
         return run_wmo(chance, shape);
     }
-    let mut machine = Machine { model, memory: BTreeMap::new(), buffers: BTreeMap::new() };
-    let mut values = Values::default();
+    let mut machine = Machine { model, memory: shape.firsts, buffers: BTreeMap::new() };
+    let mut values = Values::other_than(&shape.firsts);
     let mut records = Vec::new();
     while records.len() < shape.records {
         if chance.percent(shape.drains) {
@@ -144,16 +149,19 @@ pub fn run_under(chance: &mut Chance, shape: &Shape, model: Model) -> Vec<Record
     records
 }
 
+/// What a read says while it is not done.
+const NOT_YET: u64 = 0;
+
 /// WMO's machine: for each core the records that were begun and not yet done. A read is settled when it is done.
 struct Wmo {
-    memory: BTreeMap<u64, u64>,
+    memory: Firsts,
     records: Vec<Record>,
     begun: BTreeMap<u64, Vec<usize>>,
 }
 
 fn run_wmo(chance: &mut Chance, shape: &Shape) -> Vec<Record> {
-    let mut machine = Wmo { memory: BTreeMap::new(), records: Vec::new(), begun: BTreeMap::new() };
-    let mut values = Values::default();
+    let mut machine = Wmo { memory: shape.firsts, records: Vec::new(), begun: BTreeMap::new() };
+    let mut values = Values::other_than(&shape.firsts);
     while machine.records.len() < shape.records {
         let thread = *chance.of(&shape.threads);
         if chance.percent(shape.drains.max(5)) {
@@ -163,9 +171,9 @@ fn run_wmo(chance: &mut Chance, shape: &Shape) -> Vec<Record> {
         let kind = kind(chance, shape, machine.records.len());
         let address = some_address(chance, shape, &machine.waiting(thread), &kind, thread);
         machine.begin(match kind {
-            Kind::Load => Record::Load { thread, address, read: BEGINNING },
+            Kind::Load => Record::Load { thread, address, read: NOT_YET },
             Kind::Store => Record::Store { thread, address, written: values.fresh(chance, address) },
-            Kind::Swap => Record::Swap { thread, address, read: BEGINNING, written: values.fresh(chance, address) },
+            Kind::Swap => Record::Swap { thread, address, read: NOT_YET, written: values.fresh(chance, address) },
             Kind::Fence => Record::Fence { thread },
         });
     }
@@ -218,13 +226,13 @@ impl Wmo {
     fn done(&mut self, x: usize, earlier: &[usize]) {
         let Some(address) = self.records[x].address() else { return };
         let own = earlier.iter().rev().map(|&w| &self.records[w]).find(|r| r.is_plain_store() && r.address() == Some(address));
-        let now = own.and_then(Record::written).or_else(|| self.memory.get(&address).copied()).unwrap_or(BEGINNING);
+        let now = own.and_then(Record::written).unwrap_or(self.memory[address as usize]);
         match &mut self.records[x] {
             Record::Load { read, .. } | Record::Swap { read, .. } => *read = now,
             Record::Store { .. } | Record::Fence { .. } => {}
         }
         if let Some(value) = self.records[x].written() {
-            self.memory.insert(address, value);
+            self.memory[address as usize] = value;
         }
     }
 }
@@ -275,7 +283,7 @@ fn step(chance: &mut Chance, kind: Kind, machine: &mut Machine, values: &mut Val
             machine.drain_for_swap(chance, thread, address);
             let read = machine.load(thread, address);
             let written = values.fresh(chance, address);
-            machine.memory.insert(address, written);
+            machine.memory[address as usize] = written;
             Record::Swap { thread, address, read, written }
         }
         Kind::Fence => {

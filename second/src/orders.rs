@@ -2,7 +2,7 @@
 //!
 //! Nothing here looks at the rules' edges, so that an order found here is a test of the rules, and the other way round.
 
-use crate::trace::{kept, Model, Trace, BEGINNING, LAST_ADDRESS, MOST_RECORDS};
+use crate::trace::{kept, Model, Trace, ADDRESSES, LAST_ADDRESS, MOST_RECORDS};
 use std::collections::HashMap;
 
 /// The first valid order, the knowledge that there is none, or neither.
@@ -57,7 +57,7 @@ fn value_at(trace: &Trace, list: &[usize], at: usize) -> u64 {
         .rev()
         .filter(|&i| list[i] != load && trace.writes_to(list[i], address))
         .find(|&i| i < at || trace.before_in_program(list[i], load))
-        .map_or(BEGINNING, |i| trace.places[list[i]].written().expect("a writer writes"))
+        .map_or(trace.first(address), |i| trace.places[list[i]].written().expect("a writer writes"))
 }
 
 // ---- why a list is no order ----
@@ -192,8 +192,6 @@ impl Set {
     }
 }
 
-const ADDRESSES: usize = LAST_ADDRESS as usize + 1;
-
 /// What matters of a list so far: who stands in it, and which writer of each address stands last, if any does.
 ///
 /// Nothing else does: whether y may follow, and what it then reads, is told from these two (`is_ready`, `reads_rightly`), and so is the
@@ -249,7 +247,12 @@ impl<'a> Board<'a> {
         let Some(read) = self.trace.places[y].read() else { return true };
         let to_come = self.own_writers[y].iter().rev().copied().find(|&w| !state.placed.has(w));
         let writer = to_come.or_else(|| self.latest(state, self.address(y)));
-        read == writer.map_or(BEGINNING, |w| self.trace.places[w].written().expect("a writer writes"))
+        read == self.left_by(writer, self.address(y))
+    }
+
+    /// What the latest writer left at its address, and where there is none what was there first.
+    fn left_by(&self, writer: Option<usize>, address: usize) -> u64 {
+        writer.map_or(self.trace.firsts[address], |w| self.trace.places[w].written().expect("a writer writes"))
     }
 
     fn latest(&self, state: &State, address: usize) -> Option<usize> {
@@ -266,17 +269,17 @@ impl<'a> Board<'a> {
     }
 
     /// Writer y would come to stand between a load that is still to come and the value it has to read: behind y, that load can read
-    /// neither the beginning nor what the latest writer so far wrote, for y counts for it and stands later. (Values name their writers,
+    /// neither the first value nor what the latest writer so far wrote, for y counts for it and stands later. (Values name their writers,
     /// so y does not write the same.) Every completion is then wrong. The load may be a swap, but not y itself.
     fn spoils(&self, state: &State, y: usize) -> bool {
         if self.trace.places[y].written().is_none() {
             return false;
         }
         let address = self.address(y);
-        let covered = self.latest(state, address).map_or(BEGINNING, |w| self.trace.places[w].written().expect("a writer writes"));
+        let covered = self.left_by(self.latest(state, address), address);
         self.readers[address].iter().any(|&load| {
-            let read = self.trace.places[load].read();
-            load != y && !state.placed.has(load) && (read == Some(covered) || read == Some(BEGINNING))
+            let gone = self.trace.places[load].read() == Some(covered) || self.trace.reads_first(load);
+            load != y && !state.placed.has(load) && gone
         })
     }
 
@@ -394,7 +397,7 @@ impl<'a> Search<'a> {
     ///
     /// So can a writer y that may follow, together with all that read from it, where these are plain loads that may follow it. In any completion
     /// move y and behind it its readers to the front. They are ready, and read rightly. Take any other load at that address. It reads neither
-    /// the beginning nor what stands there now, for y would spoil it; nor from y. So it reads from a writer that is still to come, and y is
+    /// the first value nor what stands there now, for y would spoil it; nor from y. So it reads from a writer that is still to come, and y is
     /// before that one now, as it was or not: the latest that counts for this load is the same as before, whether y counts or not.
     fn with_readers(&self, state: &State, y: usize, readers: &[usize]) -> Option<State> {
         if !self.board.may_follow(state, y) {

@@ -1,6 +1,6 @@
-//! Text to trace, or the number of what is wrong, its line and its part (numbers 1 to 8).
+//! Text to trace, or the number of what is wrong, its line and its part (numbers 1 to 8, and 17).
 
-use crate::trace::{within_bounds, Record, Trace, BEGINNING, MOST_RECORDS};
+use crate::trace::{within_bounds, Firsts, Record, Trace, ADDRESSES, BEGINNING, LAST_ADDRESS, LAST_VALUE, MOST_RECORDS};
 
 pub use crate::bounds::{MOST_LINE, MOST_TEXT};
 
@@ -17,14 +17,32 @@ pub fn read(text: &[u8]) -> Result<Trace, Refusal<'_>> {
     if text.len() > MOST_TEXT {
         return Err(Refusal { number: 1, line: 0, start: 0, part: &[] });
     }
-    let mut records: Vec<Record> = Vec::new();
-    for (above, line) in lines(text).into_iter().enumerate() {
-        match read_line(&line, &records) {
-            Ok(record) => records.push(record),
-            Err(number) => return Err(Refusal { number, line: above + 1, start: line.start, part: line.part }),
+    let mut above = Above::default();
+    for (count, line) in lines(text).into_iter().enumerate() {
+        if let Err(number) = read_line(&line, &mut above) {
+            return Err(Refusal { number, line: count + 1, start: line.start, part: line.part });
         }
     }
-    Ok(Trace::of(&records))
+    Ok(Trace::with(above.firsts(), &above.records))
+}
+
+/// What the lines above said.
+#[derive(Default)]
+struct Above {
+    /// The first values of the addresses that have an init line, which may be of 0.
+    given: [Option<u64>; ADDRESSES],
+    records: Vec<Record>,
+}
+
+impl Above {
+    fn firsts(&self) -> Firsts {
+        self.given.map(|value| value.unwrap_or(BEGINNING))
+    }
+
+    fn wrote(&self, record: &Record) -> bool {
+        let same = |other: &Record| other.written() == record.written() && other.address() == record.address();
+        record.written().is_some() && self.records.iter().any(same)
+    }
 }
 
 struct Line<'a> {
@@ -48,40 +66,80 @@ fn lines(text: &[u8]) -> Vec<Line<'_>> {
         .collect()
 }
 
+/// A line of one of the forms.
+enum Form {
+    Init {
+        address: u64,
+        value: u64,
+    },
+    /// With a swap's second address beside it.
+    Record(Record, Option<u64>),
+}
+
 /// The tests stand in the order of their numbers, so the first that fails is the lowest that applies.
-fn read_line(line: &Line<'_>, above: &[Record]) -> Result<Record, u8> {
+fn read_line(line: &Line<'_>, above: &mut Above) -> Result<(), u8> {
     if line.part.len() > MOST_LINE {
         return Err(2);
     }
     if !line.has_feed {
         return Err(3);
     }
-    let (record, second_address) = form(line.part).ok_or(3)?;
+    match form(line.part).ok_or(3)? {
+        Form::Init { address, value } => read_init(address, value, above),
+        Form::Record(record, second_address) => read_record(record, second_address, above),
+    }
+}
+
+/// An init line is no record: of the numbers past the form only 4 and 17 speak of it.
+fn read_init(address: u64, value: u64, above: &mut Above) -> Result<(), u8> {
+    if address > LAST_ADDRESS || value > LAST_VALUE {
+        return Err(4);
+    }
+    let place = &mut above.given[address as usize];
+    if !above.records.is_empty() || place.is_some() {
+        return Err(17);
+    }
+    *place = Some(value);
+    Ok(())
+}
+
+fn read_record(record: Record, second_address: Option<u64>, above: &mut Above) -> Result<(), u8> {
     // The second address of a swap is a number with a bound of its own: 4 asks for both, before 5 compares them.
-    if !within_bounds(&record) || second_address.is_some_and(|address| address > crate::trace::LAST_ADDRESS) {
+    if !within_bounds(&record) || second_address.is_some_and(|address| address > LAST_ADDRESS) {
         return Err(4);
     }
     if second_address.is_some() && second_address != record.address() {
         return Err(5);
     }
-    if record.written() == Some(BEGINNING) {
+    let first = record.address().map(|address| above.firsts()[address as usize]);
+    if record.written().is_some() && record.written() == first {
         return Err(6);
     }
-    if above.len() == MOST_RECORDS {
+    if above.records.len() == MOST_RECORDS {
         return Err(7);
     }
-    if written_above(&record, above) {
+    if above.wrote(&record) {
         return Err(8);
     }
-    Ok(record)
+    above.records.push(record);
+    Ok(())
 }
 
-fn written_above(record: &Record, above: &[Record]) -> bool {
-    record.written().is_some() && above.iter().any(|other| other.written() == record.written() && other.address() == record.address())
+fn form(line: &[u8]) -> Option<Form> {
+    match after(line, b"init: ") {
+        Some(rest) => init(rest),
+        None => record(line).map(|(record, second_address)| Form::Record(record, second_address)),
+    }
 }
 
-/// A line of one of the four forms as a record, with a swap's second address beside it.
-fn form(line: &[u8]) -> Option<(Record, Option<u64>)> {
+fn init(rest: &[u8]) -> Option<Form> {
+    let (address, rest) = place(rest)?;
+    let value = whole_number(after(rest, b" := ")?)?;
+    Some(Form::Init { address, value })
+}
+
+/// A line of one of the four forms of a record, with a swap's second address beside it.
+fn record(line: &[u8]) -> Option<(Record, Option<u64>)> {
     let (thread, rest) = number(line)?;
     let rest = after(rest, b": ")?;
     if rest == b"sync" {

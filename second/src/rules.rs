@@ -1,6 +1,6 @@
 //! The edges that the rules force, as plain sets of pairs.
 
-use crate::trace::{kept, Model, Trace, BEGINNING, MOST_RECORDS};
+use crate::trace::{kept, Model, Trace, MOST_RECORDS};
 use std::collections::{BTreeMap, BTreeSet};
 
 pub type Pair = (usize, usize);
@@ -82,7 +82,7 @@ fn round_zero(trace: &Trace, model: Model, supposed: &[Pair]) -> Edges {
     }
     for &load in &operations {
         edges_of_a_sourced_load(trace, load, &mut edges);
-        edges_of_a_load_of_the_beginning(trace, load, &mut edges);
+        edges_of_a_load_of_the_first_value(trace, load, &mut edges);
     }
     for &pair in supposed {
         give(&mut edges, pair, 8);
@@ -104,8 +104,8 @@ fn edges_of_a_sourced_load(trace: &Trace, load: usize, edges: &mut Edges) {
 }
 
 /// Rules 4 and 5.
-fn edges_of_a_load_of_the_beginning(trace: &Trace, load: usize, edges: &mut Edges) {
-    if trace.places[load].read() != Some(BEGINNING) {
+fn edges_of_a_load_of_the_first_value(trace: &Trace, load: usize, edges: &mut Edges) {
+    if !trace.reads_first(load) {
         return;
     }
     for writer in other_writers(trace, load, None) {

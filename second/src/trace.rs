@@ -5,8 +5,13 @@ use std::fmt;
 
 pub use crate::bounds::{LAST_ADDRESS, LAST_THREAD, LAST_VALUE, MODELS, MOST_RECORDS};
 
-/// The value of every address before anything is written.
+/// The value of an address before anything is written there, where no init line says another.
 pub const BEGINNING: u64 = 0;
+
+pub const ADDRESSES: usize = LAST_ADDRESS as usize + 1;
+
+/// What each address holds before anything is written there.
+pub type Firsts = [u64; ADDRESSES];
 
 /// Numbers are wide on purpose: a record past its bound can then be written down, and found not well formed.
 #[derive(Clone, Copy, Debug, PartialEq, Eq, PartialOrd, Ord)]
@@ -73,9 +78,18 @@ impl fmt::Display for Record {
     }
 }
 
-/// The text that records are read from: one line each, each with its line feed.
-pub fn text_of(records: &[Record]) -> Vec<u8> {
-    records.iter().map(|record| format!("{record}\n")).collect::<String>().into_bytes()
+/// The line that gives an address its first value, without the line feed.
+pub fn init_line(address: usize, value: u64) -> String {
+    format!("init: M[{address}] := {value}")
+}
+
+/// The plainest text of a trace: init lines of the first values other than 0, addresses rising, and a line for each record. Other texts of it have
+/// their init lines in another order, and some of 0.
+pub fn text_of(trace: &Trace) -> Vec<u8> {
+    let told = trace.firsts.iter().enumerate().filter(|(_, value)| **value != BEGINNING);
+    let inits = told.map(|(address, &value)| init_line(address, value));
+    let records = trace.records().iter().map(Record::to_string);
+    inits.chain(records).map(|line| line + "\n").collect::<String>().into_bytes()
 }
 
 pub const UNUSED: Record = Record::Fence { thread: 0 };
@@ -85,19 +99,35 @@ pub const UNUSED: Record = Record::Fence { thread: 0 };
 pub struct Trace {
     pub count: usize,
     pub places: [Record; MOST_RECORDS],
+    pub firsts: Firsts,
 }
 
 impl Trace {
     pub fn empty() -> Trace {
-        Trace { count: 0, places: [UNUSED; MOST_RECORDS] }
+        Trace { count: 0, places: [UNUSED; MOST_RECORDS], firsts: [BEGINNING; ADDRESSES] }
     }
 
-    /// Panics past the most records: callers have counted.
+    /// Every address begins at 0. Panics past the most records: callers have counted.
     pub fn of(records: &[Record]) -> Trace {
-        let mut trace = Trace::empty();
+        Trace::with(Trace::empty().firsts, records)
+    }
+
+    pub fn with(firsts: Firsts, records: &[Record]) -> Trace {
+        let mut trace = Trace { firsts, ..Trace::empty() };
         trace.places[..records.len()].copy_from_slice(records);
         trace.count = records.len();
         trace
+    }
+
+    /// An address past the bound has none; it spoils the form, and nothing is asked of it then.
+    pub fn first(&self, address: u64) -> u64 {
+        usize::try_from(address).ok().and_then(|address| self.firsts.get(address)).copied().unwrap_or(BEGINNING)
+    }
+
+    /// A load or swap whose value is the one that its address begins with.
+    pub fn reads_first(&self, load: usize) -> bool {
+        let first = self.places[load].address().map(|address| self.first(address));
+        first.is_some() && self.places[load].read() == first
     }
 
     pub fn records(&self) -> &[Record] {
@@ -126,27 +156,28 @@ impl Trace {
         self.places[x].written().is_some() && self.places[x].address() == Some(address)
     }
 
-    /// The store or swap that a load or swap has its value from, if it reads something else than the beginning and such a writer stands
-    /// in the trace. A swap is never its own source.
+    /// The store or swap that a load or swap has its value from, if it reads something else than its address's first value and such a writer
+    /// stands in the trace. A swap is never its own source.
     pub fn source(&self, load: usize) -> Option<usize> {
-        let value = self.places[load].read().filter(|&value| value != BEGINNING)?;
         let address = self.places[load].address()?;
+        let value = self.places[load].read().filter(|&value| value != self.first(address))?;
         (0..self.count).find(|&s| s != load && self.writes_to(s, address) && self.places[s].written() == Some(value))
     }
 
     pub fn well_formed(&self) -> bool {
         self.count <= MOST_RECORDS
+            && self.firsts.iter().all(|&value| value <= LAST_VALUE)
             && self.records().iter().all(within_bounds)
             && self.places[self.count..].iter().all(|place| *place == UNUSED)
             && self.writes_are_names()
     }
 
-    /// Nobody writes the beginning value, and no address gets a value twice.
+    /// Nobody writes an address's first value, and no address gets a value twice.
     fn writes_are_names(&self) -> bool {
         let mut seen = BTreeSet::new();
-        self.records().iter().all(|record| match record.written() {
-            None => true,
-            Some(value) => value != BEGINNING && seen.insert((record.address(), value)),
+        self.records().iter().all(|record| match (record.address(), record.written()) {
+            (Some(address), Some(value)) => value != self.first(address) && seen.insert((address, value)),
+            _ => true,
         })
     }
 }

@@ -2,7 +2,7 @@
 
 use crate::orders::{self, First, Judgement};
 use crate::rules::{self, Circle};
-use crate::trace::{Model, Trace, BEGINNING};
+use crate::trace::{Model, Trace};
 
 #[derive(Clone, Debug, PartialEq, Eq)]
 pub enum Verdict {
@@ -58,6 +58,6 @@ fn verdict_of_good(trace: &Trace, model: Model, most_steps: u64) -> Verdict {
 }
 
 pub fn lowest_without_source(trace: &Trace) -> Option<usize> {
-    let reads_something = |x: &usize| trace.places[*x].read().is_some_and(|value| value != BEGINNING);
+    let reads_something = |x: &usize| trace.places[*x].read().is_some() && !trace.reads_first(*x);
     trace.operations().into_iter().filter(reads_something).find(|&load| trace.source(load).is_none())
 }

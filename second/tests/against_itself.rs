@@ -6,7 +6,7 @@ use second::orders::{first_permutation, judge, judgement, plain_search, search, 
 use second::reader::read;
 use second::rules::{around, chains, circle, last_round, Edges, Pair};
 use second::session::{ask, open, suppose, take_back, Answer};
-use second::trace::{kept, text_of, Model, Trace};
+use second::trace::{kept, text_of, Model, Record, Trace};
 use second::verdict::{lowest_without_source, MOST_STEPS};
 use std::collections::{BTreeMap, BTreeSet};
 
@@ -20,7 +20,7 @@ fn traces(name: &str, cases: u64) -> Vec<Trace> {
 }
 
 fn shown(trace: &Trace) -> String {
-    String::from_utf8(text_of(trace.records())).expect("letters")
+    String::from_utf8(text_of(trace)).expect("letters")
 }
 
 #[test]
@@ -164,13 +164,14 @@ fn gives(trace: &Trace, model: Model, chains: &BTreeSet<Pair>, rule: u8, x: usiz
     let reads = |l: usize| trace.places[l].read();
     let writes =
         |s: usize, l: usize| trace.places[s].written().is_some() && trace.places[s].address() == trace.places[l].address() && s != l;
-    let source = |s: usize, l: usize| reads(l).is_some() && reads(l) != Some(0) && writes(s, l) && trace.places[s].written() == reads(l);
+    let first = |l: usize| trace.places[l].address().map(|address| trace.firsts[address as usize]);
+    let source = |s: usize, l: usize| reads(l).is_some() && reads(l) != first(l) && writes(s, l) && trace.places[s].written() == reads(l);
     match rule {
         1 => kept(trace, model, x, y),
         2 => source(x, y) && !po(x, y),
         3 => x != y && all.clone().any(|l| source(y, l) && writes(x, l) && po(x, l)),
-        4 => reads(x) == Some(0) && writes(y, x),
-        5 => reads(y) == Some(0) && writes(x, y) && po(x, y),
+        4 => reads(x) == first(x) && writes(y, x),
+        5 => reads(y) == first(y) && writes(x, y) && po(x, y),
         6 => x != y && all.clone().any(|l| source(y, l) && writes(x, l) && chains.contains(&(x, l))),
         7 => all.clone().any(|s| s != y && source(s, x) && writes(y, x) && chains.contains(&(s, y))),
         _ => false,
@@ -304,25 +305,37 @@ fn the_first_shortest_circle_of_chance_edges() {
 
 // ---- the reader ----
 
-/// A text that is read can be written again from its records, byte for byte: there is one way only to write a record.
+/// A text that is read can be written again from its trace: there is one way only to write a record and an init line, and of the init lines only the
+/// order is free, and whether 0 is said.
 #[test]
 fn good_texts_can_be_written_again() {
-    let mut good = 0;
-    for name in ["damaged", "edges", "numbers", "ranks", "sizes", "bytes", "tso"] {
+    let (mut good, mut with_inits) = (0, 0);
+    for name in ["damaged", "edges", "numbers", "ranks", "sizes", "bytes", "inits", "tso"] {
         let family = family(name).expect("a family");
         for case in 0..3_000 {
             let text = text(family, 3, case);
             match read(&text) {
                 Ok(trace) => {
                     good += 1;
+                    with_inits += usize::from(text.starts_with(b"init"));
                     assert!(trace.well_formed());
-                    assert_eq!(text_of(trace.records()), text);
+                    assert_eq!(plainest(&text), text_of(&trace));
+                    assert_eq!(read(&text_of(&trace)), Ok(trace));
                 }
                 Err(refusal) => assert!(refusal.number == 1 || nth_line(&text, refusal.line) == Some(refusal.part)),
             }
         }
     }
-    assert!(good > 1_000, "{good}");
+    assert!(good > 1_000 && with_inits > 300, "{good}, {with_inits}");
+}
+
+/// A good text with its init lines of 0 left out and the others in the order of their addresses.
+fn plainest(text: &[u8]) -> Vec<u8> {
+    let text = String::from_utf8(text.to_vec()).expect("letters");
+    let (mut inits, records): (Vec<&str>, Vec<&str>) = text.split_inclusive('\n').partition(|line| line.starts_with("init"));
+    inits.retain(|line| !line.ends_with(" := 0\n"));
+    inits.sort_by_key(|line| line["init: M[".len()..].split(']').next().expect("an address").parse::<u64>().expect("a number"));
+    [inits, records].concat().concat().into_bytes()
 }
 
 fn nth_line(text: &[u8], line: usize) -> Option<&[u8]> {
@@ -332,11 +345,52 @@ fn nth_line(text: &[u8], line: usize) -> Option<&[u8]> {
 #[test]
 fn every_refusal_and_its_edge_is_drawn() {
     let mut seen = BTreeSet::new();
-    for name in ["damaged", "edges", "numbers", "ranks", "sizes", "bytes"] {
+    for name in ["damaged", "edges", "numbers", "ranks", "sizes", "bytes", "inits"] {
         let family = family(name).expect("a family");
         seen.extend((0..2_000).filter_map(|case| read(&text(family, 9, case)).err().map(|refusal| refusal.number)));
     }
-    assert_eq!(seen, (1..=8).collect());
+    assert_eq!(seen, (1..=8).chain([17]).collect());
+}
+
+// ---- first values ----
+
+/// Values are names: where at each address two of them change their names everywhere, in the first values too, nothing else changes.
+#[test]
+fn what_the_first_values_are_changes_no_verdict() {
+    let mut chance = second::chance::Chance::new(31);
+    let mut compared = 0;
+    for name in ["stated", "dense", "weak", "middle", "knot", "rounds", "tso", "sc-changed", "weaker-changed"] {
+        for trace in traces(name, 150) {
+            let names: Vec<(u64, u64)> = trace.firsts.iter().map(|&first| (first, *chance.of(&[0, 1, 7, 65_535]))).collect();
+            let renamed = renamed(&trace, &names);
+            assert!(renamed.well_formed());
+            for model in MODELS {
+                let told = |trace: &Trace| (lowest_without_source(trace), circle(trace, model), search(trace, model, 20_000));
+                assert_eq!(told(&renamed), told(&trace), "{model:?}\n{}", shown(&trace));
+                assert_eq!(last_round(&renamed, model, &[]), last_round(&trace, model, &[]));
+            }
+            compared += usize::from(renamed.firsts != trace.firsts);
+        }
+    }
+    assert!(compared > 1_000, "{compared}");
+}
+
+fn renamed(trace: &Trace, names: &[(u64, u64)]) -> Trace {
+    let other = |address: u64, value: u64| match names[address as usize] {
+        (one, another) if value == one => another,
+        (one, another) if value == another => one,
+        _ => value,
+    };
+    let each = |record: &Record| match *record {
+        Record::Load { thread, address, read } => Record::Load { thread, address, read: other(address, read) },
+        Record::Store { thread, address, written } => Record::Store { thread, address, written: other(address, written) },
+        Record::Swap { thread, address, read, written } => {
+            Record::Swap { thread, address, read: other(address, read), written: other(address, written) }
+        }
+        Record::Fence { thread } => Record::Fence { thread },
+    };
+    let firsts = std::array::from_fn(|address| other(address as u64, trace.firsts[address]));
+    Trace::with(firsts, &trace.records().iter().map(each).collect::<Vec<_>>())
 }
 
 // ---- lists ----
@@ -362,7 +416,8 @@ fn asked_judgement(trace: &Trace, model: Model, list: &[usize]) -> Judgement {
             let po = |s: usize| s < l && trace.places[s].thread() == trace.places[l].thread();
             let counted: Vec<usize> = operations.iter().copied().filter(|&s| counts(s, l) && (before(s, l) || po(s))).collect();
             let latest = counted.iter().find(|&&s| counted.iter().all(|&other| other == s || before(other, s)));
-            if trace.places[l].read() != Some(latest.map_or(0, |&s| trace.places[s].written().expect("it writes"))) {
+            let first = trace.firsts[trace.places[l].address().expect("it reads somewhere") as usize];
+            if trace.places[l].read() != Some(latest.map_or(first, |&s| trace.places[s].written().expect("it writes"))) {
                 wrong.push(Judgement::WrongValue(l));
             }
         }

@@ -3,10 +3,10 @@
 use second::chance::Chance;
 use second::desk::{ask, head_of, place_of, suppose, take_back, taken, told, Page, DONE, HEAD, VERDICT};
 use second::families::{family, text, FAMILIES};
-use second::reader::MOST_TEXT;
+use second::reader::{read, MOST_TEXT};
 use second::session::{self, Answer, Talk};
 use second::stated::{KNOT, STATED};
-use second::trace::{text_of, MODELS, MOST_RECORDS};
+use second::trace::{MODELS, MOST_RECORDS};
 use second::verdict::MOST_STEPS;
 use std::collections::BTreeSet;
 
@@ -23,7 +23,7 @@ fn page(text: &str) -> Page<'_> {
 fn verdict_in(text: &str, model: u8, room: usize) -> (u8, Vec<usize>, Vec<u8>, bool) {
     let mut lent = vec![BEFORE; room];
     let answer = page(text).verdict(model, &mut lent).expect("known");
-    if answer < 11 || answer == 21 {
+    if answer < 64 && answer != 11 {
         return (answer, vec![], vec![], lent == vec![BEFORE; room]);
     }
     let (front, rest) = lent.split_at(VERDICT);
@@ -81,6 +81,9 @@ fn where_the_bad_line_lies() {
     assert_eq!(place("\n"), (3, 1, 0, 0));
     assert_eq!(place(&"\n".repeat(MOST_TEXT + 1)), (1, 0, 0, 0));
     assert_eq!(place(&"8".repeat(81)), (2, 1, 0, 81));
+    assert_eq!(place("init: M[3] := 7\ninit: M[15] := 0\n"), (0, 0, 0, 0));
+    assert_eq!(place("init: M[3] := 7\n0: sync\ninit: M[4] := 7\n"), (17, 3, 24, 39));
+    assert_eq!(place("init: M[3] := 7\n0: M[3] := 7\n"), (6, 2, 16, 28));
 }
 
 #[test]
@@ -177,6 +180,22 @@ fn a_session_in_bytes() {
     assert_eq!(told_head(&lent), (2, 16, vec![(1, 2); 16], 0, vec![(1, 2), (3, 0)]));
 }
 
+/// The load reads the first value, which the store overwrites: load before store (rule 4).
+#[test]
+fn a_session_with_first_values_in_bytes() {
+    let text = "init: M[2] := 0\ninit: M[0] := 7\n0: M[0] := 0\n1: M[0] == 7\n";
+    let mut lent = vec![BEFORE; HEAD + text.len()];
+    assert_eq!(page(text).open(1, &mut lent).0, 0);
+    assert_eq!(&lent[HEAD..], text.as_bytes());
+    assert_eq!(told_head(&lent), (1, 0, vec![], 0, vec![(1, 0)]));
+    assert_eq!(suppose(&mut lent, 0, 1), 0);
+    assert_eq!(told_head(&lent), (1, 1, vec![(0, 1)], 1, vec![]));
+    // With another first value the load has no source.
+    let place = HEAD + "init: M[2] := 0\ninit: M[0] := ".len();
+    lent[place] = b'8';
+    assert_eq!(ask(&lent, 0, 1), 12);
+}
+
 #[test]
 fn memory_and_openings() {
     let nothing: Vec<u8> = std::iter::once(1).chain(std::iter::repeat(0)).take(HEAD).collect();
@@ -243,7 +262,8 @@ fn bytes_that_are_taken_are_laid_down_the_same() {
         }
         if let Some(session) = taken(&lent) {
             taken_apart += 1;
-            assert_eq!([&head_of(&session)[..], &text_of(session.trace.records())].concat(), lent);
+            assert_eq!(head_of(&session), lent[..HEAD]);
+            assert_eq!(read(&lent[HEAD..]), Ok(session.trace));
         }
     }
     assert!(taken_apart > 500, "{taken_apart}");

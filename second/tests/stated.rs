@@ -7,7 +7,7 @@ use second::report;
 use second::rules::circle;
 use second::session::{ask, open, suppose, take_back, Answer};
 use second::stated::{KNOT, STATED};
-use second::trace::{kept, Model, Record, Trace, MODELS, MOST_RECORDS, UNUSED};
+use second::trace::{kept, Model, Record, Trace, ADDRESSES, MODELS, MOST_RECORDS};
 use second::verdict::{judge, judgement, lowest_without_source, verdict, Verdict, MOST_STEPS};
 
 fn told(text: &str) -> String {
@@ -116,6 +116,88 @@ fn a_value_written_twice_at_one_address() {
     assert_eq!(refused(b"0: M[0] == 1\n1: M[0] := 1\n"), None, "read before is not written before");
 }
 
+/// Document 02, request 1.
+#[test]
+fn init_lines() {
+    for (text, wanted) in [
+        ("init: M[3] := 7\n", None),
+        ("init: M[15] := 65535\ninit: M[0] := 0\n", None),
+        ("init: M[3] := 7\n0: M[3] := 0\n0: M[2] := 7\n", None),
+        ("init: M[3] := 7\n0: M[3] == 7\n0: M[3] == 0\n", None),
+        ("init: M[3] := 7\n0: M[3] := 7\n", Some((6, 2))),
+        ("init: M[3] := 7\n0: { M[3] == 1; M[3] := 7 }\n", Some((6, 2))),
+        ("init: M[3] := 7\n0: M[2] := 0\n", Some((6, 2))),
+        ("init: M[3] := 0\n0: M[3] := 0\n", Some((6, 2))),
+        ("init: M[3] := 7\n0: M[3] := 0\n1: M[3] := 0\n", Some((8, 3))),
+        ("init: M[3] := 7\ninit: M[3] := 7\n", Some((17, 2))),
+        ("init: M[3] := 0\ninit: M[4] := 7\ninit: M[3] := 7\n", Some((17, 3))),
+        ("0: sync\ninit: M[3] := 7\n", Some((17, 2))),
+        ("0: M[3] == 0\ninit: M[2] := 0\n", Some((17, 2))),
+        ("0: sync\ninit: M[16] := 7\n", Some((4, 2))),
+        ("init: M[3] := 7\ninit: M[3] := 65536\n", Some((4, 2))),
+        ("init: M[3] := 7\ninit: M[3] := 7", Some((3, 2))),
+        ("init: M[16] := 7\n", Some((4, 1))),
+        ("init: M[3] := 65536\n", Some((4, 1))),
+        ("init: M[03] := 7\n", Some((3, 1))),
+        ("init: M[3] := 07\n", Some((3, 1))),
+        ("init: M[3] == 7\n", Some((3, 1))),
+        ("init: sync\n", Some((3, 1))),
+        ("init: { M[3] == 0; M[3] := 7 }\n", Some((3, 1))),
+        ("init:  M[3] := 7\n", Some((3, 1))),
+        ("init M[3] := 7\n", Some((3, 1))),
+        ("Init: M[3] := 7\n", Some((3, 1))),
+        ("init: M[3] := 7 \n", Some((3, 1))),
+        ("init: M[3] := 7\n\n", Some((3, 2))),
+    ] {
+        assert_eq!(refused(text.as_bytes()).map(|refusal| (refusal.0, refusal.1)), wanted, "{text}");
+    }
+    let read = trace("init: M[3] := 7\ninit: M[15] := 65535\ninit: M[0] := 0\n0: sync\n");
+    let firsts = [0, 0, 0, 7, 0, 0, 0, 0, 0, 0, 0, 0, 0, 0, 0, 65_535];
+    assert_eq!((read.count, read.firsts, read.places[0]), (1, firsts, Record::Fence { thread: 0 }));
+}
+
+/// Sixteen init lines leave room for as many records as before.
+#[test]
+fn init_lines_are_no_records() {
+    let inits: String = (0..16).map(|address| format!("init: M[{address}] := 9\n")).collect();
+    let full = format!("{inits}{}", "0: sync\n".repeat(MOST_RECORDS));
+    assert_eq!(trace(&full).count, MOST_RECORDS);
+    let past = MOST_RECORDS + 17;
+    assert_eq!(refused(format!("{full}0: sync\n").as_bytes()).map(|r| (r.0, r.1)), Some((7, past)));
+    assert_eq!(refused(format!("{full}0: M[5] := 9\n").as_bytes()).map(|r| (r.0, r.1)), Some((6, past)));
+    assert_eq!(refused(format!("{full}init: M[5] := 9\n").as_bytes()).map(|r| (r.0, r.1)), Some((17, past)), "not 7");
+}
+
+#[test]
+fn verdicts_with_first_values() {
+    let all = |lines: [&str; 4]| {
+        let told = ["SC", "TSO", "PSO", "WMO"].iter().zip(lines).take(MODELS);
+        told.map(|(name, line)| format!("{name}: {line}\n")).collect::<String>()
+    };
+    for (text, lines) in [
+        ("init: M[0] := 7\n", ["order"; 4]),
+        ("init: M[0] := 7\n0: M[0] == 7\n", ["order 0"; 4]),
+        ("init: M[0] := 7\n0: M[0] == 0\n", ["no order, no source 0"; 4]),
+        ("init: M[0] := 7\n0: M[1] == 0\n0: M[1] == 7\n", ["no order, no source 1"; 4]),
+        // The one document 01 has for every address at 0, and one where 0 is a value like any other.
+        (
+            "init: M[1] := 6\ninit: M[0] := 5\n0: M[0] := 1\n0: M[1] == 6\n1: M[1] := 1\n1: M[0] == 5\n",
+            ["no order, circle 0 1 2 3 by 1 4 1 4", "order 1 2 3 0", "order 1 2 3 0", "order 1 2 3 0"],
+        ),
+        ("init: M[1] := 1\n0: M[1] := 0\n1: M[1] == 1\n1: M[1] == 0\n1: M[1] == 1\n", ["no order, circle 0 2 3 by 2 1 4"; 4]),
+        ("init: M[1] := 1\n1: M[1] == 1\n1: M[1] == 0\n0: M[1] := 0\n", ["order 0 2 1"; 4]),
+        (
+            "init: M[0] := 3\n0: M[0] := 0\n0: M[0] == 3\n",
+            ["no order, circle 0 1 by 1 4", "no order, circle 0 1 by 5 4", "no order, circle 0 1 by 5 4", "no order, circle 0 1 by 5 4"],
+        ),
+        // A swap that takes the first value, and another that comes too late for it.
+        ("init: M[0] := 3\n0: { M[0] == 3; M[0] := 0 }\n1: { M[0] == 3; M[0] := 1 }\n", ["no order, circle 0 1 by 4 4"; 4]),
+        ("init: M[0] := 3\n0: { M[0] == 1; M[0] := 0 }\n1: { M[0] == 3; M[0] := 1 }\n", ["order 1 0"; 4]),
+    ] {
+        assert_eq!(told(text), all(lines), "{text}");
+    }
+}
+
 #[test]
 fn models_and_traces_handed_in() {
     let good = trace("0: M[0] := 1\n");
@@ -162,8 +244,11 @@ fn what_spoils_the_form() {
     assert!(!well(&[store(0, 0)]));
     assert!(!well(&[store(0, 1), Record::Swap { thread: 1, address: 0, read: 0, written: 1 }]));
     assert!(!well(&[Record::Fence { thread: 8 }]));
-    assert!(!Trace { count: MOST_RECORDS + 1, places: [UNUSED; MOST_RECORDS] }.well_formed());
-    assert!(Trace { count: MOST_RECORDS, places: [UNUSED; MOST_RECORDS] }.well_formed());
+    assert!(!Trace { count: MOST_RECORDS + 1, ..Trace::empty() }.well_formed());
+    assert!(Trace { count: MOST_RECORDS, ..Trace::empty() }.well_formed());
+    let behind = |first, written| Trace::with([first; ADDRESSES], &[store(3, written)]).well_formed();
+    assert!(behind(7, 0) && behind(65_535, 7));
+    assert!(!behind(7, 7) && !behind(65_536, 7));
 }
 
 #[test]

@@ -11,7 +11,7 @@ use mathlib.Core.Path.{_≡_}
 use Prim.{Unit}
 use Prim.Native.Nat.{ℕ, suc, _-_}
 use lib.ListN.{length, replicate}
-use Rattle.trace.specs.Bounds.{RECORDS}
+use Rattle.trace.specs.Bounds.{RECORDS, ADDRESSES}
 use Rattle.trace.specs.Trace.{idle}
 use Rattle.trace.specs.Meaning.{frameOf}
 use Rattle.trace.specs.WellFormed.{wellFormed}
@@ -27,7 +27,7 @@ places [] = []
 places (o ∷ os) = record { op = o } ∷ places os
 
 unfoldable pub traceOf : List Op → Trace
-traceOf os = record { records = places os ++ replicate (RECORDS - length os) (record { op = idle }); len = length os }
+traceOf os = record { records = places os ++ replicate (RECORDS - length os) (record { op = idle }); len = length os; firsts = replicate ADDRESSES 0 }
 
 pub record Case : Type 0 where
   pub ops : List Op

@@ -63,7 +63,11 @@ idle-iff o = (is-idle o, λ e. rw e refl)
 pub form-iff : (t : Trace) → So (wellFormed t) ↔ Form t
 unfolding wellFormed
 form-iff t =
-    let e = and-iff (and-iff (and-iff so-eq so-le) (all-iff (λ i. follows-iff t i (at t i)))) (all-iff (λ i. imp-iff (idle-iff (at t i)))) in (
-      λ s. let p = e .0 s in record { places = p .0 .0 .0; fits = p .0 .0 .1; used = p .0 .1; rest = λ i h l. p .1 i l (so-le .1 h) },
-      λ f. e .1 (((f .places, f .fits), f .used), λ i l h. f .rest i (so-le .0 h) l),
+    let e =
+    and-iff (and-iff (and-iff (and-iff (and-iff so-eq so-le) so-eq) (all-iff (λ a. so-lt))) (all-iff (λ i. follows-iff t i (at t i)))) (all-iff (λ i. imp-iff (idle-iff (at t i)))) in (
+      λ s.
+          let p = e .0 s in
+          let a = p .0 .0 in
+          record { places = a .0 .0 .0; fits = a .0 .0 .1; addresses = a .0 .1; begins = a .1; used = p .0 .1; rest = λ i h l. p .1 i l (so-le .1 h) },
+      λ f. e .1 (((((f .places, f .fits), f .addresses), f .begins), f .used), λ i l h. f .rest i (so-le .0 h) l),
     )

@@ -39,5 +39,7 @@ pub record Follows (t : Trace) (n : ℕ) (o : Op) : Type 0 where
 pub record Form (t : Trace) : Type 0 where
   pub places : length (t .records) ≡ RECORDS
   pub fits : t .len ≤ RECORDS
+  pub addresses : length (t .firsts) ≡ ADDRESSES
+  pub begins : (a : ℕ) → a < ADDRESSES → first t a < VALUES
   pub used : (i : ℕ) → i < t .len → Follows t i (at t i)
   pub rest : (i : ℕ) → t .len ≤ i → i < RECORDS → at t i ≡ idle

@@ -32,10 +32,12 @@ follows t n o = bounded o && fresh t n o
 unfoldable pub isIdle : Op → Bool
 isIdle o = fence o && eqb (thread o) 0
 
--- the array has all its places; at most as many are used; each used one may stand where it does; the others are idle
+-- the arrays have all their places; at most as many are used; each address begins with a value; each used one may stand where it does; the others are idle
 unfoldable pub wellFormed : Trace → Bool
 wellFormed t =
     eqb (length (t .records)) RECORDS
     && leb (t .len) RECORDS
+    && eqb (length (t .firsts)) ADDRESSES
+    && all ADDRESSES (λ a. ltb (first t a) VALUES)
     && all (t .len) (λ i. follows t i (at t i))
     && all RECORDS (λ i. leb (t .len) i ⇒ isIdle (at t i))

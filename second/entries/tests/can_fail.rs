@@ -5,7 +5,9 @@ use entries::desk::Desk;
 use second::desk::{
     self, head_of, number_at, place_of, put_number, Page, CONTRADICTED_AT, DONE, HEAD, OPERATIONS_AT, PAIRS_AT, RULES_AT, VERDICT,
 };
-use second::desk::{BAD_NUMBER, CONTRADICTED, JUDGEMENT, NONE_LEFT, NOT_HELD, NO_ROOM, ORDER, REPEAT, VALID, WRONG_LENGTH, WRONG_VALUE};
+use second::desk::{
+    BAD_NUMBER, CONTRADICTED, JUDGEMENT, NONE_LEFT, NOT_HELD, NO_ROOM, NO_SOURCE, ORDER, REPEAT, VALID, WRONG_LENGTH, WRONG_VALUE,
+};
 use second::families::FAMILIES;
 use second::session::{self, Session, MOST_PAIRS};
 use second::trace::Model;
@@ -17,13 +19,17 @@ struct Faulty(&'static str);
 
 const RIGHT: &str = "none";
 
-const FAULTS: [&str; 57] = [
+const FAULTS: [&str; 62] = [
     "report: a letter too far",
     "report: short memory written",
     "report: length of one line",
     "number: 8 told as 7",
     "number: any number past a bound is 3",
+    "number: 17 told as 8",
+    "number: 17 before 4",
+    "number: an init of 0 is none",
     "line: counted from 0",
+    "line: init lines are not counted",
     "start: the text's own",
     "start: an empty line has none",
     "end: with the feed",
@@ -39,6 +45,7 @@ const FAULTS: [&str; 57] = [
     "verdict: some other order",
     "verdict: every trace has an order",
     "verdict: any model is SC",
+    "verdict: memory starts at 0",
     "judge: yes to all",
     "judge: repeats",
     "judge: no model",
@@ -157,9 +164,14 @@ impl Desk for Faulty {
     }
 
     fn number(&self, text: &[u8]) -> u8 {
-        match self.page(text).number() {
+        let page = self.page(text);
+        let line = &text[page.start()..page.end()];
+        match page.number() {
             8 if self.is("number: 8 told as 7") => 7,
             4 if self.is("number: any number past a bound is 3") => 3,
+            17 if self.is("number: 17 told as 8") => 8,
+            4 if self.is("number: 17 before 4") && line.starts_with(b"init") && init_lines(text) + 1 < page.line() => 17,
+            17 if self.is("number: an init of 0 is none") && line.ends_with(b" 0") => DONE,
             number => number,
         }
     }
@@ -168,6 +180,8 @@ impl Desk for Faulty {
         let line = self.page(text).line();
         if self.is("line: counted from 0") {
             line.saturating_sub(1)
+        } else if self.is("line: init lines are not counted") {
+            line.saturating_sub(init_lines(text))
         } else {
             line
         }
@@ -193,9 +207,13 @@ impl Desk for Faulty {
     }
 
     fn verdict(&self, text: &[u8], model: u8, out: &mut [u8]) -> u8 {
-        let (page, before) = (self.page(text), out.to_vec());
+        let (mut page, before) = (self.page(text), out.to_vec());
         let no_model = Model::numbered(model.into()).is_none();
         let short = out.len() < VERDICT;
+        let records = text.split_inclusive(|&byte| byte == b'\n').skip(init_lines(text)).collect::<Vec<_>>().concat();
+        if self.is("verdict: memory starts at 0") && page.number() == DONE && self.page(&records).number() == DONE {
+            page = self.page(&records);
+        }
         if short && (self.is("verdict: room before the text") || self.is("verdict: room before the model") && page.number() == DONE) {
             return NO_ROOM;
         }
@@ -208,7 +226,7 @@ impl Desk for Faulty {
             out[..VERDICT].fill(0);
             return NONE_LEFT;
         };
-        if answer < 11 || answer == NO_ROOM {
+        if answer < ORDER && answer != NO_SOURCE {
             if self.is("verdict: refused, and memory wiped") && !short {
                 out[..VERDICT].fill(0);
             }
@@ -361,6 +379,11 @@ impl Desk for Faulty {
             answer => answer,
         }
     }
+}
+
+/// How many lines there are before the first that is no init line.
+fn init_lines(text: &[u8]) -> usize {
+    text.split(|&byte| byte == b'\n').take_while(|line| line.starts_with(b"init")).count()
 }
 
 /// The last valid order in dictionary order of a few operations; of many the one with two neighbours changed, if that is valid.

@@ -43,8 +43,10 @@ fn told_text(file: &str, text: &[u8]) -> String {
             format!("{file}: refused {} line {} <{}>\n", refusal.number, refusal.line, String::from_utf8_lossy(refusal.part))
         }
         Ok(trace) => {
+            let told = |(address, value): (usize, &u64)| if *value == 0 { String::new() } else { format!(" first {address} {value}") };
+            let firsts: String = trace.firsts.iter().enumerate().map(told).collect();
             let records: String = trace.records().iter().map(told_record).collect();
-            format!("{file}: {} records{records} <>\n", trace.count)
+            format!("{file}: {} records{firsts}{records} <>\n", trace.count)
         }
     }
 }

@@ -1,19 +1,40 @@
 //! Texts that the reader takes: runs of the simulated machines, runs with changed reads, traces by chance.
 
+use super::firsts::{self, text_of};
 use super::{LONGEST, USUAL};
 use crate::chance::Chance;
 use crate::machine::{rewritten, run, run_under, Shape, Values};
 use crate::reader;
 use crate::stated::STATED;
-use crate::trace::{text_of, Model, Record, BEGINNING, LAST_ADDRESS, LAST_THREAD, LAST_VALUE, MOST_RECORDS};
+use crate::trace::{Firsts, Model, Record, BEGINNING, LAST_ADDRESS, LAST_THREAD, LAST_VALUE, MOST_RECORDS};
 
 pub(super) fn stated(chance: &mut Chance) -> Vec<u8> {
     let text = chance.of(&STATED).text.as_bytes();
     if chance.percent(50) {
         return text.to_vec();
     }
-    let records = records_of(text);
-    text_of(&rewritten(chance, records))
+    let records = rewritten(chance, records_of(text));
+    let firsts = firsts::drawn(chance);
+    text_of(chance, &firsts, &moved(&firsts, &records))
+}
+
+/// The same shape on other first values: what reads 0 reads the first value, and whoever writes or reads that one has another instead.
+fn moved(firsts: &Firsts, records: &[Record]) -> Vec<Record> {
+    // Two that are exchanged: the first value, and 0.
+    let other = |address: u64, value: u64| match value {
+        BEGINNING => firsts[address as usize],
+        value if value == firsts[address as usize] => BEGINNING,
+        value => value,
+    };
+    let each = |record: &Record| match *record {
+        Record::Load { thread, address, read } => Record::Load { thread, address, read: other(address, read) },
+        Record::Store { thread, address, written } => Record::Store { thread, address, written: other(address, written) },
+        Record::Swap { thread, address, read, written } => {
+            Record::Swap { thread, address, read: other(address, read), written: other(address, written) }
+        }
+        Record::Fence { thread } => Record::Fence { thread },
+    };
+    records.iter().map(each).collect()
 }
 
 pub(super) fn records_of(text: &[u8]) -> Vec<Record> {
@@ -49,51 +70,78 @@ fn shape_of(chance: &mut Chance, records: usize) -> Shape {
         drains: *chance.of(&[0, 5, 20, 40]),
         own: *chance.of(&[0, 30]),
         home: *chance.of(&[0, 0, 80]),
+        firsts: firsts::drawn(chance),
     }
 }
 
-fn ran(chance: &mut Chance, model: Model) -> Vec<Record> {
+/// What a run leaves: its first values and its records.
+struct Ran {
+    firsts: Firsts,
+    records: Vec<Record>,
+}
+
+impl Ran {
+    fn under(chance: &mut Chance, shape: &Shape, model: Model) -> Ran {
+        let records = run_under(chance, shape, model);
+        Ran { firsts: shape.firsts, records: rewritten(chance, records) }
+    }
+
+    fn text(&self, chance: &mut Chance) -> Vec<u8> {
+        text_of(chance, &self.firsts, &self.records)
+    }
+
+    fn changed(mut self, chance: &mut Chance) -> Ran {
+        for _ in 0..chance.between(1, 2) {
+            let reading: Vec<usize> = (0..self.records.len()).filter(|&x| self.records[x].read().is_some()).collect();
+            if !reading.is_empty() {
+                let x = *chance.of(&reading);
+                let address = self.records[x].address().expect("a load has an address");
+                let value = some_value_at(chance, &self.firsts, &self.records, address);
+                self.records[x] = reading_of(self.records[x], value);
+            }
+        }
+        self
+    }
+}
+
+fn ran(chance: &mut Chance, model: Model) -> Ran {
     let shape = shape(chance);
-    let records = run_under(chance, &shape, model);
-    rewritten(chance, records)
+    Ran::under(chance, &shape, model)
 }
 
 pub(super) fn sc(chance: &mut Chance) -> Vec<u8> {
-    text_of(&ran(chance, Model::Sc))
+    ran(chance, Model::Sc).text(chance)
 }
 
 pub(super) fn tso(chance: &mut Chance) -> Vec<u8> {
-    text_of(&ran(chance, Model::Tso))
+    ran(chance, Model::Tso).text(chance)
 }
 
 pub(super) fn pso(chance: &mut Chance) -> Vec<u8> {
-    text_of(&ran(chance, Model::Pso))
+    ran(chance, Model::Pso).text(chance)
 }
 
 pub(super) fn wmo(chance: &mut Chance) -> Vec<u8> {
-    text_of(&ran(chance, Model::Wmo))
+    ran(chance, Model::Wmo).text(chance)
 }
 
 pub(super) fn weaker_changed(chance: &mut Chance) -> Vec<u8> {
     let model = *chance.of(&[Model::Pso, Model::Wmo]);
-    let records = ran(chance, model);
-    text_of(&with_changed_reads(chance, records))
+    ran(chance, model).changed(chance).text(chance)
 }
 
-fn ran_long(chance: &mut Chance) -> Vec<Record> {
+fn ran_long(chance: &mut Chance) -> Ran {
     let records = chance.between(USUAL + 1, LONGEST);
     let (shape, model) = (shape_of(chance, records), *chance.of(Model::all()));
-    let records = run_under(chance, &shape, model);
-    rewritten(chance, records)
+    Ran::under(chance, &shape, model)
 }
 
 pub(super) fn long(chance: &mut Chance) -> Vec<u8> {
-    text_of(&ran_long(chance))
+    ran_long(chance).text(chance)
 }
 
 pub(super) fn long_changed(chance: &mut Chance) -> Vec<u8> {
-    let records = ran_long(chance);
-    text_of(&with_changed_reads(chance, records))
+    ran_long(chance).changed(chance).text(chance)
 }
 
 /// Few threads, few addresses, many stores that stay in their buffers: here the models often part.
@@ -110,33 +158,19 @@ pub(super) fn weak(chance: &mut Chance) -> Vec<u8> {
         drains: *chance.of(&[0, 0, 4, 8, 15]),
         own: *chance.of(&[0, 15, 40]),
         home: *chance.of(&[50, 80, 100]),
+        firsts: firsts::drawn(chance),
     };
     let model = *chance.of(&[Model::Tso, Model::Tso, Model::Pso, Model::Wmo]);
-    let records = run_under(chance, &shape, model);
-    let records = rewritten(chance, records);
-    text_of(&if chance.percent(33) { with_changed_reads(chance, records) } else { records })
+    let ran = Ran::under(chance, &shape, model);
+    if chance.percent(33) { ran.changed(chance) } else { ran }.text(chance)
 }
 
 pub(super) fn sc_changed(chance: &mut Chance) -> Vec<u8> {
-    let records = ran(chance, Model::Sc);
-    text_of(&with_changed_reads(chance, records))
+    ran(chance, Model::Sc).changed(chance).text(chance)
 }
 
 pub(super) fn tso_changed(chance: &mut Chance) -> Vec<u8> {
-    let records = ran(chance, Model::Tso);
-    text_of(&with_changed_reads(chance, records))
-}
-
-fn with_changed_reads(chance: &mut Chance, mut records: Vec<Record>) -> Vec<Record> {
-    for _ in 0..chance.between(1, 2) {
-        let reading: Vec<usize> = (0..records.len()).filter(|&x| records[x].read().is_some()).collect();
-        if !reading.is_empty() {
-            let x = *chance.of(&reading);
-            let value = some_value_at(chance, &records, records[x].address().expect("a load has an address"));
-            records[x] = reading_of(records[x], value);
-        }
-    }
-    records
+    ran(chance, Model::Tso).changed(chance).text(chance)
 }
 
 fn reading_of(record: Record, value: u64) -> Record {
@@ -147,14 +181,15 @@ fn reading_of(record: Record, value: u64) -> Record {
     }
 }
 
-/// The beginning, or a value that somebody writes there; seldom one that nobody writes.
-pub(super) fn some_value_at(chance: &mut Chance, records: &[Record], address: u64) -> u64 {
+/// The first value, or one that somebody writes there; seldom one that nobody writes, or 0, which used to be the first everywhere.
+pub(super) fn some_value_at(chance: &mut Chance, firsts: &Firsts, records: &[Record], address: u64) -> u64 {
     let mut choices: Vec<u64> = records.iter().filter(|r| r.address() == Some(address)).filter_map(Record::written).collect();
-    choices.push(BEGINNING);
-    if chance.percent(3) {
-        choices = vec![chance.below(LAST_VALUE as usize + 1) as u64];
+    choices.push(firsts[address as usize]);
+    match chance.below(100) {
+        0..=2 => chance.below(LAST_VALUE as usize + 1) as u64,
+        3 | 4 => BEGINNING,
+        _ => *chance.of(&choices),
     }
-    *chance.of(&choices)
 }
 
 /// Operations by chance; then every read is drawn from what is written at its address.
@@ -162,7 +197,8 @@ fn by_chance(chance: &mut Chance, operations: usize, threads: usize, addresses: 
     let threads = chance.different(threads, LAST_THREAD + 1);
     let addresses = chance.different(addresses, LAST_ADDRESS + 1);
     let (stores, swaps, fences) = (*chance.of(&[30, 40, 50]), *chance.of(&[0, 0, 10, 30]), *chance.of(&[0, 0, 10, 20]));
-    let mut values = Values::default();
+    let firsts = firsts::drawn(chance);
+    let mut values = Values::other_than(&firsts);
     let mut records = Vec::new();
     let mut placed = 0;
     while placed < operations && records.len() < MOST_RECORDS {
@@ -185,20 +221,25 @@ fn by_chance(chance: &mut Chance, operations: usize, threads: usize, addresses: 
     let (beginnings, nobody) = (*chance.of(&[0, 30, 60]), chance.percent(8));
     for x in 0..records.len() {
         if let (Some(_), Some(address)) = (records[x].read(), records[x].address()) {
-            let read = if nobody { some_value_at(chance, &records, address) } else { value_of_others(chance, &records, x, beginnings) };
+            let read = if nobody {
+                some_value_at(chance, &firsts, &records, address)
+            } else {
+                value_of_others(chance, &firsts, &records, x, beginnings)
+            };
             records[x] = reading_of(records[x], read);
         }
     }
-    text_of(&records)
+    text_of(chance, &firsts, &records)
 }
 
-/// The beginning at least so many times in a hundred, otherwise what someone else writes there: every read has a source.
-fn value_of_others(chance: &mut Chance, records: &[Record], load: usize, beginnings: usize) -> u64 {
+/// The first value at least so many times in a hundred, otherwise what someone else writes there: every read has a source.
+fn value_of_others(chance: &mut Chance, firsts: &Firsts, records: &[Record], load: usize, beginnings: usize) -> u64 {
+    let first = firsts[records[load].address().expect("a load has an address") as usize];
     let writes = |x: &usize| *x != load && records[*x].address() == records[load].address();
     let mut choices: Vec<u64> = (0..records.len()).filter(writes).filter_map(|x| records[x].written()).collect();
-    choices.push(BEGINNING);
+    choices.push(first);
     if chance.percent(beginnings) {
-        BEGINNING
+        first
     } else {
         *chance.of(&choices)
     }
@@ -229,12 +270,14 @@ pub(super) fn rounds(chance: &mut Chance) -> Vec<u8> {
         drains: *chance.of(&[20, 40, 60]),
         own: 0,
         home: 0,
+        firsts: firsts::drawn(chance),
     };
     let mut records = run(chance, &shape, true);
     for _ in 0..chance.between(1, 2) {
         change_to_neighbour(chance, &mut records);
     }
-    text_of(&rewritten(chance, records))
+    let records = rewritten(chance, records);
+    text_of(chance, &shape.firsts, &records)
 }
 
 /// The records stand as they were run, so a value written shortly before or after is one that the load just missed.

@@ -1,12 +1,14 @@
 //! Texts at the edges of what the reader takes.
 
+use super::firsts::{self, init_lines};
 use crate::chance::Chance;
 use crate::machine::{run, Shape};
 use crate::reader::MOST_TEXT;
 use crate::trace::{Record, LAST_ADDRESS, LAST_THREAD, MOST_RECORDS};
+use std::collections::BTreeSet;
 
 /// Each entry: a line that is turned back, and the nearest that is not (unless what stands above it, or how long the text is, says no).
-const LINES: [(&str, &str); 40] = [
+const LINES: [(&str, &str); 58] = [
     ("8: M[0] := 9", "7: M[0] := 9"),
     ("8: sync", "7: sync"),
     ("8: { M[0] == 0; M[0] := 9 }", "7: { M[0] == 0; M[0] := 9 }"),
@@ -47,6 +49,24 @@ const LINES: [(&str, &str); 40] = [
     ("0: { M[0] == 0;M[0] := 9 }", "0: { M[0] == 0; M[0] := 9 }"),
     ("0: { M[0] := 9; M[0] == 0 }", "0: { M[0] == 0; M[0] := 9 }"),
     ("", "0: sync"),
+    ("init: M[16] := 7", "init: M[15] := 7"),
+    ("init: M[0] := 65536", "init: M[0] := 65535"),
+    ("init: M[0] := 184467440737095516150", "init: M[0] := 0"),
+    ("init: M[03] := 7", "init: M[3] := 7"),
+    ("init: M[3] := 07", "init: M[3] := 7"),
+    ("init: M[3] := 00", "init: M[3] := 0"),
+    ("init: M[3] := ", "init: M[3] := 0"),
+    ("init: M[] := 7", "init: M[0] := 7"),
+    ("init: M[3] == 7", "init: M[3] := 7"),
+    ("init:M[3] := 7", "init: M[3] := 7"),
+    ("init: M[3]:= 7", "init: M[3] := 7"),
+    ("init: M[3] := 7 ", "init: M[3] := 7"),
+    (" init: M[3] := 7", "init: M[3] := 7"),
+    ("Init: M[3] := 7", "init: M[3] := 7"),
+    ("ini: M[3] := 7", "init: M[3] := 7"),
+    ("inits: M[3] := 7", "init: M[3] := 7"),
+    ("init: { M[3] == 0; M[3] := 7 }", "init: M[3] := 7"),
+    ("init: sync", "init: M[3] := 7"),
 ];
 
 /// A few lines of a machine's run, to put others among.
@@ -63,8 +83,12 @@ fn good_lines(chance: &mut Chance, records: usize) -> Vec<String> {
         drains: 20,
         own: 0,
         home: 0,
+        firsts: firsts::drawn(chance),
     };
-    run(chance, &shape, true).iter().map(Record::to_string).collect()
+    let records = run(chance, &shape, true);
+    let mut lines = init_lines(chance, &shape.firsts);
+    lines.extend(records.iter().map(Record::to_string));
+    lines
 }
 
 fn joined(lines: &[String]) -> Vec<u8> {
@@ -77,20 +101,21 @@ pub(super) fn edges(chance: &mut Chance) -> Vec<u8> {
     for _ in 0..if chance.percent(80) { 1 } else { 2 } {
         let (bad, good) = *chance.of(&LINES);
         let line = if chance.percent(60) { bad } else { good };
-        let place = chance.between(0, lines.len());
+        let place = some_place(chance, &lines, line);
         lines.insert(place, line.to_string());
     }
     if chance.percent(25) {
-        // A value written before, at the same address or at another.
+        // A value that is there already, at the same address or at another; or an init line twice.
         let writers: Vec<String> = lines.iter().filter(|line| line.contains(" := ")).cloned().collect();
         if !writers.is_empty() {
-            let line = chance.of(&writers).clone();
-            let place = chance.between(0, lines.len());
-            let (other, thread) = (chance.below(16), chance.below(8));
-            lines.insert(place, format!("{thread}{}", &line[1..]));
-            if chance.percent(50) {
-                lines[place] = format!("{thread}: M[{other}] := {}", digits_after(&line, ":= "));
+            let mut line = chance.of(&writers).clone();
+            if !line.starts_with(INIT) || chance.percent(60) {
+                let (other, thread) = (chance.below(16).to_string(), chance.below(8));
+                let address = if chance.percent(50) { digits_after(&line, "M[") } else { other };
+                line = format!("{thread}: M[{address}] := {}", digits_after(&line, ":= "));
             }
+            let place = some_place(chance, &lines, &line);
+            lines.insert(place, line);
         }
     }
     let mut text = joined(&lines);
@@ -98,6 +123,19 @@ pub(super) fn edges(chance: &mut Chance) -> Vec<u8> {
         text.pop();
     }
     text
+}
+
+/// What an init line begins with.
+const INIT: &str = "init";
+
+/// Mostly where such a line belongs, before the records or among them; at times anywhere.
+fn some_place(chance: &mut Chance, lines: &[String], line: &str) -> usize {
+    let inits = lines.iter().take_while(|line| line.starts_with(INIT)).count();
+    match chance.below(10) {
+        0 => chance.between(0, lines.len()),
+        _ if line.starts_with(INIT) => chance.between(0, inits),
+        _ => chance.between(inits, lines.len()),
+    }
 }
 
 fn digits_after(line: &str, word: &str) -> String {
@@ -138,10 +176,47 @@ fn line_of_numbers(chance: &mut Chance) -> String {
     }
 }
 
+const GIVEN: [&str; 7] = ["0", "0", "1", "2", "3", "15", "16"];
+const FIRST: [&str; 8] = ["0", "0", "1", "2", "9", "65535", "65536", "00"];
+
+/// Init lines, mostly of other addresses each, often one among or behind the records; and records that write and read what stands in them, and 0.
+pub(super) fn inits(chance: &mut Chance) -> Vec<u8> {
+    let mut lines: Vec<String> = (0..chance.below(5)).map(|_| line_of_init(chance)).collect();
+    if chance.percent(70) {
+        let mut seen = BTreeSet::new();
+        lines.retain(|line| seen.insert(digits_after(line, "M[")));
+    }
+    for _ in 0..chance.below(6) {
+        let (thread, address) = (drawn(chance, &THREADS, 3), *chance.of(&["0", "1", "2", "3"]));
+        let (read, written) = (*chance.of(&FIRST[..6]), *chance.of(&FIRST[..5]));
+        lines.push(match chance.below(6) {
+            0 => format!("{thread}: {{ M[{address}] == {read}; M[{address}] := {written} }}"),
+            1 | 2 => format!("{thread}: M[{address}] := {written}"),
+            3 => format!("{thread}: sync"),
+            _ => format!("{thread}: M[{address}] == {read}"),
+        });
+    }
+    if chance.percent(25) {
+        let place = chance.between(0, lines.len());
+        lines.insert(place, line_of_init(chance));
+    }
+    let mut text = joined(&lines);
+    if chance.percent(6) {
+        text.pop();
+    }
+    text
+}
+
+fn line_of_init(chance: &mut Chance) -> String {
+    format!("init: M[{}] := {}", drawn(chance, &GIVEN, 6), drawn(chance, &FIRST, 6))
+}
+
 pub(super) fn ranks(chance: &mut Chance) -> Vec<u8> {
-    let above = *chance.of(&[1, 3, MOST_RECORDS - 1, MOST_RECORDS, MOST_RECORDS, MOST_RECORDS, MOST_RECORDS]);
-    let mut lines: Vec<String> = (0..above).map(|i| format!("{}: M[3] := {}", i % 8, 7 + i)).collect();
-    let place = if chance.percent(90) { lines.len() } else { chance.between(1, lines.len()) };
+    let above = *chance.of(&[0, 1, 3, MOST_RECORDS - 1, MOST_RECORDS, MOST_RECORDS, MOST_RECORDS, MOST_RECORDS]);
+    // Then 1000 is what may not be written, and 0 may be.
+    let mut lines = if chance.percent(40) { vec!["init: M[3] := 1000".to_string()] } else { vec![] };
+    lines.extend((0..above).map(|i| format!("{}: M[3] := {}", i % 8, 7 + i)));
+    let place = if chance.percent(90) { lines.len() } else { chance.between(0, lines.len()) };
     lines.insert(place, line_of_faults(chance));
     if chance.percent(20) {
         lines.push(line_of_faults(chance));
@@ -160,10 +235,11 @@ fn line_of_faults(chance: &mut Chance) -> String {
     let second = if chance.percent(30) { *chance.of(&["2", "2", "16"]) } else { first };
     let read = if chance.percent(8) { "65536" } else { "7" };
     let written = *chance.of(&["7", "7", "7", "0", "0", "1000", "1000", "65536"]);
-    let mut line = match chance.below(10) {
+    let mut line = match chance.below(12) {
         0 => format!("{thread}: sync"),
         1 => format!("{thread}: M[{first}] == {read}"),
         2..=4 => format!("{thread}: M[{first}] := {written}"),
+        5 | 6 => format!("init: M[{second}] := {written}"),
         _ => format!("{thread}: {{ M[{first}] == {read}; M[{second}] := {written} }}"),
     };
     if chance.percent(10) {
@@ -189,11 +265,18 @@ fn long_line(chance: &mut Chance) -> Vec<u8> {
     let count = chance.between(0, 3);
     let mut lines = good_lines(chance, count);
     let length = chance.between(79, 82);
-    let (front, back) =
-        *chance.of(&[("0: M[0] := ", ""), ("0: M[", "] == 0"), ("", ": sync"), ("0: { M[0] == 0; M[0] := ", " }"), ("x", "")]);
+    let (front, back) = *chance.of(&[
+        ("0: M[0] := ", ""),
+        ("0: M[", "] == 0"),
+        ("", ": sync"),
+        ("0: { M[0] == 0; M[0] := ", " }"),
+        ("init: M[0] := ", ""),
+        ("init: M[", "] := 0"),
+        ("x", ""),
+    ]);
     let filler = *chance.of(&["1", "0", "9", " "]);
     let line = format!("{front}{}{back}", filler.repeat(length - front.len() - back.len()));
-    let place = chance.between(0, lines.len());
+    let place = some_place(chance, &lines, &line);
     lines.insert(place, line);
     let mut text = joined(&lines);
     if chance.percent(25) {
@@ -211,7 +294,8 @@ fn many_records(chance: &mut Chance) -> Vec<u8> {
         _ => good_lines(chance, count),
     };
     if chance.percent(60) {
-        let place = chance.between(MOST_RECORDS - 2, count - 1);
+        // Init lines are no records.
+        let place = lines.len() - count + chance.between(MOST_RECORDS - 2, count - 1);
         let (bad, good) = *chance.of(&LINES);
         lines[place] = match chance.below(4) {
             0 => good.to_string(),
@@ -230,7 +314,7 @@ fn many_records(chance: &mut Chance) -> Vec<u8> {
 fn long_text(chance: &mut Chance) -> Vec<u8> {
     let (last, past) = (MOST_TEXT, MOST_TEXT + 1);
     let length = *chance.of(&[last - 2, last - 1, last, last, past, past, past + 1, last + 808, 2 * last]);
-    let piece = *chance.of(&["0: sync\n", "0: M[0] == 0\n", "\n", "0", "0: M[0] := 1\n", "\0"]);
+    let piece = *chance.of(&["0: sync\n", "0: M[0] == 0\n", "\n", "0", "0: M[0] := 1\n", "\0", "init: M[0] := 1\n"]);
     let mut text: Vec<u8> = piece.bytes().cycle().take(length).collect();
     if chance.percent(50) {
         text[length - 1] = b'\n';
@@ -251,11 +335,12 @@ fn feed_missing(chance: &mut Chance) -> Vec<u8> {
 }
 
 /// Bytes at the edges of the classes, and those that a line is made of.
-const ODD: &[u8] = b"0123456789 :=;[]{}MsyncSMm\n\r\t\x00/@AZaz`\x7f\x80\xff._-";
+const ODD: &[u8] = b"0123456789 :=;[]{}MsyncSMmit\n\r\t\x00/@AZaz`\x7f\x80\xff._-";
 
 pub(super) fn damaged(chance: &mut Chance) -> Vec<u8> {
     let mut text = if chance.percent(60) {
-        b"0: M[3] := 31\n1: M[3] == 31\n0: { M[3] == 31; M[3] := 178 }\n7: sync\n".to_vec()
+        let inits: &[u8] = if chance.percent(50) { b"init: M[3] := 7\ninit: M[15] := 0\n" } else { b"" };
+        [inits, b"0: M[3] := 31\n1: M[3] == 31\n0: { M[3] == 31; M[3] := 178 }\n7: sync\n"].concat()
     } else {
         let count = chance.between(1, 5);
         joined(&good_lines(chance, count))
@@ -267,9 +352,9 @@ pub(super) fn damaged(chance: &mut Chance) -> Vec<u8> {
     text
 }
 
-/// Every number has its edge in one of the four: lines and bounds, ranks, sizes, numbers.
+/// Every number has its edge in one of these: lines and bounds, ranks, sizes, numbers, init lines.
 pub(super) fn edges_damaged(chance: &mut Chance) -> Vec<u8> {
-    let draw = *chance.of(&[edges, edges, ranks, sizes, numbers]);
+    let draw = *chance.of(&[edges, edges, ranks, sizes, numbers, inits]);
     let mut text = draw(chance);
     damage(chance, &mut text);
     text
@@ -287,7 +372,7 @@ fn damage(chance: &mut Chance, text: &mut Vec<u8>) {
     }
 }
 
-const PIECES: [&str; 24] = [
+const PIECES: [&str; 27] = [
     "0",
     "1",
     "7",
@@ -312,6 +397,9 @@ const PIECES: [&str; 24] = [
     "0: sync\n",
     "0: M[0] == 0\n",
     "0: M[0] := ",
+    "init: ",
+    "init: M[0] := 0\n",
+    "init: M[1] := ",
 ];
 
 pub(super) fn bytes(chance: &mut Chance) -> Vec<u8> {
