@@ -3,8 +3,11 @@
 --   start-tells   == before the first step nothing happened
 --   finished-iff  == the machine is finished where its history is
 --   run-goes, goes-run == a run through the steps, and its history
---   Ready steps   == each is a byte below twice the threads, and there are at most twice as many as records
+--   Short t ss    == each is a byte below twice the threads, and there are at most twice as many as records
+--   possible-short, stuck-short, place-below == so few are all lists of possible steps, and so low is the place of the first impossible one
+--   built-through == what is built for a valid order runs it through
 --   machine-exactly == the theorem
+--   steps-exactly, replay-through == steps are handed back exactly for the valid orders, and the machine runs them through
 use mathlib.Core.Path.{_≡_, refl, sym, ap, _∙_, subst}
 use mathlib.Core.Logic.{_≢_, _↔_, _⊎_, inl, inr}
 use mathlib.Core.Bool.{Bool, true, false, cond, So, not, _&&_, _||_, false≢true}
@@ -13,7 +16,7 @@ use mathlib.Core.Option.{Option, none, some}
 use Prim.Native.Nat.{ℕ, zero, suc, _+_, _*_, _-_, _<_, _≤_}
 use native.Mathlib.Omega.{arith}
 use native.Mathlib.Nat.{not-suc-le-zero}
-use lib.ListN.{length, getD, set, replicate, length-replicate}
+use lib.ListN.{length, getD, take, replicate, length-replicate}
 use Rattle.laws.specs.Tests.{all}
 use Rattle.laws.specs.Warshall.{row}
 use Rattle.laws.specs.Places.{pos, count}
@@ -30,23 +33,28 @@ use Rattle.trace.specs.declared.Trace.{Trace}
 use Rattle.trace.proofs.WellFormed.{form-iff}
 use Rattle.trace.proofs.Good.{form-good}
 use Rattle.pairs.specs.Kept.{SC, TSO, keptOf}
+use Rattle.orders.specs.Judged.{judgedOf}
+use Rattle.orders.specs.Accepted.{Accepted}
+use Rattle.orders.specs.declared.judging.Judgement.{Judgement}
+use Rattle.orders.proofs.Judged.{accepted-yes}
+use Rattle.machine.specs.declared.Steps.{Steps}
+use Rattle.machine.specs.declared.Given.{Given}
+use Rattle.machine.specs.declared.Given.the-variants as given
+use Rattle.machine.specs.Replay.{STEPS, told, builtOf, yes?, nothing, listed, stepsOf}
 use Rattle.machine.specs.declared.Machine.{Machine}
 use Rattle.machine.specs.declared.Ran.{Ran}
 use Rattle.machine.specs.declared.Ran.the-variants.{NoModel, NotWellFormed, Stuck, Through}
-use Rattle.machine.specs.Machine.{Sized, machined, startOf, step, finished, run, answer}
+use Rattle.machine.specs.Machine.{Sized, machined, startOf, step, finished, run, answer, placeOf}
 use Rattle.machine.proofs.CoresOf.{coresOf}
 use Rattle.machine.proofs.History.{_∈_, Cores, Waits, Run, Empty, Go, through, enters, empties, Goes, done, more, Ended, Laws}
 use Rattle.machine.proofs.Snoc.{in?}
 use Rattle.machine.proofs.Invariant.{Sound, go-sound, goes-sound, nothing-sound}
 use Rattle.machine.proofs.Values.{run-valid}
-use Rattle.machine.proofs.Driving.{valid-run, goes-bound}
+use Rattle.machine.proofs.Driving.{goes-bound}
+use Rattle.machine.proofs.ByCases.{yes-is, answer-model, answer-form}
+use Rattle.machine.proofs.Driven.{driven}
 use Rattle.machine.proofs.KeptLaws.{model-laws}
-use Rattle.machine.proofs.Lockstep.{Tells, Holds, untouched, step-go, go-step}
-
-no-flag : (n x : ℕ) → getD (replicate n false) x false ≡ false
-no-flag zero x = refl
-no-flag (suc n) zero = refl
-no-flag (suc n) (suc x) = no-flag n x
+use Rattle.machine.proofs.Lockstep.{Tells, Holds, untouched, step-go, go-step, no-flag}
 
 pub start-tells : (t : Trace) (m : ℕ) → Tells t m (startOf t) [] []
 unfolding startOf count
@@ -74,20 +82,36 @@ module _ (t : Trace) (form : Form t) (m : ℕ) (l : Laws (coresOf m t) (keptOf m
       part : (x : ℕ) → So (getD (M .ran) x false && not (getD (M .waits) x false)) → So (getD (M .ran) x false) × So (not (getD (M .waits) x false))
       part x = both x .0
 
-  run-goes : (ss : List ℕ) (i : ℕ) {M : Machine} {r p : List ℕ} → Tells t m M r p → Sound (coresOf m t) (keptOf m t) r p → run t m M ss i ≡ Through true
-      → (r′ : List ℕ) × (p′ : List ℕ) × Goes (coresOf m t) r p ss r′ p′ × Ended (coresOf m t) r′ p′
+  run-goes : (ss : List ℕ) (i : ℕ) (b : Bool) {M : Machine} {r p : List ℕ} → Tells t m M r p → Sound (coresOf m t) (keptOf m t) r p → run t m M ss i ≡ Through b
+      → (r′ : List ℕ) × (p′ : List ℕ) × Goes (coresOf m t) r p ss r′ p′ × (So b → Ended (coresOf m t) r′ p′)
   unfolding run
-  run-goes [] i {M} {r} {p} T S e = (r, p, done, finished-iff T S .0 (cc))
-  run-goes (s ∷ ss) i {M} {r} {p} T S e = go (step t m M s) refl e (λ N r p. run-goes ss (suc i) {M = N} {r = r} {p = p})
+  run-goes [] i b {M} {r} {p} T S e = (r, p, done, λ s. let f : finished t M ≡ b = cc in finished-iff T S .0 (f ∙ s))
+  run-goes (s ∷ ss) i b {M} {r} {p} T S e = go (step t m M s) refl e (λ N r p. run-goes ss (suc i) b {M = N} {r = r} {p = p})
     where
-      go : (o : Option Machine) → step t m M s ≡ o → elim o [ none ↦ Stuck i | some N ↦ run t m N ss (suc i) ] ≡ Through true
-          → ((N : Machine) (r p : List ℕ) → Tells t m N r p → Sound (coresOf m t) (keptOf m t) r p → run t m N ss (suc i) ≡ Through true → (r′ : List ℕ) × (p′ : List ℕ) × Goes (coresOf m t) r p ss r′ p′ × Ended (coresOf m t) r′ p′)
-          → (r′ : List ℕ) × (p′ : List ℕ) × Goes (coresOf m t) r p (s ∷ ss) r′ p′ × Ended (coresOf m t) r′ p′
+      go : (o : Option Machine) → step t m M s ≡ o → elim o [ none ↦ Stuck i | some N ↦ run t m N ss (suc i) ] ≡ Through b
+          → ((N : Machine) (r p : List ℕ) → Tells t m N r p → Sound (coresOf m t) (keptOf m t) r p → run t m N ss (suc i) ≡ Through b → (r′ : List ℕ) × (p′ : List ℕ) × Goes (coresOf m t) r p ss r′ p′ × (So b → Ended (coresOf m t) r′ p′))
+          → (r′ : List ℕ) × (p′ : List ℕ) × Goes (coresOf m t) r p (s ∷ ss) r′ p′ × (So b → Ended (coresOf m t) r′ p′)
       go none f e rec = let z : _≡_ {A = ℕ} 0 1 = cc in absurd (omega arith)
       go (some N) f e rec =
           let (r₁, p₁, g, T₁) = step-go t form m l T S s N f in
           let (r′, p′, h, n) = rec N r₁ p₁ T₁ (go-sound (coresOf m t) (keptOf m t) l g S) e in
           (r′, p′, more g h, n)
+
+  -- a run that is stuck was possible up to there
+  stuck-goes : (ss : List ℕ) (i j : ℕ) {M : Machine} {r p : List ℕ} → Tells t m M r p → Sound (coresOf m t) (keptOf m t) r p → run t m M ss i ≡ Stuck j
+      → (us : List ℕ) × (r′ : List ℕ) × (p′ : List ℕ) × Goes (coresOf m t) r p us r′ p′ × (j ≡ i + length us)
+  unfolding run
+  stuck-goes [] i j T S e = let z : _≡_ {A = ℕ} 0 1 = cc in absurd (omega arith)
+  stuck-goes (s ∷ ss) i j {M} {r} {p} T S e = go (step t m M s) refl e (λ N r p. stuck-goes ss (suc i) j {M = N} {r = r} {p = p})
+    where
+      go : (o : Option Machine) → step t m M s ≡ o → elim o [ none ↦ Stuck i | some N ↦ run t m N ss (suc i) ] ≡ Stuck j
+          → ((N : Machine) (r p : List ℕ) → Tells t m N r p → Sound (coresOf m t) (keptOf m t) r p → run t m N ss (suc i) ≡ Stuck j → (us : List ℕ) × (r′ : List ℕ) × (p′ : List ℕ) × Goes (coresOf m t) r p us r′ p′ × (j ≡ suc i + length us))
+          → (us : List ℕ) × (r′ : List ℕ) × (p′ : List ℕ) × Goes (coresOf m t) r p us r′ p′ × (j ≡ i + length us)
+      go none f e rec = let q : j ≡ i = cc in ([], r, p, done, omega arith)
+      go (some N) f e rec =
+          let (r₁, p₁, g, T₁) = step-go t form m l T S s N f in
+          let (us, r′, p′, h, q) = rec N r₁ p₁ T₁ (go-sound (coresOf m t) (keptOf m t) l g S) e in
+          (s ∷ us, r′, p′, more g h, omega arith)
 
   goes-run : {ss r p r′ p′ : List ℕ} → Goes (coresOf m t) r p ss r′ p′ → (i : ℕ) {M : Machine} → Tells t m M r p → Sound (coresOf m t) (keptOf m t) r p → Ended (coresOf m t) r′ p′ → run t m M ss i ≡ Through true
   unfolding run
@@ -122,18 +146,80 @@ module _ (t : Trace) (w : So (wellFormed t)) (m : ℕ) (k : So (machined m)) whe
   through-valid ss e =
       let form = form-iff t .0 w in
       let l = model-laws m t k in
-      let (r, p, g, n) = run-goes t form m l ss 0 (start-tells t m) (nothing-sound (coresOf m t) (keptOf m t)) (sym (answer-is ss) ∙ e) in
-      (p, run-valid (coresOf m t) (form-good t form) (keptOf m t) l g n)
+      let (r, p, g, n) = run-goes t form m l ss 0 true (start-tells t m) (nothing-sound (coresOf m t) (keptOf m t)) (sym (answer-is ss) ∙ e) in
+      (p, run-valid (coresOf m t) (form-good t form) (keptOf m t) l g (n refl))
 
-  -- for every valid order there are such steps, few and small
-  pub valid-through : (xs : List ℕ) → Valid (frameOf t) (keptOf m t) xs → (ss : List ℕ) × (answer t m ss ≡ Through true) × Short t ss
+  -- possible steps are at most twice as many as the records
+  pub possible-short : (ss : List ℕ) (b : Bool) → answer t m ss ≡ Through b → length ss ≤ 2 * t .len
   unfolding frameOf
-  valid-through xs v =
+  possible-short ss b e =
       let form = form-iff t .0 w in
       let l = model-laws m t k in
-      let (ss, (r, p, g, n)) = valid-run (coresOf m t) (form-good t form) (keptOf m t) l xs v in
-      let S = nothing-sound (coresOf m t) (keptOf m t) in
-      (ss, answer-is ss ∙ goes-run t form m l g 0 (start-tells t m) S n, record { few = goes-bound (coresOf m t) (form-good t form) (keptOf m t) l g; small = goes-small t form m l g S })
+      let (r, p, g, n) = run-goes t form m l ss 0 b (start-tells t m) (nothing-sound (coresOf m t) (keptOf m t)) (sym (answer-is ss) ∙ e) in
+      goes-bound (coresOf m t) (form-good t form) (keptOf m t) l g
+
+  -- and so is the place of the first impossible one
+  pub stuck-short : (ss : List ℕ) (j : ℕ) → answer t m ss ≡ Stuck j → j ≤ 2 * t .len
+  unfolding frameOf
+  stuck-short ss j e =
+      let form = form-iff t .0 w in
+      let l = model-laws m t k in
+      let (us, r, p, g, q) = stuck-goes t form m l ss 0 j (start-tells t m) (nothing-sound (coresOf m t) (keptOf m t)) (sym (answer-is ss) ∙ e) in
+      omega (arith, q, goes-bound (coresOf m t) (form-good t form) (keptOf m t) l g)
+
+  -- the steps that are built for a valid order run it through, and are few and small
+  pub built-through : (xs : List ℕ) → Valid (frameOf t) (keptOf m t) xs → (answer t m (told (builtOf t m xs)) ≡ Through true) × Short t (told (builtOf t m xs))
+  unfolding frameOf
+  built-through xs v =
+      let form = form-iff t .0 w in
+      let l = model-laws m t k in
+      let (r, d, n) = driven t form m l xs v in
+      let S = nothing-sound (coresOf m t) (keptOf m t) in (
+        answer-is _ ∙ goes-run t form m l (d .goes) 0 (start-tells t m) S n,
+        record { few = goes-bound (coresOf m t) (form-good t form) (keptOf m t) l (d .goes); small = goes-small t form m l (d .goes) S },
+      )
 
   pub machine-exactly : ((xs : List ℕ) × Valid (frameOf t) (keptOf m t) xs) ↔ ((ss : List ℕ) × (answer t m ss ≡ Through true))
-  machine-exactly = (λ x. let (ss, e, _) = valid-through (x .0) (x .1) in (ss, e), λ y. through-valid (y .0) (y .1))
+  machine-exactly = (λ x. (told (builtOf t m (x .0)), built-through (x .0) (x .1) .0), λ y. through-valid (y .0) (y .1))
+
+-- what comes with an answer is small
+pub place-below : (t : Trace) (m : ℕ) (ss : List ℕ) → placeOf (answer t m ss) ≤ STEPS
+place-below t m ss = of (answer t m ss) refl
+  where
+    of : (r : Ran) → answer t m ss ≡ r → placeOf r ≤ STEPS
+    of NoModel e = omega arith
+    of NotWellFormed e = omega arith
+    of (Through b) e = omega arith
+    of (Stuck j) e = elim (test (machined m)) [
+      | inr k ↦ let z : _≡_ {A = ℕ} 0 1 = cc (answer-model t m ss k) in absurd (omega arith)
+      | inl k ↦ elim (test (wellFormed t)) [
+        | inr w ↦ let z : _≡_ {A = ℕ} 0 1 = cc (answer-form t m ss k w) in absurd (omega arith)
+        | inl w ↦ omega (arith, stuck-short t w m k ss j e, form-iff t .0 w .fits)
+      ]
+    ]
+
+-- what is handed back: steps exactly for the valid orders, and the machine runs them through
+pub steps-exactly : (t : Trace) (m : ℕ) (xs : List ℕ) → (stepsOf t m xs .given ≡ given.List) ↔ (So (machined m) × Accepted t m xs)
+unfolding stepsOf
+steps-exactly t m xs = (there (machined m) refl (wellFormed t) refl (yes? (judgedOf t m xs)) refl, back)
+  where
+    Answered : Bool → Bool → Bool → Steps
+    Answered a b c = cond a (cond b (cond c (listed (builtOf t m xs)) (nothing given.NoOrder)) (nothing given.NotWellFormed)) (nothing given.NoModel)
+
+    there : (a : Bool) → machined m ≡ a → (b : Bool) → wellFormed t ≡ b → (c : Bool) → yes? (judgedOf t m xs) ≡ c → Answered a b c .given ≡ given.List → So (machined m) × Accepted t m xs
+    there true e true f true g q = (e, accepted-yes t m xs .0 (yes-is (judgedOf t m xs) g))
+    there true e true f false g q = let z : _≡_ {A = ℕ} 0 1 = cc in absurd (omega arith)
+    there true e false f c g q = let z : _≡_ {A = ℕ} 0 1 = cc in absurd (omega arith)
+    there false e b f c g q = let z : _≡_ {A = ℕ} 0 1 = cc in absurd (omega arith)
+
+    back : So (machined m) × Accepted t m xs → Answered (machined m) (wellFormed t) (yes? (judgedOf t m xs)) .given ≡ given.List
+    back (k, a) = ap (λ (a : Bool). Answered a (wellFormed t) (yes? (judgedOf t m xs)) .given) k ∙ ap (λ (b : Bool). Answered true b (yes? (judgedOf t m xs)) .given) (a .well) ∙ ap (λ (j : Judgement). Answered true true (yes? j) .given) (accepted-yes t m xs .1 a)
+
+pub replay-through : (t : Trace) (m : ℕ) (xs : List ℕ) → stepsOf t m xs .given ≡ given.List → answer t m (take (stepsOf t m xs .len) (stepsOf t m xs .steps)) ≡ Through true
+unfolding stepsOf
+replay-through t m xs e =
+    let (k, a) = steps-exactly t m xs .0 e in
+    let q : stepsOf t m xs ≡ listed (builtOf t m xs) = ap (λ (a : Bool). cond a (cond (wellFormed t) (cond (yes? (judgedOf t m xs)) (listed (builtOf t m xs)) (nothing given.NoOrder)) (nothing given.NotWellFormed)) (nothing given.NoModel)) k
+        ∙ ap (λ (b : Bool). cond b (cond (yes? (judgedOf t m xs)) (listed (builtOf t m xs)) (nothing given.NoOrder)) (nothing given.NotWellFormed)) (a .well)
+        ∙ ap (λ (j : Judgement). cond (yes? j) (listed (builtOf t m xs)) (nothing given.NoOrder)) (accepted-yes t m xs .1 a) in
+    subst (λ (s : Steps). answer t m (take (s .len) (s .steps)) ≡ Through true) (sym q) (built-through t (a .well) m k xs (a .valid) .0)

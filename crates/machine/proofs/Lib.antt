@@ -7,7 +7,9 @@ pub mod Values
 pub mod Driving
 pub mod KeptLaws
 pub mod Lockstep
-pub mod Equal
 pub mod ByCases
+pub mod Driven
+pub mod Equal
+pub mod Few
 pub mod Fifo
 pub mod One

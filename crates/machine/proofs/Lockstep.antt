@@ -13,7 +13,7 @@ use Prim.Native.Nat.{ℕ, zero, suc, _+_, _-_, _<_, _≤_}
 use native.Mathlib.Decide.{decLt}
 use native.Mathlib.Omega.{arith}
 use lib.Dec.{eqb, ltb, leb}
-use lib.ListN.{length, getD, set, length-set}
+use lib.ListN.{length, getD, set, replicate, length-set}
 use lib.Seq.{getD-set-same, getD-set-other}
 use borrow.Author.Tests.{lt-ltb, le-ltb}
 use Rattle.laws.specs.Tests.{_⇒_, all, any}
@@ -40,7 +40,7 @@ use Rattle.machine.specs.Machine.{Sized, machined, lands, alone, due, wa
 use Rattle.machine.proofs.CoresOf.{coresOf}
 use Rattle.machine.proofs.History.{_∈_, Cores, Waits, Own, Stored, Got, buffered, stored, initial, Alone, Run, Empty, Go, through, enters, Goes, done, more, Ended, Laws}
 use Rattle.machine.proofs.History as history
-use Rattle.machine.proofs.Snoc.{in?, cons-in, cons-cases, snoc-cases, last-in, in-snoc, snoc-other}
+use Rattle.machine.proofs.Snoc.{in?, cons-in, cons-cases, snoc-cases, last-in, in-snoc, snoc-other, flag-set}
 use Rattle.machine.proofs.Invariant.{Sound, waits-store, waits-off, not-placed, go-sound, goes-sound, nothing-sound}
 use Rattle.machine.proofs.KeptLaws.{lands-iff}
 
@@ -245,11 +245,7 @@ module _ (t : Trace) (form : Form t) (m : ℕ) (l : Laws (coresOf m t) (keptOf m
 
     module _ (x : ℕ) (g : Run (coresOf m t) r p x) (h : x < t .len) where
       ran-flag : (y : ℕ) → y < t .len → So (getD (set (M .ran) x true) y false) ↔ (y ∈ (x ∷ r))
-      ran-flag y b = elim (eq? y x) [
-        | inl e ↦ (λ _. omega (arith, count-here y x r e), λ _. subst (λ (y : ℕ). So (getD (set (M .ran) x true) y false)) (sym e) (getD-set-same (M .ran) x true false (omega (arith, fits x h, T .sized .ran))))
-        | inr d ↦ let q = getD-set-other (M .ran) x y true false d in
-            (λ s. cons-in y x r (T .ran y b .0 (sym q ∙ s)), λ i. q ∙ T .ran y b .1 (elim (cons-cases y x r i) [ inl e ↦ absurd (d e) | inr j ↦ j ]))
-      ]
+      ran-flag y b = flag-set (M .ran) r x y (omega (arith, fits x h, T .sized .ran)) (T .ran y b)
 
       other : (y : ℕ) → y ∈ r → y ≢ x
       other y i e = omega (arith, g .fresh, i, ap (λ (y : ℕ). count y r) e)
@@ -416,3 +412,9 @@ module _ (t : Trace) (form : Form t) (m : ℕ) (l : Laws (coresOf m t) (keptOf m
               ∙ ap (empties t M) (oldest-waiting t form m l T S x g),
           empties-tells x g,
         )
+
+-- no flag is set at the start
+pub no-flag : (n x : ℕ) → getD (replicate n false) x false ≡ false
+no-flag zero x = refl
+no-flag (suc n) zero = refl
+no-flag (suc n) (suc x) = no-flag n x

@@ -2,12 +2,15 @@
 --
 --   in-snoc, last-in, snoc-cases == what stands in the longer list
 --   snoc-other                   == how often, of another number
-use mathlib.Core.Path.{_≡_, refl}
-use mathlib.Core.Logic.{_≢_, _⊎_, inl, inr}
+--   flag-set                     == flags that tell which numbers stand in a list, and one number more
+use mathlib.Core.Path.{_≡_, refl, sym, _∙_, subst}
+use mathlib.Core.Logic.{_≢_, _⊎_, inl, inr, _↔_}
+use mathlib.Core.Bool.{Bool, true, false, So}
 use mathlib.Core.List.{List, [], _∷_, _++_}
 use Prim.Native.Nat.{ℕ, suc, _<_}
 use native.Mathlib.Omega.{arith}
-use lib.ListN.{length}
+use lib.ListN.{length, getD, set}
+use lib.Seq.{getD-set-same, getD-set-other}
 use Rattle.laws.specs.Places.{pos, count, Before}
 use Rattle.laws.proofs.Tests.{eq?}
 use Rattle.laws.proofs.Places.{pos-here, pos-lt, count-here, count-later}
@@ -47,3 +50,11 @@ cons-cases x c r h = elim (eq? x c) [ inl e ↦ inl e | inr d ↦ inr (omega (ar
 
 pub in? : (x : ℕ) (p : List ℕ) → (x ∈ p) ⊎ (count x p ≡ 0)
 in? x p = elim (eq? (count x p) 0) [ inl e ↦ inr e | inr d ↦ inl (omega arith) ]
+
+pub flag-set : (f : List Bool) (r : List ℕ) (x y : ℕ) → x < length f → So (getD f y false) ↔ (y ∈ r) → So (getD (set f x true) y false) ↔ (y ∈ (x ∷ r))
+flag-set f r x y h p = elim (eq? y x) [
+  | inl e ↦ (λ _. omega (arith, count-here y x r e), λ _. subst (λ (y : ℕ). So (getD (set f x true) y false)) (sym e) (getD-set-same f x true false h))
+  | inr d ↦
+      let q = getD-set-other f x y true false d in
+      (λ s. cons-in y x r (p .0 (sym q ∙ s)), λ i. q ∙ p .1 (elim (cons-cases y x r i) [ inl e ↦ absurd (d e) | inr j ↦ j ]))
+]
