@@ -61,11 +61,13 @@ module _ (t : Trace) (form : Form t) (m : ℕ) (l : Laws (coresOf m t) (keptOf m
   room : {b : Built} {r p r′ p′ : List ℕ} {s : ℕ} → Drives t m b r p → Go (coresOf m t) r p s r′ p′ → b .len < STEPS
   unfolding frameOf
   room {b} {s} d g =
-      omega (arith,
+      omega (
+        arith,
         goes-bound (coresOf m t) (form-good t form) (keptOf m t) l (goes-join (coresOf m t) (d .goes) (more g done)),
         length-append (told b) (s ∷ []),
         length-take-le (b .len) (b .steps) (omega (arith, d .fits, d .places)),
-        form .fits)
+        form .fits,
+      )
 
   step-on : {b : Built} {r p r′ p′ : List ℕ} {s : ℕ} (f : List Bool) → Drives t m b r p → length f ≡ RECORDS → ((x : ℕ) → x < t .len → So (getD f x false) ↔ (x ∈ r′))
       → Go (coresOf m t) r p s r′ p′ → Drives t m (put (record { ran = f; steps = b .steps; len = b .len }) s) r′ p′
@@ -147,8 +149,8 @@ module _ (t : Trace) (form : Form t) (m : ℕ) (l : Laws (coresOf m t) (keptOf m
           | inr q ↦ drives-sound d .closed w c i (l .ordered w c q e)
         ] in
         let (r′, d′, _, all) = sweeps false (thread (at t c)) p (λ r. (w : ℕ) → w < suc c → thread (at t w) ≡ thread (at t c) → w ∈ r) (suc c) (omega (arith, below))
-          (λ k u f r s a z _. absurd (omega (arith, z, a k u (own k .0 f))))
-          (λ k u r a w x e. omega (arith, a w x e, more-in w k r)) d start in
+        (λ k u f r s a z _. absurd (omega (arith, z, a k u (own k .0 f))))
+        (λ k u r a w x e. omega (arith, a w x e, more-in w k r)) d start in
         let S = drives-sound d′ in
         let here : c ∈ r′ = all c (omega arith) (own c .1 refl) in
         let g = c-oldest (coresOf m t) (form-good t form) (keptOf m t) l p c rest v S here in
@@ -163,10 +165,10 @@ module _ (t : Trace) (form : Form t) (m : ℕ) (l : Laws (coresOf m t) (keptOf m
     unfolding swept
     fresh-place {b} {r} d z =
         let (r′, d′, z′, all) = sweeps false (thread (at t c)) p (λ r. count c r ≡ 0) c (omega (arith, below))
-          (λ k u f r s a n before. enters k
-            (k-run (coresOf m t) (form-good t form) (keptOf m t) l p c rest v s a k u (own k .0 f) n (λ w h e. before w h (own w .1 e)))
-            (k-off (coresOf m t) (form-good t form) (keptOf m t) l p c rest v s a k u (own k .0 f) n))
-          (λ k u r a. count-later c k r (omega arith) ∙ a) d z in
+        (λ k u f r s a n before. enters k
+        (k-run (coresOf m t) (form-good t form) (keptOf m t) l p c rest v s a k u (own k .0 f) n (λ w h e. before w h (own w .1 e)))
+        (k-off (coresOf m t) (form-good t form) (keptOf m t) l p c rest v s a k u (own k .0 f) n))
+        (λ k u r a. count-later c k r (omega arith) ∙ a) d z in
         let S = drives-sound d′ in
         let g = c-run (coresOf m t) (form-good t form) (keptOf m t) l p c rest v S z′ (λ w e. let o = l .order w c e in all w (o .0) (own w .1 (o .1))) in
         let runs = passed-runs t false (thread (at t c)) c (swept t false (thread (at t c)) b c) (and-iff same-iff same-iff .1 (so-not .1 (λ (s : So (getD (swept t false (thread (at t c)) b c .ran) c false)). omega (arith, z′, d′ .ran c below .0 s)), own c .1 refl)) in
@@ -209,6 +211,6 @@ module _ (t : Trace) (form : Form t) (m : ℕ) (l : Laws (coresOf m t) (keptOf m
       let (r, d) = placing-drives [] xs v blank-drives in
       let full : (x : ℕ) → So (frameOf t .operation x) → x ∈ xs = λ x s. omega (arith, v .all x ∙ ap (λ (b : Bool). cond b 1 0) s) in
       let (r′, e, _, all) = sweeps true 0 xs (λ _. _≡_ {A = ℕ} 0 0) (t .len) (omega arith)
-        (λ k h _ r s _ z before. left (coresOf m t) (form-good t form) (keptOf m t) l xs full s k h z (λ w u. before w u refl))
-        (λ k h r a. a) d refl in
+      (λ k h _ r s _ z before. left (coresOf m t) (form-good t form) (keptOf m t) l xs full s k h z (λ w u. before w u refl))
+      (λ k h r a. a) d refl in
       (r′, e, record { all = λ x h. all x h refl; empty = nobody-waits (coresOf m t) (form-good t form) (keptOf m t) l xs full })

@@ -220,6 +220,6 @@ unfolding stepsOf
 replay-through t m xs e =
     let (k, a) = steps-exactly t m xs .0 e in
     let q : stepsOf t m xs ≡ listed (builtOf t m xs) = ap (λ (a : Bool). cond a (cond (wellFormed t) (cond (yes? (judgedOf t m xs)) (listed (builtOf t m xs)) (nothing given.NoOrder)) (nothing given.NotWellFormed)) (nothing given.NoModel)) k
-        ∙ ap (λ (b : Bool). cond b (cond (yes? (judgedOf t m xs)) (listed (builtOf t m xs)) (nothing given.NoOrder)) (nothing given.NotWellFormed)) (a .well)
-        ∙ ap (λ (j : Judgement). cond (yes? j) (listed (builtOf t m xs)) (nothing given.NoOrder)) (accepted-yes t m xs .1 a) in
+    ∙ ap (λ (b : Bool). cond b (cond (yes? (judgedOf t m xs)) (listed (builtOf t m xs)) (nothing given.NoOrder)) (nothing given.NotWellFormed)) (a .well)
+    ∙ ap (λ (j : Judgement). cond (yes? j) (listed (builtOf t m xs)) (nothing given.NoOrder)) (accepted-yes t m xs .1 a) in
     subst (λ (s : Steps). answer t m (take (s .len) (s .steps)) ≡ Through true) (sym q) (built-through t (a .well) m k xs (a .valid) .0)
