@@ -1,5 +1,5 @@
 /* Reads a trace from standard input. Prints the answer to it, what is wrong with it and where, the verdict in numbers under each model, whether
- * 1 2 3 0 is an order, and a short talk with a session under TSO. */
+ * 1 2 3 0 is an order, what the machine does under SC and TSO, and a short talk with a session under TSO. */
 #include "wheelotter.h"
 
 #include <stdio.h>
@@ -79,6 +79,29 @@ static void print_verdict(uint8_t model) {
     }
 }
 
+/* The steps that run 1 2 3 0 through, and how the steps 0 0 1 1 end. */
+static void print_machine(uint8_t model) {
+    const uint16_t order[] = {1, 2, 3, 0};
+    uint8_t out[WHEELOTTER_REPLAY];
+    uint8_t answer = wheelotter_steps(text, text_len, model, order, 4, out, sizeof out);
+    printf("model %u: steps of 1 2 3 0:", model);
+    if (answer == WHEELOTTER_REPLAYED) {
+        for (size_t i = 0; i < number(out); i++) {
+            printf(" %u", out[WHEELOTTER_STEPS_AT + i]);
+        }
+    } else {
+        printf(" none, %u", answer);
+    }
+    const uint8_t steps[] = {0, 0, 1, 1};
+    uint8_t place[WHEELOTTER_PLACE];
+    answer = wheelotter_run(text, text_len, model, steps, 4, place, sizeof place);
+    if (answer == WHEELOTTER_STUCK) {
+        printf("; 0 0 1 1: stuck at %u\n", number(place));
+    } else {
+        printf("; 0 0 1 1: %u\n", answer);
+    }
+}
+
 static const char *word(uint8_t answer) {
     switch (answer) {
     case WHEELOTTER_DONE:
@@ -122,6 +145,8 @@ int main(void) {
     for (uint8_t model = 1; model <= WHEELOTTER_MODELS; model++) {
         print_verdict(model);
     }
+    print_machine(WHEELOTTER_SC);
+    print_machine(WHEELOTTER_TSO);
     talk();
     return 0;
 }

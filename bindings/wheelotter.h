@@ -53,6 +53,11 @@ extern "C" {
 #define WHEELOTTER_REPEAT 73            /* a record stands in it twice */
 #define WHEELOTTER_OUT_OF_TURN 74       /* a kept pair stands the wrong way round */
 #define WHEELOTTER_WRONG_VALUE 75       /* a record would read another value */
+#define WHEELOTTER_STUCK 25             /* a step is impossible */
+#define WHEELOTTER_THROUGH 79           /* all records ran, and the buffers are empty */
+#define WHEELOTTER_NOT_THROUGH 80       /* all steps are done, and records are left or entries wait */
+#define WHEELOTTER_REPLAYED 81          /* steps that run an order through */
+#define WHEELOTTER_NO_ORDER 82          /* the list is no valid order */
 
 /* Bounds, lengths in bytes, and places. */
 #define WHEELOTTER_RECORDS 256          /* a trace has at most so many records */
@@ -67,6 +72,10 @@ extern "C" {
 #define WHEELOTTER_MARK 66              /* where a session says whether it is contradicted */
 #define WHEELOTTER_TABLE 67             /* where the table of what is held begins in a session */
 #define WHEELOTTER_JUDGEMENT 4          /* what the judge names has so many bytes */
+#define WHEELOTTER_PLACE 2              /* the place of an impossible step has so many bytes */
+#define WHEELOTTER_STEPS 512            /* a list of possible steps has at most so many */
+#define WHEELOTTER_STEPS_AT 2           /* where the steps of an order begin */
+#define WHEELOTTER_REPLAY 514           /* the steps of an order in bytes have so many */
 
 /* Functions. */
 
@@ -109,6 +118,27 @@ uint8_t wheelotter_verdict(const uint8_t *text, size_t text_len, uint8_t model, 
  *   WHEELOTTER_WRONG_VALUE                the lowest record that would read another value.
  * The place or the record, of a pair both, are laid into out, two bytes each; unused ones are 0, and the rest of out stays. */
 uint8_t wheelotter_judge(const uint8_t *text, size_t text_len, uint8_t model, const uint16_t *list, size_t list_len, uint8_t *out, size_t out_len);
+
+/* Runs the trace that a text writes on a plain machine, under WHEELOTTER_SC or WHEELOTTER_TSO, by a list of steps: one below 8 runs the next record of
+ * that core, 8 more empties the oldest entry of its store buffer. Gives back
+ *   1 to 8, or else WHEELOTTER_NO_MODEL   the text is turned back, or the model has no machine; out stays as it was;
+ *   WHEELOTTER_NO_ROOM                    else out has fewer than WHEELOTTER_PLACE bytes, and stays as it was;
+ *   WHEELOTTER_STUCK                      a step is impossible: the first place, from 0;
+ *   WHEELOTTER_THROUGH                    all records ran, and the buffers are empty;
+ *   WHEELOTTER_NOT_THROUGH                all steps are done, and records are left or entries wait.
+ * The place is laid into out, two bytes; it is 0 where none comes with the answer, and the rest of out stays. */
+uint8_t wheelotter_run(const uint8_t *text, size_t text_len, uint8_t model, const uint8_t *steps, size_t steps_len, uint8_t *out, size_t out_len);
+
+/* The steps by which that machine runs the trace through in a valid order of its operations, in the first WHEELOTTER_REPLAY bytes of out, the rest
+ * stays:
+ *   0                      how many steps there are, in two bytes
+ *   WHEELOTTER_STEPS_AT    WHEELOTTER_STEPS steps, one byte each; unused places are 0
+ * Gives back
+ *   1 to 8, or else WHEELOTTER_NO_MODEL   the text is turned back, or the model has no machine; out stays as it was;
+ *   WHEELOTTER_NO_ROOM                    else out is too short, and stays as it was;
+ *   WHEELOTTER_REPLAYED                   wheelotter_run runs the steps through;
+ *   WHEELOTTER_NO_ORDER                   the list is no valid order (wheelotter_judge tells why); there are no steps. */
+uint8_t wheelotter_steps(const uint8_t *text, size_t text_len, uint8_t model, const uint16_t *order, size_t order_len, uint8_t *out, size_t out_len);
 
 /* A session in bytes, WHEELOTTER_HEAD and as many more as its text has:
  *   0                      the model

@@ -8,6 +8,9 @@
 //! | 64, 65, 66 | the verdict: order, circle, none left |
 //! | 67, 68, 69 | asked: held, not held, contradicted |
 //! | 70 to 75 | a list judged: valid, wrong length, bad number, repeat, out of turn, wrong value |
+//! | 25 | the machine: an impossible step, with its place |
+//! | 79, 80 | all steps are done: the trace ran through, or not |
+//! | 81, 82 | steps that run an order through; a list that is no order |
 //!
 //! Numbers of records, and how many are told, are laid down in two bytes, the low one first.
 //!
@@ -15,6 +18,7 @@
 //! bit for each x and each y, eight to a byte from the lowest on, 1 where x before y is held; then the text of its trace up to the end.
 
 use crate::orders::{self, Judgement};
+use crate::plain::{self, has_machine, Ran};
 use crate::reader::{self, Refusal};
 use crate::report;
 use crate::rules::Pair;
@@ -40,6 +44,11 @@ pub const BAD_NUMBER: u8 = 72;
 pub const REPEAT: u8 = 73;
 pub const OUT_OF_TURN: u8 = 74;
 pub const WRONG_VALUE: u8 = 75;
+pub const STUCK: u8 = 25;
+pub const THROUGH: u8 = 79;
+pub const NOT_THROUGH: u8 = 80;
+pub const REPLAYED: u8 = 81;
+pub const NO_ORDER: u8 = 82;
 
 /// A verdict in bytes: how many operations it names, the operations, the rules of a circle.
 pub const VERDICT: usize = RULES_AT + MOST_RECORDS;
@@ -48,6 +57,13 @@ pub const RULES_AT: usize = OPERATIONS_AT + 2 * MOST_RECORDS;
 
 /// What a judged list comes with: the place or the record, of a pair both records; unused ones 0.
 pub const JUDGEMENT: usize = 4;
+
+/// The place of an impossible step.
+pub const PLACE: usize = 2;
+
+/// Steps from an order: how many, and a byte each; unused ones 0. A record runs, and a store is emptied, once.
+pub const REPLAY: usize = STEPS_AT + 2 * MOST_RECORDS;
+pub const STEPS_AT: usize = 2;
 
 pub const PAIRS_AT: usize = 2;
 pub const CONTRADICTED_AT: usize = PAIRS_AT + 4 * MOST_PAIRS;
@@ -181,6 +197,48 @@ impl<'a> Page<'a> {
         put_number(place, first);
         put_number(&mut place[2..], second);
         answer
+    }
+
+    /// The trace and the model, where the text is good and the model has a machine.
+    fn machine(&self, model: u8) -> Result<(&Trace, Model), u8> {
+        let trace = self.reading.as_ref().map_err(|refusal| refusal.number)?;
+        Model::numbered(model.into()).filter(|&model| has_machine(model)).map(|model| (trace, model)).ok_or(NO_MODEL)
+    }
+
+    /// How steps run the trace, with the place of the first impossible one.
+    pub fn run(&self, model: u8, steps: &[u8], lent: &mut [u8]) -> u8 {
+        let (trace, model) = match self.machine(model) {
+            Err(number) => return number,
+            Ok(found) => found,
+        };
+        let Some(place) = lent.get_mut(..PLACE) else { return NO_ROOM };
+        let (answer, stuck) = match plain::run(trace, model, steps) {
+            Ran::Stuck(at) => (STUCK, at),
+            Ran::Done(true) => (THROUGH, 0),
+            Ran::Done(false) => (NOT_THROUGH, 0),
+        };
+        put_number(place, stuck);
+        answer
+    }
+
+    /// The steps of an order.
+    pub fn steps(&self, model: u8, order: &[u16], lent: &mut [u8]) -> u8 {
+        let (trace, model) = match self.machine(model) {
+            Err(number) => return number,
+            Ok(found) => found,
+        };
+        let Some(place) = lent.get_mut(..REPLAY) else { return NO_ROOM };
+        let order: Vec<usize> = order.iter().copied().map(usize::from).collect();
+        let found = plain::steps_of(trace, model, &order);
+        let steps = found.as_deref().unwrap_or_default();
+        place.fill(0);
+        put_number(place, steps.len());
+        place[STEPS_AT..][..steps.len()].copy_from_slice(steps);
+        if found.is_some() {
+            REPLAYED
+        } else {
+            NO_ORDER
+        }
     }
 
     /// The answer, and the session that then stands in front of the lent memory, if any does.

@@ -1,8 +1,8 @@
 //! Reads a trace from standard input. Prints the answer to it, what is wrong with it and where, the verdict in numbers under each model, whether
-//! 1 2 3 0 is an order, and a short talk with a session under TSO.
+//! 1 2 3 0 is an order, what the machine does under SC and TSO, and a short talk with a session under TSO.
 
 use std::io::{self, Read};
-use wheelotter::{check, judge, report, verdict, Answer, Asked, Judgement, Model, Session, Verdict, MODELS};
+use wheelotter::{check, judge, report, run, steps, verdict, Answer, Asked, Judgement, Model, Ran, Session, Verdict, MODELS};
 
 fn main() -> io::Result<()> {
     let mut text = Vec::new();
@@ -10,6 +10,7 @@ fn main() -> io::Result<()> {
     print!("{}", report(&text));
     print_bad_line(&text);
     MODELS.iter().for_each(|&model| print_verdict(&text, model));
+    [Model::Sc, Model::Tso].iter().for_each(|&model| print_machine(&text, model));
     match Session::open(&text, Model::Tso) {
         Err(_) => println!("open: refused"),
         Ok(session) => {
@@ -52,6 +53,21 @@ fn print_verdict(text: &[u8], model: Model) {
         Err(refusal) => format!("no, {}", refusal.answer as u8),
     };
     println!("model {}: {told}; is 1 2 3 0 an order: {judged}", model as u8);
+}
+
+/// The steps that run 1 2 3 0 through, and how the steps 0 0 1 1 end.
+fn print_machine(text: &[u8], model: Model) {
+    let found = match steps(text, model, &[1, 2, 3, 0]) {
+        Ok(found) => listed(&found),
+        Err(refused) => format!(" none, {}", refused as u8),
+    };
+    let ran = match run(text, model, &[0, 0, 1, 1]) {
+        Ok(Ran::Stuck(place)) => format!("stuck at {place}"),
+        Ok(Ran::Through) => (Answer::Through as u8).to_string(),
+        Ok(Ran::NotThrough) => (Answer::NotThrough as u8).to_string(),
+        Err(refused) => (refused as u8).to_string(),
+    };
+    println!("model {}: steps of 1 2 3 0:{found}; 0 0 1 1: {ran}", model as u8);
 }
 
 fn done(answer: Result<(), Answer>) -> &'static str {

@@ -19,6 +19,24 @@ mod linked {
             out: *mut u8,
             out_len: usize,
         ) -> u8;
+        pub fn wheelotter_run(
+            text: *const u8,
+            text_len: usize,
+            model: u8,
+            steps: *const u8,
+            steps_len: usize,
+            out: *mut u8,
+            out_len: usize,
+        ) -> u8;
+        pub fn wheelotter_steps(
+            text: *const u8,
+            text_len: usize,
+            model: u8,
+            order: *const u16,
+            order_len: usize,
+            out: *mut u8,
+            out_len: usize,
+        ) -> u8;
         pub fn wheelotter_open(text: *const u8, text_len: usize, model: u8, session: *mut u8, session_len: usize) -> u8;
         pub fn wheelotter_suppose(session: *mut u8, session_len: usize, x: usize, y: usize) -> u8;
         pub fn wheelotter_take_back(session: *mut u8, session_len: usize) -> u8;
@@ -68,6 +86,20 @@ pub fn verdict(text: &[u8], model: u8, out: &mut [u8]) -> u8 {
 /// turned back, or else `out` is shorter, it stays as it was.
 pub fn judge(text: &[u8], model: u8, list: &[u16], out: &mut [u8]) -> u8 {
     unsafe { linked::wheelotter_judge(text.as_ptr(), text.len(), model, list.as_ptr(), list.len(), out.as_mut_ptr(), out.len()) }
+}
+
+/// Runs the trace that a text writes on a plain machine, under SC or TSO, by a list of steps: one below 8 runs the next record of that core, 8 more
+/// empties the oldest entry of its store buffer. The place of the first impossible step in the first [`PLACE`](crate::PLACE) bytes of `out`, the low
+/// one first; 0 where there is none. Where the text or the model is turned back, or else `out` is shorter, it stays as it was.
+pub fn run(text: &[u8], model: u8, steps: &[u8], out: &mut [u8]) -> u8 {
+    unsafe { linked::wheelotter_run(text.as_ptr(), text.len(), model, steps.as_ptr(), steps.len(), out.as_mut_ptr(), out.len()) }
+}
+
+/// The steps by which that machine runs the trace through in a valid order, in the first [`REPLAY`](crate::REPLAY) bytes of `out`: how many, in two
+/// bytes, the low one first, and from [`STEPS_AT`](crate::STEPS_AT) on the steps; unused places are 0. Where the text or the model is turned back, or
+/// else `out` is shorter, it stays as it was.
+pub fn steps(text: &[u8], model: u8, order: &[u16], out: &mut [u8]) -> u8 {
+    unsafe { linked::wheelotter_steps(text.as_ptr(), text.len(), model, order.as_ptr(), order.len(), out.as_mut_ptr(), out.len()) }
 }
 
 /// Opens a session on a text in the first [`HEAD`](crate::HEAD) and as many bytes more as the text has; the rest of `session` stays. Where the text,

@@ -116,6 +116,38 @@ pub fn judge<'a>(text: &'a [u8], model: Model, list: &[u16]) -> Result<Judgement
     }
 }
 
+/// How the machine ends a run.
+#[derive(Clone, Copy, Debug, PartialEq, Eq)]
+pub enum Ran {
+    /// The place, from 0, of the first impossible step.
+    Stuck(u16),
+    /// All records ran, and the buffers are empty.
+    Through,
+    /// All steps are done, and records are left or entries wait.
+    NotThrough,
+}
+
+/// Runs the trace that a text writes on a plain machine by a list of steps: one below 8 runs the next record of that core, 8 more empties the oldest
+/// entry of its store buffer. Only SC and TSO have a machine.
+pub fn run(text: &[u8], model: Model, steps: &[u8]) -> Result<Ran, Answer> {
+    let mut out = [0; PLACE];
+    match Answer::of(entries::run(text, model as u8, steps, &mut out)) {
+        Answer::Stuck => Ok(Ran::Stuck(u16::from_le_bytes(out))),
+        Answer::Through => Ok(Ran::Through),
+        Answer::NotThrough => Ok(Ran::NotThrough),
+        refused => Err(refused),
+    }
+}
+
+/// The steps by which that machine runs the trace through in a valid order of its operations; [`Answer::NoOrder`] where the list is none.
+pub fn steps(text: &[u8], model: Model, order: &[u16]) -> Result<Vec<u8>, Answer> {
+    let mut out = [0; REPLAY];
+    match Answer::of(entries::steps(text, model as u8, order, &mut out)) {
+        Answer::Replayed => Ok(out[STEPS_AT..][..usize::from(u16::from_le_bytes([out[0], out[1]]))].to_vec()),
+        refused => Err(refused),
+    }
+}
+
 /// What a session knows of two operations.
 #[derive(Clone, Copy, Debug, PartialEq, Eq)]
 pub enum Asked {

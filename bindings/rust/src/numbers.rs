@@ -36,6 +36,18 @@ pub const TABLE: usize = 67;
 /// What the judge names has so many bytes.
 pub const JUDGEMENT: usize = 4;
 
+/// The place of an impossible step has so many bytes.
+pub const PLACE: usize = 2;
+
+/// A list of possible steps has at most so many.
+pub const STEPS: usize = 512;
+
+/// Where the steps of an order begin.
+pub const STEPS_AT: usize = 2;
+
+/// The steps of an order in bytes have so many.
+pub const REPLAY: usize = 514;
+
 /// What orders a memory may show.
 #[derive(Clone, Copy, Debug, PartialEq, Eq)]
 pub enum Model {
@@ -111,11 +123,21 @@ pub enum Answer {
     OutOfTurn = 74,
     /// A record would read another value.
     WrongValue = 75,
+    /// A step is impossible.
+    Stuck = 25,
+    /// All records ran, and the buffers are empty.
+    Through = 79,
+    /// All steps are done, and records are left or entries wait.
+    NotThrough = 80,
+    /// Steps that run an order through.
+    Replayed = 81,
+    /// The list is no valid order.
+    NoOrder = 82,
 }
 
 /// In the order of their numbers.
 #[rustfmt::skip]
-pub(crate) const ANSWERS: [Answer; 30] = [
+pub(crate) const ANSWERS: [Answer; 35] = [
     Answer::Done,
     Answer::LongText,
     Answer::LongLine,
@@ -146,4 +168,9 @@ pub(crate) const ANSWERS: [Answer; 30] = [
     Answer::Repeat,
     Answer::OutOfTurn,
     Answer::WrongValue,
+    Answer::Stuck,
+    Answer::Through,
+    Answer::NotThrough,
+    Answer::Replayed,
+    Answer::NoOrder,
 ];

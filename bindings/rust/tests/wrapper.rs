@@ -1,7 +1,7 @@
 //! Each kind of answer through the safe functions, worked out from document 01.
 
-use wheelotter::{check, entries, judge, report, verdict, Answer, Asked, Judgement, Model, Refusal, Session, Verdict};
-use wheelotter::{HEAD, JUDGEMENT, MARK, MODELS, OPERATIONS, PAIRS, RECORDS, REPORT, RULES, STANDING, TABLE, TEXT, VERDICT};
+use wheelotter::{check, entries, judge, report, run, steps, verdict, Answer, Asked, Judgement, Model, Ran, Refusal, Session, Verdict};
+use wheelotter::{HEAD, JUDGEMENT, MARK, MODELS, OPERATIONS, PAIRS, PLACE, RECORDS, REPLAY, REPORT, RULES, STANDING, STEPS, STEPS_AT, TABLE, TEXT, VERDICT};
 
 const BUFFERS: &[u8] = b"0: M[0] := 1\n0: M[1] == 0\n1: M[1] := 1\n1: M[0] == 0\n";
 const NO_SOURCE: &[u8] = b"0: M[0] := 1\n0: sync\n0: M[0] == 2\n";
@@ -17,6 +17,7 @@ fn the_numbers_of_the_header() {
     assert_eq!([number("RECORDS"), number("PAIRS"), number("TEXT"), number("REPORT")], [RECORDS, PAIRS, TEXT, REPORT]);
     assert_eq!([number("VERDICT"), number("OPERATIONS"), number("RULES")], [VERDICT, OPERATIONS, RULES]);
     assert_eq!([number("HEAD"), number("STANDING"), number("MARK"), number("TABLE")], [HEAD, STANDING, MARK, TABLE]);
+    assert_eq!([number("PLACE"), number("STEPS"), number("STEPS_AT"), number("REPLAY")], [PLACE, STEPS, STEPS_AT, REPLAY]);
     assert_eq!(["SC", "TSO", "PSO", "WMO"].map(number), MODELS.map(|model| model as usize));
     assert_eq!(number("MODELS"), MODELS.len());
     for answer in (0..=255).filter_map(Answer::numbered) {
@@ -47,6 +48,25 @@ fn judgements() {
     assert_eq!(judged(Model::Tso, &[0, 1, 2, 3]), Judgement::WrongValue(3));
     assert_eq!(judge(b"\n", Model::Sc, &[]).map_err(|refusal| refusal.answer), Err(Answer::NoForm));
     assert_eq!(entries::judge(BUFFERS, 1, &[], &mut [0; JUDGEMENT - 1]), Answer::NoRoom as u8);
+}
+
+/// Two stores into their buffers, two loads from memory: the buffers have to be emptied. Under SC the second load would get 1.
+#[test]
+fn machine() {
+    assert_eq!(run(BUFFERS, Model::Tso, &[0, 0, 1, 1]), Ok(Ran::NotThrough));
+    assert_eq!(run(BUFFERS, Model::Tso, &[0, 0, 1, 1, 8, 9]), Ok(Ran::Through));
+    assert_eq!(run(BUFFERS, Model::Tso, &[0, 0, 1, 1, 8, 9, 8]), Ok(Ran::Stuck(6)));
+    assert_eq!(run(BUFFERS, Model::Sc, &[0, 0, 1, 1]), Ok(Ran::Stuck(3)));
+    assert_eq!(run(BUFFERS, Model::Sc, &[16]), Ok(Ran::Stuck(0)));
+    assert_eq!(run(BUFFERS, Model::Pso, &[]), Err(Answer::NoModel));
+    assert_eq!(run(b"\n", Model::Wmo, &[]), Err(Answer::NoForm));
+    assert_eq!(entries::run(BUFFERS, 1, &[16], &mut [0; PLACE - 1]), Answer::NoRoom as u8);
+    let found = steps(BUFFERS, Model::Tso, &[1, 2, 3, 0]).expect("a valid order");
+    assert_eq!(found, [0, 0, 1, 9, 1, 8]);
+    assert_eq!(run(BUFFERS, Model::Tso, &found), Ok(Ran::Through));
+    assert_eq!(steps(BUFFERS, Model::Sc, &[1, 2, 3, 0]), Err(Answer::NoOrder));
+    assert_eq!(steps(b"0: sync\n", Model::Sc, &[]), Ok(vec![0]));
+    assert_eq!(entries::steps(BUFFERS, 2, &[], &mut [0; REPLAY - 1]), Answer::NoRoom as u8);
 }
 
 #[test]

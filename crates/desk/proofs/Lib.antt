@@ -2,6 +2,7 @@
 pub mod Ranked
 pub mod Spelling
 pub mod Judging
+pub mod Hosted
 pub mod Laying
 pub mod Tabled
 pub mod Keeping

@@ -9,6 +9,7 @@ use Rattle.session.proofs.Forcing.{closings-some}
 use Rattle.report.proofs.One.{reported-one}
 use Rattle.desk.proofs.Spelling.{answered-one}
 use Rattle.desk.proofs.Judging.{judged-one}
+use Rattle.desk.proofs.Hosted.{run-one, replayed-one}
 use Rattle.desk.proofs.texts.wheelotter_report.Reads as report
 use Rattle.desk.proofs.texts.wheelotter_report.Kinds as report-kinds
 use Rattle.desk.proofs.texts.wheelotter_number.Reads as number
@@ -23,6 +24,10 @@ use Rattle.desk.proofs.verdicts.wheelotter_verdict.Reads as verdict
 use Rattle.desk.proofs.verdicts.wheelotter_verdict.Kinds as verdict-kinds
 use Rattle.desk.proofs.judgements.wheelotter_judge.Reads as judge
 use Rattle.desk.proofs.judgements.wheelotter_judge.Kinds as judge-kinds
+use Rattle.desk.proofs.runs.wheelotter_run.Reads as run
+use Rattle.desk.proofs.runs.wheelotter_run.Kinds as run-kinds
+use Rattle.desk.proofs.runs.wheelotter_steps.Reads as steps
+use Rattle.desk.proofs.runs.wheelotter_steps.Kinds as steps-kinds
 use Rattle.desk.proofs.sessions.wheelotter_open.Reads as opens
 use Rattle.desk.proofs.sessions.wheelotter_open.Kinds as open-kinds
 use Rattle.desk.proofs.sessions.wheelotter_suppose.Reads as suppose
@@ -63,6 +68,22 @@ judge-settles κs a x y s t p q =
 pub judge-leaves : Leaves 3 judge-kinds.ps judge-kinds.r (λ κs s. now (s .1 .1 .1 .0)) judge.Post
 judge-leaves κs a x y s t p q =
     judged-one (now (a .0)) (a .1 .0) (now (a .1 .1 .0)) (now (a .1 .1 .1 .0)) (now (s .1 .1 .1 .0)) (now (t .1 .1 .1 .0)) x y p q .1
+
+pub run-settles : Settles 3 run-kinds.ps run-kinds.r run.Post
+run-settles κs a x y s t p q =
+    run-one (now (a .0)) (a .1 .0) (now (a .1 .1 .0)) (now (a .1 .1 .1 .0)) (now (s .1 .1 .1 .0)) (now (t .1 .1 .1 .0)) x y p q .0
+
+pub run-leaves : Leaves 3 run-kinds.ps run-kinds.r (λ κs s. now (s .1 .1 .1 .0)) run.Post
+run-leaves κs a x y s t p q =
+    run-one (now (a .0)) (a .1 .0) (now (a .1 .1 .0)) (now (a .1 .1 .1 .0)) (now (s .1 .1 .1 .0)) (now (t .1 .1 .1 .0)) x y p q .1
+
+pub steps-settles : Settles 3 steps-kinds.ps steps-kinds.r steps.Post
+steps-settles κs a x y s t p q =
+    replayed-one (now (a .0)) (a .1 .0) (now (a .1 .1 .0)) (now (a .1 .1 .1 .0)) (now (s .1 .1 .1 .0)) (now (t .1 .1 .1 .0)) x y p q .0
+
+pub steps-leaves : Leaves 3 steps-kinds.ps steps-kinds.r (λ κs s. now (s .1 .1 .1 .0)) steps.Post
+steps-leaves κs a x y s t p q =
+    replayed-one (now (a .0)) (a .1 .0) (now (a .1 .1 .0)) (now (a .1 .1 .1 .0)) (now (s .1 .1 .1 .0)) (now (t .1 .1 .1 .0)) x y p q .1
 
 pub open-settles : Settles 2 open-kinds.ps open-kinds.r opens.Post
 open-settles κs a x y s t p q = p .0 ∙ sym (q .0)

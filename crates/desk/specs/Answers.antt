@@ -5,6 +5,8 @@
 --   HELD, NOT-HELD, CONTRADICTED   == what a session says when it is asked
 --   VALID                          == the judge: a valid order
 --   WRONG-LENGTH, BAD-NUMBER, REPEAT, OUT-OF-TURN, WRONG-VALUE == the condition that a list fails first
+--   THROUGH, NOT-THROUGH           == the machine: all steps are done, and the trace ran through, or not
+--   REPLAYED, NO-ORDER             == steps that run an order through, or a list that is none
 --   NO-MODEL, NOT-WELL-FORMED, NO-SOURCE == document 01's numbers of a model that does not exist, of a trace that is not well formed, and of a missing source
 --   answerTo v                     == the answer to a verdict: a missing source is document 01's 11
 --   outcomeNumber o                == the same, by its outcome as the code holds it
@@ -52,6 +54,18 @@ OUT-OF-TURN = 74
 
 abbrev pub WRONG-VALUE : ℕ
 WRONG-VALUE = 75
+
+abbrev pub THROUGH : ℕ
+THROUGH = 79
+
+abbrev pub NOT-THROUGH : ℕ
+NOT-THROUGH = 80
+
+abbrev pub REPLAYED : ℕ
+REPLAYED = 81
+
+abbrev pub NO-ORDER : ℕ
+NO-ORDER = 82
 
 abbrev pub NO-MODEL : ℕ
 NO-MODEL = 9

@@ -6,6 +6,7 @@ pub mod Verdict
 pub mod Spelled
 pub mod Heard
 pub mod Judged
+pub mod Runs
 pub mod Head
 pub mod Kept
 pub mod Acts

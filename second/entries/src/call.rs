@@ -12,6 +12,8 @@ pub enum Call {
     End,
     Verdict { model: u8, room: usize },
     Judge { model: u8, list: Vec<u16>, room: usize },
+    Run { model: u8, steps: Vec<u8>, room: usize },
+    Steps { model: u8, list: Vec<u16>, room: usize },
     Open { model: u8, room: usize },
     Suppose { x: usize, y: usize },
     TakeBack,
@@ -25,7 +27,8 @@ pub const OTHER_MODELS: [u8; 5] = [0, LAST_MODEL + 1, LAST_MODEL + 2, 128, 255];
 pub const LAST_MODEL: u8 = MODELS as u8;
 
 /// The entries' names without the front that all share, in the order of the header.
-pub const ENTRIES: [&str; 11] = ["report", "number", "line", "start", "end", "verdict", "judge", "open", "suppose", "take_back", "ask"];
+pub const ENTRIES: [&str; 13] =
+    ["report", "number", "line", "start", "end", "verdict", "judge", "run", "steps", "open", "suppose", "take_back", "ask"];
 
 impl Call {
     /// Which of `ENTRIES` is called.
@@ -38,10 +41,12 @@ impl Call {
             Call::End => 4,
             Call::Verdict { .. } => 5,
             Call::Judge { .. } => 6,
-            Call::Open { .. } => 7,
-            Call::Suppose { .. } => 8,
-            Call::TakeBack => 9,
-            Call::Ask { .. } => 10,
+            Call::Run { .. } => 7,
+            Call::Steps { .. } => 8,
+            Call::Open { .. } => 9,
+            Call::Suppose { .. } => 10,
+            Call::TakeBack => 11,
+            Call::Ask { .. } => 12,
         }
     }
 
@@ -58,6 +63,8 @@ impl fmt::Display for Call {
             Call::Report { room } => write!(f, " into {room} bytes"),
             Call::Verdict { model, room } => write!(f, " under {model} into {room} bytes"),
             Call::Judge { model, list, room } => write!(f, " under {model} of {list:?} into {room} bytes"),
+            Call::Run { model, steps, room } => write!(f, " under {model} by {steps:?} into {room} bytes"),
+            Call::Steps { model, list, room } => write!(f, " under {model} of {list:?} into {room} bytes"),
             Call::Open { model, room } => write!(f, " under {model} in {room} bytes"),
             Call::Suppose { x, y } | Call::Ask { x, y } => write!(f, " {x} {y}"),
             Call::Number | Call::Line | Call::Start | Call::End | Call::TakeBack => Ok(()),

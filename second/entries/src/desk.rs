@@ -10,6 +10,8 @@ pub trait Desk: Sync {
     fn end(&self, text: &[u8]) -> usize;
     fn verdict(&self, text: &[u8], model: u8, out: &mut [u8]) -> u8;
     fn judge(&self, text: &[u8], model: u8, list: &[u16], out: &mut [u8]) -> u8;
+    fn run(&self, text: &[u8], model: u8, steps: &[u8], out: &mut [u8]) -> u8;
+    fn steps(&self, text: &[u8], model: u8, order: &[u16], out: &mut [u8]) -> u8;
     fn open(&self, text: &[u8], model: u8, session: &mut [u8]) -> u8;
     fn suppose(&self, session: &mut [u8], x: usize, y: usize) -> u8;
     fn take_back(&self, session: &mut [u8]) -> u8;
@@ -40,6 +42,12 @@ impl Desk for Proved {
     }
     fn judge(&self, text: &[u8], model: u8, list: &[u16], out: &mut [u8]) -> u8 {
         entries::judge(text, model, list, out)
+    }
+    fn run(&self, text: &[u8], model: u8, steps: &[u8], out: &mut [u8]) -> u8 {
+        entries::run(text, model, steps, out)
+    }
+    fn steps(&self, text: &[u8], model: u8, order: &[u16], out: &mut [u8]) -> u8 {
+        entries::steps(text, model, order, out)
     }
     fn open(&self, text: &[u8], model: u8, session: &mut [u8]) -> u8 {
         entries::open(text, model, session)

@@ -7,6 +7,7 @@
 //! | `lent` | memory that is lent, and memory around it |
 //! | `case` | a case: its text, its calls, its counts, what differed |
 //! | `texts` | the entries that take a text |
+//! | `machines` | the plain machine's, and whether it agrees with the verdict |
 //! | `sessions` | opening, and the calls on a session |
 //! | `damage` | bytes that were a session |
 //! | `compare` | a whole case |
@@ -17,5 +18,6 @@ pub mod compare;
 pub mod damage;
 pub mod desk;
 pub mod lent;
+pub mod machines;
 pub mod sessions;
 pub mod texts;

@@ -4,6 +4,7 @@ use crate::call::{Call, LAST_MODEL, OTHER_MODELS};
 use crate::case::Case;
 use crate::desk::Desk;
 use crate::lent::Lent;
+use crate::machines;
 use second::desk::{lay_verdict, number_at, JUDGEMENT, NONE_LEFT, OPERATIONS_AT, ORDER, RULES_AT, VERDICT};
 use second::lists::drawn;
 use second::report::NOT_KNOWN;
@@ -16,7 +17,8 @@ pub fn compare<D: Desk>(case: &mut Case<'_, D>) {
     let report = report(case);
     let verdicts = verdicts(case);
     let judged = judged(case);
-    if !(readings && report && verdicts && judged) {
+    let machines = machines::compare(case);
+    if !(readings && report && verdicts && judged && machines) {
         case.counts.texts_failed += 1;
     } else if case.page.trace().is_some() && case.page.output().contains(NOT_KNOWN) {
         case.counts.not_known += 1;

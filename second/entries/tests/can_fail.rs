@@ -8,6 +8,7 @@ use second::desk::{
 use second::desk::{
     BAD_NUMBER, CONTRADICTED, JUDGEMENT, NONE_LEFT, NOT_HELD, NO_ROOM, NO_SOURCE, ORDER, REPEAT, VALID, WRONG_LENGTH, WRONG_VALUE,
 };
+use second::desk::{NOT_THROUGH, NO_ORDER, PLACE, REPLAY, REPLAYED, STEPS_AT, STUCK, THROUGH};
 use second::families::FAMILIES;
 use second::session::{self, Session, MOST_PAIRS};
 use second::trace::Model;
@@ -19,7 +20,7 @@ struct Faulty(&'static str);
 
 const RIGHT: &str = "none";
 
-const FAULTS: [&str; 62] = [
+const FAULTS: [&str; 74] = [
     "report: a letter too far",
     "report: short memory written",
     "report: length of one line",
@@ -57,6 +58,18 @@ const FAULTS: [&str; 62] = [
     "judge: the first repeat",
     "judge: the first wrong value",
     "judge: a bad number is a wrong length",
+    "run: places from 1",
+    "run: the last place",
+    "run: done is through",
+    "run: through is done",
+    "run: room first",
+    "run: PSO has a machine",
+    "run: what lies behind is wiped",
+    "run: buffers are passed by",
+    "steps: of any list",
+    "steps: no fences at the end",
+    "steps: unused places stay",
+    "steps: PSO has a machine",
     "open: one byte less is enough",
     "open: room before the text",
     "open: refused, and too short is written",
@@ -300,6 +313,53 @@ impl Desk for Faulty {
         match answer {
             BAD_NUMBER if self.is("judge: a bad number is a wrong length") => WRONG_LENGTH,
             _ if self.is("judge: yes to all") => VALID,
+            answer => answer,
+        }
+    }
+
+    fn run(&self, text: &[u8], model: u8, steps: &[u8], out: &mut [u8]) -> u8 {
+        let page = self.page(text);
+        if self.is("run: room first") && out.len() < PLACE {
+            return NO_ROOM;
+        }
+        let model = if self.is("run: PSO has a machine") && model == 3 { 2 } else { model };
+        let model = if self.is("run: buffers are passed by") && model == 2 { 1 } else { model };
+        let answer = page.run(model, steps, out);
+        if answer == STUCK && self.is("run: places from 1") {
+            let place = number_at(out) + 1;
+            put_number(out, place);
+        }
+        if answer == STUCK && self.is("run: the last place") {
+            put_number(out, steps.len() - 1);
+        }
+        if answer >= STUCK && self.is("run: what lies behind is wiped") {
+            out[PLACE..].fill(0);
+        }
+        match answer {
+            NOT_THROUGH if self.is("run: done is through") => THROUGH,
+            THROUGH if self.is("run: through is done") => NOT_THROUGH,
+            answer => answer,
+        }
+    }
+
+    fn steps(&self, text: &[u8], model: u8, order: &[u16], out: &mut [u8]) -> u8 {
+        let (page, before) = (self.page(text), out.to_vec());
+        let model = if self.is("steps: PSO has a machine") && model == 3 { 2 } else { model };
+        let answer = page.steps(model, order, out);
+        if answer < REPLAYED {
+            return answer;
+        }
+        let trace = page.trace().expect("a good text");
+        let count = number_at(out);
+        if self.is("steps: no fences at the end") && answer == REPLAYED && count > 0 && trace.places[trace.count - 1].is_fence() {
+            out[STEPS_AT + count - 1] = 0;
+            put_number(out, count - 1);
+        }
+        if self.is("steps: unused places stay") {
+            out[STEPS_AT + count..REPLAY].copy_from_slice(&before[STEPS_AT + count..REPLAY]);
+        }
+        match answer {
+            NO_ORDER if self.is("steps: of any list") => REPLAYED,
             answer => answer,
         }
     }

@@ -31,3 +31,15 @@ pub const REPEAT: u8 = 73;
 pub const OUT_OF_TURN: u8 = 74;
 
 pub const WRONG_VALUE: u8 = 75;
+
+// The machine: an impossible step (document 02's number), all steps done, and whether the trace ran through; steps that run an order through, or a
+// list that is none.
+pub const STUCK: u8 = 25;
+
+pub const THROUGH: u8 = 79;
+
+pub const NOT_THROUGH: u8 = 80;
+
+pub const REPLAYED: u8 = 81;
+
+pub const NO_ORDER: u8 = 82;
