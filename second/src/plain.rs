@@ -5,7 +5,7 @@
 //! buffer. The first impossible step ends the run.
 
 use crate::orders::judge;
-use crate::trace::{Model, Record, Trace, BEGINNING, LAST_THREAD};
+use crate::trace::{Model, Record, Trace, LAST_ADDRESS, LAST_THREAD};
 use std::collections::{BTreeMap, BTreeSet, VecDeque};
 
 /// How many cores there are: steps from here on empty a buffer.
@@ -18,7 +18,7 @@ pub enum Ran {
     Done(bool),
 }
 
-/// The records that each core has left, its buffer, and what memory holds where something was written.
+/// The records that each core has left, its buffer, and what memory holds at each address.
 #[derive(Clone, PartialEq, Eq, PartialOrd, Ord)]
 pub struct Plain {
     left: Vec<VecDeque<usize>>,
@@ -29,7 +29,8 @@ pub struct Plain {
 impl Plain {
     pub fn new(trace: &Trace) -> Plain {
         let of = |core: u8| (0..trace.count).filter(|&x| trace.places[x].thread() == core.into()).collect();
-        Plain { left: (0..CORES).map(of).collect(), buffers: vec![VecDeque::new(); CORES.into()], memory: BTreeMap::new() }
+        let memory = (0..=LAST_ADDRESS).map(|address| (address, trace.first(address))).collect();
+        Plain { left: (0..CORES).map(of).collect(), buffers: vec![VecDeque::new(); CORES.into()], memory }
     }
 
     /// Does the step and says so, where it is possible.
@@ -60,7 +61,7 @@ impl Plain {
 
     fn got(&self, core: usize, address: u64) -> u64 {
         let own = self.buffers[core].iter().rev().find(|(to, _)| *to == address).map(|(_, value)| value);
-        *own.or_else(|| self.memory.get(&address)).unwrap_or(&BEGINNING)
+        *own.unwrap_or(&self.memory[&address])
     }
 
     fn empty(&mut self, core: usize) -> bool {
