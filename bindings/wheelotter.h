@@ -41,6 +41,7 @@ extern "C" {
 #define WHEELOTTER_NO_PAIR 16           /* take back, and no pair stands */
 #define WHEELOTTER_LATE_INIT 17         /* an init line behind a record, or a second one for its address */
 #define WHEELOTTER_NO_ROOM 21           /* the lent memory is too short, and stays as it was */
+#define WHEELOTTER_LOST_CORE 22         /* a core appears in the text, and a lower one does not */
 #define WHEELOTTER_ORDER 64             /* the first valid order */
 #define WHEELOTTER_CIRCLE 65            /* the rules run in a circle */
 #define WHEELOTTER_NONE_LEFT 66         /* every order was ruled out */
@@ -83,7 +84,7 @@ extern "C" {
  * out is too short it stays as it is, and 0 comes back. */
 size_t wheelotter_report(const uint8_t *text, size_t text_len, uint8_t *out, size_t out_len);
 
-/* The number of what is wrong with a text, 1 to 8 or 17; 0 for a good one. */
+/* The number of what is wrong with a text, 1 to 8, 17 or 22; 0 for a good one. */
 uint8_t wheelotter_number(const uint8_t *text, size_t text_len);
 
 /* The line that a text is turned back for, counted from 1; 0 where no line is to blame. */
@@ -99,7 +100,7 @@ size_t wheelotter_end(const uint8_t *text, size_t text_len);
  *   WHEELOTTER_RULES         WHEELOTTER_RECORDS rules, one byte each: of a circle the rule of the edge from the operation in the same place
  *                            to the next, or from the last to the first
  * Numbers of two bytes have the low byte first, here and below. Unused places are 0. Gives back
- *   1 to 8 or 17, or else WHEELOTTER_NO_MODEL   the text is turned back, or there is no such model; out stays as it was;
+ *   1 to 8, 17 or 22, or else WHEELOTTER_NO_MODEL   the text is turned back, or there is no such model; out stays as it was;
  *   WHEELOTTER_NO_ROOM                    else out is too short, and stays as it was;
  *   WHEELOTTER_NO_SOURCE                  one operation is named, which read a value that nobody wrote;
  *   WHEELOTTER_CIRCLE                     the operations and rules of the circle shown;
@@ -108,7 +109,7 @@ size_t wheelotter_end(const uint8_t *text, size_t text_len);
 uint8_t wheelotter_verdict(const uint8_t *text, size_t text_len, uint8_t model, uint8_t *out, size_t out_len);
 
 /* Whether a list of record numbers is a valid order of the trace that a text writes, under a model; or which condition fails first. Gives back
- *   1 to 8 or 17, or else WHEELOTTER_NO_MODEL   the text is turned back, or there is no such model; out stays as it was;
+ *   1 to 8, 17 or 22, or else WHEELOTTER_NO_MODEL   the text is turned back, or there is no such model; out stays as it was;
  *   WHEELOTTER_NO_ROOM                    else out has fewer than WHEELOTTER_JUDGEMENT bytes, and stays as it was;
  *   WHEELOTTER_VALID                      it is;
  *   WHEELOTTER_WRONG_LENGTH               it has not as many numbers as there are operations;
@@ -153,7 +154,7 @@ uint8_t wheelotter_steps(const uint8_t *text, size_t text_len, uint8_t model, co
 
 /* Opens a session on a text under a model, in the first WHEELOTTER_HEAD + text_len bytes of session; the rest stays. Hand on just these
  * bytes. Gives back
- *   1 to 8 or 17, or else WHEELOTTER_NO_MODEL, or else WHEELOTTER_NO_SOURCE (wheelotter_verdict tells whose)   no session is opened: where session
+ *   1 to 8, 17 or 22, or else WHEELOTTER_NO_MODEL, or else WHEELOTTER_NO_SOURCE (wheelotter_verdict tells whose)   no session is opened: where session
  *                         has WHEELOTTER_HEAD bytes, these are that of the empty text under model 1, the rest stays; else all stays;
  *   WHEELOTTER_NO_ROOM    else session is too short, and stays as it was;
  *   WHEELOTTER_DONE. */

@@ -60,6 +60,9 @@ def order(numbers):
     return ' '.join(['order'] + [str(n) for n in numbers])
 
 
+# threads 0 to 6, each with a fence: where thread 7 appears, they must
+lower = ['%d sync' % i for i in range(7)]
+
 # ---- document 01's traces, with its own answers
 
 told('empty', [], 'order')
@@ -166,7 +169,7 @@ told('records-256-waiting', ['%d %d==%d' % (i % 4, i % 16, i + 1) for i in range
 told('ring-of-8', [r for i in range(8) for r in ('%d %d:=1' % (i, i), '%d sync' % i, '%d %d==0' % (i, (i + 1) % 8))],
      'no order, circle ' + ' '.join(str(3 * i + k) for i in range(8) for k in (0, 2)) + ' by' + ' 1 4' * 8)
 # the longest line that a record can have; nobody wrote what it read
-told('longest-record', ['7 15 65535->65534'], 'no order, no source 0')
+told('longest-record', lower + ['7 15 65535->65534'], 'no order, no source 7')
 told('threads-8', ['%d %d:=1' % (i, i) for i in range(8)] + ['%d %d==1' % (i, (i + 1) % 8) for i in range(8)], order(range(16)))
 told('addresses-16', ['0 %d:=1' % i for i in range(16)] + ['1 %d==1' % i for i in range(16)], order(range(32)))
 # four pairs of store buffers, each with threads and addresses of its own. SC: the first of four circles of one length. TSO: in each pair the second
@@ -176,12 +179,16 @@ told('four-buffers', four, 'no order, circle 0 1 2 3 by 1 4 1 4', order(4 * g + 
 
 # ---- bounds
 
-told('thread-7', ['7 0:=1'], 'order 0')
+told('thread-7', lower + ['7 0:=1'], 'order 7')
 told('address-15', ['0 15:=1'], 'order 0')
 told('value-65535', ['0 0:=65535', '1 0==65535'], 'order 0 1')
 told('value-0-read', ['0 0==0', '0 0:=1'], 'order 0 1')
 refused('thread-8', '8: M[0] := 1\n', 4, 1)
 refused('fence-of-thread-8', '0: sync\n8: sync\n', 4, 2)
+# a core is lost: told where every line is good, and not where one is bad
+refused('lost-core', '0: M[0] := 1\n2: M[0] == 1\n', 22, 0)
+refused('lost-core-0', '7: M[0] := 1\n', 22, 0)
+refused('lost-core-and-a-bad-line', '1: sync\n1: syn\n', 3, 2)
 refused('address-16', '0: M[16] := 1\n', 4, 1)
 refused('value-65536', '0: M[0] := 65536\n', 4, 1)
 refused('value-read-65536', '0: M[0] == 65536\n', 4, 1)

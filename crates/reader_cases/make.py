@@ -42,6 +42,11 @@ def said(n):
     return [f'store 0 0 {i}' for i in range(1, n + 1)]
 
 
+def fences(threads):
+    """A fence of each thread: below thread 7 stand all lower ones."""
+    return b''.join(b'%d: sync\n' % t for t in threads)
+
+
 sixty = b'123456789012345678901234567890123456789012345678901234567890'
 
 # the smallest texts
@@ -105,7 +110,7 @@ refused('the-hole', b'0: M[#] := #\n', 3, 1, b'0: M[#] := #')
 refused('leading-zero-past-bound', b'08: sync\n', 3, 1, b'08: sync')
 
 # 4: thread, address and value at their bounds and one past them
-good('thread-7', b'7: sync\n', 'fence 7')
+good('thread-7', fences(range(8)), *[f'fence {t}' for t in range(8)])
 refused('thread-8', b'8: sync\n', 4, 1, b'8: sync')
 refused('thread-8-store', b'8: M[0] := 1\n', 4, 1, b'8: M[0] := 1')
 good('address-15', b'0: M[15] := 1\n', 'store 0 15 1')
@@ -242,6 +247,22 @@ refused('first-of-two', b'0: M[0] := 0\n0: syn\n', 6, 1, b'0: M[0] := 0', at=0)
 refused('second-of-three', b'0: sync\n0: M[0] := 0\n0: M[0] := 0\n', 6, 2, b'0: M[0] := 0', at=8)
 
 # document 01's first trace
+# 22: a thread appears and a lower one does not, fences too, in whatever order; only where every line is good, and init lines are of no thread
+refused('lost-0', b'1: sync\n', 22, 0)
+refused('lost-0-of-8', fences(range(1, 8)), 22, 0)
+refused('lost-6', fences([7, 5, 4, 3, 2, 1, 0]), 22, 0)
+refused('lost-1', b'0: M[0] := 1\n2: M[0] == 1\n2: M[0] := 2\n0: sync\n', 22, 0)
+refused('lost-behind-init', init(0, 1) + b'1: M[0] == 1\n', 22, 0)
+refused('lost-records-256', stores(255) + b'2: sync\n', 22, 0)
+good('not-lost-turned', b'1: sync\n0: M[0] := 1\n', 'fence 1', 'store 0 0 1')
+good('not-lost-fence', b'0: sync\n1: M[0] == 0\n', 'fence 0', 'load 1 0 0')
+refused('lost-bad-form', b'1: sync\n1: syn\n', 3, 2, b'1: syn')
+refused('lost-no-feed', b'1: sync', 3, 1, b'1: sync')
+refused('lost-bound', b'1: sync\n8: sync\n', 4, 2, b'8: sync')
+refused('lost-six', b'2: M[0] := 0\n', 6, 1, b'2: M[0] := 0')
+refused('lost-late', b'1: sync\n' + init(3, 7), 17, 2, init(3, 7)[:-1])
+refused('lost-records-257', stores(256) + b'2: sync\n', 7, 257, b'2: sync')
+
 good('store-buffers', b'0: M[0] := 1\n0: M[1] == 0\n1: M[1] := 1\n1: M[0] == 0\n',
      'store 0 0 1', 'load 0 1 0', 'store 1 1 1', 'load 1 0 0')
 

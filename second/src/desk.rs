@@ -3,7 +3,7 @@
 //! | Answer | Meaning |
 //! |---|---|
 //! | 0 | done, or nothing is wrong |
-//! | 1 to 17 | the document's numbers |
+//! | 1 to 17, 22 | the document's numbers |
 //! | 21 | no room in the lent memory, which stays as it was; whatever is wrong with the input is told before it |
 //! | 64, 65, 66 | the verdict: order, circle, none left |
 //! | 67, 68, 69 | asked: held, not held, contradicted |
@@ -289,7 +289,7 @@ pub fn head_of(session: &Session) -> [u8; HEAD] {
     head
 }
 
-/// The session that some bytes are, sound or not; None where they are no session's.
+/// The session that some bytes are, sound or not; None where they are no session's. What it keeps is its trace by value, which may skip a thread.
 pub fn taken(bytes: &[u8]) -> Option<Session> {
     let (head, text) = bytes.split_at_checked(HEAD)?;
     let contradicted = match head[CONTRADICTED_AT] {
@@ -302,7 +302,7 @@ pub fn taken(bytes: &[u8]) -> Option<Session> {
     if unused.iter().any(|pair| *pair != (0, 0)) {
         return None;
     }
-    let trace = reader::read(text).ok()?;
+    let trace = reader::read_lines(text).ok()?;
     let bits = head[TABLE_AT..].iter().enumerate().filter(|(_, byte)| **byte != 0);
     let bits = bits.flat_map(|(place, byte)| (0..8).filter(move |bit| byte >> bit & 1 == 1).map(move |bit| 8 * place + bit));
     let held = bits.map(|bit| (bit / MOST_RECORDS, bit % MOST_RECORDS)).collect();

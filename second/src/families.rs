@@ -7,6 +7,7 @@ mod firsts;
 mod knot;
 mod runs;
 mod texts;
+mod threads;
 
 pub struct Family {
     pub name: &'static str,
@@ -45,6 +46,7 @@ const ALL: &[Family] = &[
     often("edges", "one line of a good text on either side of a refusal's edge", texts::edges),
     often("numbers", "lines of the forms with numbers at and past their bounds", texts::numbers),
     often("inits", "init lines, twice or late or past a bound, and records that write what they say", texts::inits),
+    often("lost", "few records of threads by chance, with and without gaps, at times a bad line", texts::lost),
     often("ranks", "a line to which several numbers apply, often one record past the bound", texts::ranks),
     often("sizes", "lines, records and bytes at their bounds and one past", texts::sizes),
     often("damaged", "a good text with one to three bytes put in, taken out or changed", texts::damaged),

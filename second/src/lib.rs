@@ -7,7 +7,7 @@
 //! |---|---|
 //! | `bounds` | the bounds |
 //! | `trace` | what the bench records, first values, models, kept pairs, well formed |
-//! | `reader` | the line forms, numbers 1 to 8 and 17 |
+//! | `reader` | the line forms, numbers 1 to 8, 17 and 22 |
 //! | `rules` | the edges that the rules force, rounds, held, the circle shown |
 //! | `orders` | valid orders, the judge, the first order in dictionary order |
 //! | `verdict` | the verdict, numbers 9 and 10 |

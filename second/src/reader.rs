@@ -1,4 +1,4 @@
-//! Text to trace, or the number of what is wrong, its line and its part (numbers 1 to 8, and 17).
+//! Text to trace, or the number of what is wrong, its line and its part (numbers 1 to 8, 17 and 22).
 
 use crate::trace::{within_bounds, Firsts, Record, Trace, ADDRESSES, BEGINNING, LAST_ADDRESS, LAST_VALUE, MOST_RECORDS};
 
@@ -13,9 +13,24 @@ pub struct Refusal<'a> {
     pub part: &'a [u8],
 }
 
+/// What no line is to blame for.
+fn of_the_whole<'a>(number: u8) -> Refusal<'a> {
+    Refusal { number, line: 0, start: 0, part: &[] }
+}
+
+/// A text as it comes from the bench: where every line is good, no core may be missing.
 pub fn read(text: &[u8]) -> Result<Trace, Refusal<'_>> {
+    let trace = read_lines(text)?;
+    if trace.skips_a_thread() {
+        return Err(of_the_whole(22));
+    }
+    Ok(trace)
+}
+
+/// The lines alone, for traces that are not held to 22: those handed in by value.
+pub fn read_lines(text: &[u8]) -> Result<Trace, Refusal<'_>> {
     if text.len() > MOST_TEXT {
-        return Err(Refusal { number: 1, line: 0, start: 0, part: &[] });
+        return Err(of_the_whole(1));
     }
     let mut above = Above::default();
     for (count, line) in lines(text).into_iter().enumerate() {

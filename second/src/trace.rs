@@ -164,6 +164,12 @@ impl Trace {
         (0..self.count).find(|&s| s != load && self.writes_to(s, address) && self.places[s].written() == Some(value))
     }
 
+    /// A thread appears and a lower one does not: a recorder lost that core. Fences are records, and appear; who hands in a trace by value may do so.
+    pub fn skips_a_thread(&self) -> bool {
+        let appears: BTreeSet<u64> = self.records().iter().map(Record::thread).collect();
+        appears.iter().any(|&thread| (0..thread).any(|lower| !appears.contains(&lower)))
+    }
+
     pub fn well_formed(&self) -> bool {
         self.count <= MOST_RECORDS
             && self.firsts.iter().all(|&value| value <= LAST_VALUE)

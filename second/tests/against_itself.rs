@@ -3,7 +3,7 @@
 use second::families::{family, text, FAMILIES, USUAL};
 use second::lists::drawn;
 use second::orders::{first_permutation, judge, judgement, plain_search, search, First, Judgement};
-use second::reader::read;
+use second::reader::{read, read_lines, Refusal};
 use second::rules::{around, chains, circle, last_round, Edges, Pair};
 use second::session::{ask, open, suppose, take_back, Answer};
 use second::trace::{kept, text_of, Model, Record, Trace};
@@ -310,7 +310,7 @@ fn the_first_shortest_circle_of_chance_edges() {
 #[test]
 fn good_texts_can_be_written_again() {
     let (mut good, mut with_inits) = (0, 0);
-    for name in ["damaged", "edges", "numbers", "ranks", "sizes", "bytes", "inits", "tso"] {
+    for name in ["damaged", "edges", "numbers", "ranks", "sizes", "bytes", "inits", "lost", "tso"] {
         let family = family(name).expect("a family");
         for case in 0..3_000 {
             let text = text(family, 3, case);
@@ -322,7 +322,7 @@ fn good_texts_can_be_written_again() {
                     assert_eq!(plainest(&text), text_of(&trace));
                     assert_eq!(read(&text_of(&trace)), Ok(trace));
                 }
-                Err(refusal) => assert!(refusal.number == 1 || nth_line(&text, refusal.line) == Some(refusal.part)),
+                Err(refusal) => assert!([1, 22].contains(&refusal.number) || nth_line(&text, refusal.line) == Some(refusal.part)),
             }
         }
     }
@@ -345,11 +345,34 @@ fn nth_line(text: &[u8], line: usize) -> Option<&[u8]> {
 #[test]
 fn every_refusal_and_its_edge_is_drawn() {
     let mut seen = BTreeSet::new();
-    for name in ["damaged", "edges", "numbers", "ranks", "sizes", "bytes", "inits"] {
+    for name in ["damaged", "edges", "numbers", "ranks", "sizes", "bytes", "inits", "lost"] {
         let family = family(name).expect("a family");
         seen.extend((0..2_000).filter_map(|case| read(&text(family, 9, case)).err().map(|refusal| refusal.number)));
     }
-    assert_eq!(seen, (1..=8).chain([17]).collect());
+    assert_eq!(seen, (1..=8).chain([17, 22]).collect());
+}
+
+/// Turned back for a missing core is a text whose lines are all good and show some thread, but not as many different ones as the highest asks for.
+#[test]
+fn a_missing_core_is_told_by_counting() {
+    let (mut lost, mut whole) = (0, 0);
+    for family in FAMILIES.iter().filter(|family| !family.seldom) {
+        for text in (0..200).map(|case| text(family, 41, case)) {
+            let Ok(trace) = read_lines(&text) else {
+                assert_eq!(read(&text), read_lines(&text), "what is wrong with a line is told first");
+                continue;
+            };
+            let threads: BTreeSet<u64> = trace.records().iter().map(Record::thread).collect();
+            if threads.last().is_some_and(|&highest| highest as usize != threads.len() - 1) {
+                lost += 1;
+                assert_eq!(read(&text), Err(Refusal { number: 22, line: 0, start: 0, part: &[] }));
+            } else {
+                whole += 1;
+                assert_eq!(read(&text), Ok(trace));
+            }
+        }
+    }
+    assert!(lost > 150 && whole > 1_500, "{lost} lost, {whole} whole");
 }
 
 // ---- first values ----
@@ -360,7 +383,7 @@ fn what_the_first_values_are_changes_no_verdict() {
     let mut chance = second::chance::Chance::new(31);
     let mut compared = 0;
     for name in ["stated", "dense", "weak", "middle", "knot", "rounds", "tso", "sc-changed", "weaker-changed"] {
-        for trace in traces(name, 150) {
+        for trace in traces(name, 60) {
             let names: Vec<(u64, u64)> = trace.firsts.iter().map(|&first| (first, *chance.of(&[0, 1, 7, 65_535]))).collect();
             let renamed = renamed(&trace, &names);
             assert!(renamed.well_formed());
@@ -372,7 +395,7 @@ fn what_the_first_values_are_changes_no_verdict() {
             compared += usize::from(renamed.firsts != trace.firsts);
         }
     }
-    assert!(compared > 1_000, "{compared}");
+    assert!(compared > 400, "{compared}");
 }
 
 fn renamed(trace: &Trace, names: &[(u64, u64)]) -> Trace {

@@ -3,7 +3,7 @@
 use second::chance::Chance;
 use second::desk::{ask, head_of, place_of, suppose, take_back, taken, told, Page, DONE, HEAD, VERDICT};
 use second::families::{family, text, FAMILIES};
-use second::reader::{read, MOST_TEXT};
+use second::reader::{read_lines, MOST_TEXT};
 use second::session::{self, Answer, Talk};
 use second::stated::{KNOT, STATED};
 use second::trace::{MODELS, MOST_RECORDS};
@@ -50,6 +50,7 @@ fn a_verdict_in_bytes() {
         assert_eq!(verdict_in(BUFFERS, 0, room), (9, vec![], vec![], true));
         assert_eq!(verdict_in(BUFFERS, 255, room), (9, vec![], vec![], true));
         assert_eq!(verdict_in("0: syn\n", 255, room), (3, vec![], vec![], true), "a refused text is told before a bad model");
+        assert_eq!(verdict_in("1: sync\n", 255, room), (22, vec![], vec![], true));
     }
     for room in [0, 1, VERDICT - 1] {
         assert_eq!(verdict_in(BUFFERS, 1, room), (21, vec![], vec![], true), "room is asked for last");
@@ -84,6 +85,7 @@ fn where_the_bad_line_lies() {
     assert_eq!(place("init: M[3] := 7\ninit: M[15] := 0\n"), (0, 0, 0, 0));
     assert_eq!(place("init: M[3] := 7\n0: sync\ninit: M[4] := 7\n"), (17, 3, 24, 39));
     assert_eq!(place("init: M[3] := 7\n0: M[3] := 7\n"), (6, 2, 16, 28));
+    assert_eq!(place("0: sync\n2: sync\n"), (22, 0, 0, 0));
 }
 
 #[test]
@@ -199,7 +201,8 @@ fn a_session_with_first_values_in_bytes() {
 #[test]
 fn memory_and_openings() {
     let nothing: Vec<u8> = std::iter::once(1).chain(std::iter::repeat(0)).take(HEAD).collect();
-    for (text, model, answer) in [("0: syn\n", 1, 3), ("0: syn\n", 9, 3), (BUFFERS, 0, 9), ("0: M[0] == 5\n", 2, 11)] {
+    for (text, model, answer) in [("0: syn\n", 1, 3), ("0: syn\n", 9, 3), ("1: sync\n", 9, 22), (BUFFERS, 0, 9), ("0: M[0] == 5\n", 2, 11)]
+    {
         let mut lent = vec![BEFORE; HEAD + text.len() + 9];
         assert_eq!(page(text).open(model, &mut lent).0, answer);
         assert_eq!(lent[..HEAD], nothing);
@@ -263,7 +266,7 @@ fn bytes_that_are_taken_are_laid_down_the_same() {
         if let Some(session) = taken(&lent) {
             taken_apart += 1;
             assert_eq!(head_of(&session), lent[..HEAD]);
-            assert_eq!(read(&lent[HEAD..]), Ok(session.trace));
+            assert_eq!(read_lines(&lent[HEAD..]), Ok(session.trace));
         }
     }
     assert!(taken_apart > 500, "{taken_apart}");
@@ -278,7 +281,7 @@ fn a_talk_and_the_plain_functions_agree() {
         let name = *chance.of(&["dense", "weak", "stated", "middle"]);
         let text = text(family(name).expect("a family"), 5, case);
         let page = Page::new(&text, 1);
-        let trace = page.trace().expect("good");
+        let Some(trace) = page.trace() else { continue };
         let model = chance.between(1, MODELS) as u64;
         let (Ok(mut talk), Ok(mut plain)) = (Talk::open(trace, model), session::open(trace, model)) else { continue };
         let supposes = *chance.of(&[40, 90]);

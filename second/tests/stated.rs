@@ -84,7 +84,8 @@ fn the_longest_text_and_one_byte_more() {
 
 #[test]
 fn numbers_at_their_bounds() {
-    let number = |line: &str| refused(format!("{line}\n").as_bytes()).map_or(0, |refusal| refusal.0);
+    let above: String = (0..7).map(|thread| format!("{thread}: sync\n")).collect();
+    let number = |line: &str| refused(format!("{above}{line}\n").as_bytes()).map_or(0, |refusal| refusal.0);
     for (line, wanted) in [
         ("7: sync", 0),
         ("8: sync", 4),
@@ -166,6 +167,56 @@ fn init_lines_are_no_records() {
     assert_eq!(refused(format!("{full}0: sync\n").as_bytes()).map(|r| (r.0, r.1)), Some((7, past)));
     assert_eq!(refused(format!("{full}0: M[5] := 9\n").as_bytes()).map(|r| (r.0, r.1)), Some((6, past)));
     assert_eq!(refused(format!("{full}init: M[5] := 9\n").as_bytes()).map(|r| (r.0, r.1)), Some((17, past)), "not 7");
+}
+
+/// Document 02, request 8.
+#[test]
+fn threads_that_are_skipped() {
+    for (text, wanted) in [
+        ("", None),
+        ("0: sync\n", None),
+        ("1: sync\n0: sync\n", None),
+        ("1: M[0] == 0\n0: sync\n2: M[0] := 1\n", None),
+        ("init: M[1] := 1\n", None),
+        ("1: sync\n", Some((22, 0))),
+        ("7: M[0] := 1\n", Some((22, 0))),
+        ("init: M[0] := 1\n1: sync\n", Some((22, 0))),
+        ("0: sync\n2: sync\n2: sync\n0: sync\n", Some((22, 0))),
+        ("0: M[0] := 1\n1: M[0] := 2\n3: M[0] := 3\n", Some((22, 0))),
+        ("1: sync\n1: syn\n", Some((3, 2))),
+        ("1: sync\n8: sync\n", Some((4, 2))),
+        ("1: sync\n1: M[0] := 0\n", Some((6, 2))),
+        ("1: sync\ninit: M[0] := 1\n", Some((17, 2))),
+        ("1: sync\n1: sync", Some((3, 2))),
+    ] {
+        assert_eq!(refused(text.as_bytes()), wanted.map(|(number, line)| (number, line, nth(text, line))), "{text}");
+    }
+    let all: Vec<String> = (0..8).rev().map(|thread| format!("{thread}: sync\n")).collect();
+    assert_eq!(refused(all.concat().as_bytes()), None);
+    for gone in 0..8 {
+        let rest: String = all.iter().enumerate().filter(|(place, _)| *place != gone).map(|(_, line)| line.as_str()).collect();
+        assert_eq!(refused(rest.as_bytes()).map(|r| r.0), if gone == 0 { None } else { Some(22) }, "without thread {}", 7 - gone);
+    }
+    assert_eq!(told("1: sync\n"), "refused 22 line 0\n");
+    let records = format!("{}1: sync\n", "0: sync\n".repeat(MOST_RECORDS - 1));
+    assert_eq!(refused(records.as_bytes()), None);
+    assert_eq!(refused(format!("{records}3: sync\n").as_bytes()).map(|r| r.0), Some(7));
+}
+
+/// The line of that number; line 0 is the empty part.
+fn nth(text: &str, line: usize) -> Vec<u8> {
+    line.checked_sub(1).and_then(|above| text.lines().nth(above)).unwrap_or("").as_bytes().to_vec()
+}
+
+/// A trace handed in by value is not held to 22.
+#[test]
+fn by_value_a_thread_may_be_skipped() {
+    let lost = Trace::of(&[Record::Store { thread: 3, address: 0, written: 1 }, Record::Load { thread: 7, address: 0, read: 1 }]);
+    assert!(lost.well_formed() && lost.skips_a_thread());
+    assert_eq!(verdict(&lost, 1, 1), Ok(Verdict::Order(vec![0, 1])));
+    assert_eq!(judge(&lost, 1, &[0, 1]), Ok(true));
+    let session = open(&lost, 1).expect("it opens");
+    assert_eq!(ask(&session, 0, 1), Ok(Answer::Held));
 }
 
 #[test]

@@ -99,6 +99,8 @@ pub enum Answer {
     LateInit = 17,
     /// The lent memory is too short, and stays as it was.
     NoRoom = 21,
+    /// A core appears in the text, and a lower one does not.
+    LostCore = 22,
     /// The first valid order.
     Order = 64,
     /// The rules run in a circle.
@@ -137,7 +139,7 @@ pub enum Answer {
 
 /// In the order of their numbers.
 #[rustfmt::skip]
-pub(crate) const ANSWERS: [Answer; 35] = [
+pub(crate) const ANSWERS: [Answer; 36] = [
     Answer::Done,
     Answer::LongText,
     Answer::LongLine,
@@ -156,6 +158,7 @@ pub(crate) const ANSWERS: [Answer; 35] = [
     Answer::NoPair,
     Answer::LateInit,
     Answer::NoRoom,
+    Answer::LostCore,
     Answer::Order,
     Answer::Circle,
     Answer::NoneLeft,

@@ -19,8 +19,8 @@ use Rattle.rules.proofs.Circle.{shown-short}
 use Rattle.rules.proofs.Ends.{step-within}
 use Rattle.orders.specs.Verdict as said
 use Rattle.orders.proofs.Accepted.{well-fits, well-kept, valid-short}
-use Rattle.reader.specs.Read.{readText}
-use Rattle.reader.proofs.RoundTrip.{read-well}
+use Rattle.reader.specs.Whole.{readWhole}
+use Rattle.reader.proofs.Whole.{whole-well}
 use Rattle.verdict.specs.Told.{padded}
 use Rattle.desk.specs.Answers.{answerTo}
 use Rattle.desk.specs.Text.{numberOf}
@@ -101,12 +101,12 @@ heard-back said.noneLeft h = refl
 module _ (text : List ℕ) (m : ℕ) (before after : List ℕ) (r : ℕ) (h : Answered text m before after r) where
   -- the trace that the text writes
   abbrev trace : Trace
-  trace = readText text .trace
+  trace = readWhole text .trace
 
   pub verdict-says : numberOf text ≡ 0 → So (modelled m) → VERDICT ≤ length before → said.Says (frameOf trace) (keptOf m trace) (heard r (take VERDICT after))
   verdict-says z k l =
       let (v, s, e, f) = h .says z k l in
-      let fits = says-fits m trace (read-well text) v s in
+      let fits = says-fits m trace (whole-well text) v s in
       let front = ap (take VERDICT) f ∙ take-at (bytesOf v) (drop VERDICT before) VERDICT (bytes-long v fits) in
       let same : heard r (take VERDICT after) ≡ v = ap₂ heard e front ∙ heard-back v fits in
       subst (said.Says (frameOf trace) (keptOf m trace)) (sym same) s

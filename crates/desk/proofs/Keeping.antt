@@ -37,7 +37,7 @@ use Rattle.session.proofs.Pairs.{stands-iff}
 use Rattle.session.proofs.Sessions.{intact-stands}
 use Rattle.session.proofs.Answering.{afresh-done, afresh-allows}
 use Rattle.session.proofs.Lasting.{made-intact}
-use Rattle.desk.specs.Text.{numberOf}
+use Rattle.desk.specs.Text.{linesOf}
 use Rattle.desk.specs.Head.{BYTE, FRONT, TABLE, HEAD, numberAt, frontAt, tableAt, headOf}
 use Rattle.desk.specs.Kept.{textIn, twoIn, pairIn, stackIn, madeIn, sessionIn, like, keptOf}
 use Rattle.desk.specs.declared.sessions.Lent.{Lent}
@@ -55,7 +55,7 @@ module _ (C : Closings) (b : List ℕ) where
   -- the parts of the test
   pub record Parts : Type 0 where
     pub long : HEAD ≤ length b
-    pub good : numberOf (textIn b) ≡ 0
+    pub good : linesOf (textIn b) ≡ 0
     pub done : So (isDone (madeIn C b .answer))
     pub head : headOf (sessionIn C b) ≡ take HEAD b
 
@@ -82,7 +82,7 @@ module _ (C : Closings) (b : List ℕ) where
   pub unlike-short : length b < HEAD → like C b ≡ false
   unlike-short h = off (λ l. let g = like-parts .0 l .long in omega arith)
 
-  pub unlike-text : numberOf (textIn b) ≢ 0 → like C b ≡ false
+  pub unlike-text : linesOf (textIn b) ≢ 0 → like C b ≡ false
   unlike-text d = off (λ l. d (like-parts .0 l .good))
 
   pub unlike-made : isDone (madeIn C b .answer) ≡ false → like C b ≡ false
@@ -105,7 +105,7 @@ module _ (C : Closings) (b : List ℕ) where
 -- an intact session on the trace of a good text
 pub record On (C : Closings) (s : Session) (text : List ℕ) : Type 0 where
   pub intact : Intact C s
-  pub good : numberOf text ≡ 0
+  pub good : linesOf text ≡ 0
   pub trace : s .trace ≡ readText text .trace
 
 module _ (s : Session) (text : List ℕ) where
@@ -179,7 +179,7 @@ module _ (s : Session) (text : List ℕ) where
     pub like-again : So (like C whole)
     like-again = like-parts C whole .1 (record {
       long = omega (arith, length-append (headOf s) text, head-long s);
-      good = ap numberOf text-again ∙ o .good;
+      good = ap linesOf text-again ∙ o .good;
       done = ap (λ (r : Reply). isDone (r .answer)) made-again;
       head = ap headOf session-again ∙ sym (take-at (headOf s) text HEAD (head-long s));
     })

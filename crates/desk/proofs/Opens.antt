@@ -22,10 +22,12 @@ use Rattle.text.specs.Room.{putAt}
 use Rattle.text.proofs.Put.{put-paste}
 use Rattle.trace.specs.declared.Trace.{Trace}
 use Rattle.reader.specs.Read.{readText}
+use Rattle.reader.specs.Whole.{readWhole}
 use Rattle.reader.specs.declared.Reason.the-variants.{LongText, LongLine, NoForm, PastBound, Addresses, FirstValue, TooMany, Twice, Late}
 use Rattle.reader.specs.declared.Answer as told
+use Rattle.reader.specs.declared.Reading.{Reading}
 use Rattle.reader.specs.declared.Answer.the-variants as turned
-use Rattle.reader.proofs.RoundTrip.{read-well}
+use Rattle.reader.proofs.Whole.{whole-same, whole-well}
 use Rattle.pairs.specs.Kept.{modelled}
 use Rattle.orders.specs.MissingOf.{missingOf}
 use Rattle.orders.specs.declared.sources.Found.{Found}
@@ -54,7 +56,7 @@ use Rattle.desk.proofs.Acting.{bytes-after, done-code}
 module _ (text : List ℕ) (m : ℕ) where
   -- the trace that the text writes
   abbrev trace : Trace
-  trace = readText text .trace
+  trace = readWhole text .trace
 
   module _ (g : numberOf text ≡ 0) where
     pub good-number : openNumber text m ≡ codeOf (openingOf trace m)
@@ -84,7 +86,7 @@ module _ (text : List ℕ) (m : ℕ) where
   pub never-ten : openNumber text m ≢ 10
   never-ten z = elim (eq? (numberOf text) 0) [
     | inl g ↦ good-ten (sym (good-number g) ∙ z)
-    | inr d ↦ bad-ten (readText text .answer) (sym (bad-number d) ∙ z)
+    | inr d ↦ bad-ten (readWhole text .answer) (sym (bad-number d) ∙ z)
   ]
     where
       source-ten : (a : Found) → codeOf (sourcedOf a) ≡ 10 → ⊥
@@ -93,7 +95,7 @@ module _ (text : List ℕ) (m : ℕ) where
 
       good-ten : codeOf (openingOf trace m) ≡ 10 → ⊥
       good-ten e = elim (test (modelled m)) [
-        | inl h ↦ source-ten (missingOf trace) (sym (ap codeOf (opening-asks trace m h (read-well text))) ∙ e)
+        | inl h ↦ source-ten (missingOf trace) (sym (ap codeOf (opening-asks trace m h (whole-well text))) ∙ e)
         | inr n ↦ let q : codeOf (Refused NoModel) ≡ 10 = sym (ap codeOf (opening-nine trace m n)) ∙ e in omega arith
       ]
 
@@ -108,6 +110,7 @@ module _ (text : List ℕ) (m : ℕ) where
       bad-ten (turned.Refused TooMany n) e = omega arith
       bad-ten (turned.Refused Twice n) e = omega arith
       bad-ten (turned.Refused Late n) e = omega arith
+      bad-ten turned.Lost e = omega arith
 
   module _ (b : List ℕ) where
     module _ (z : openNumber text m ≡ 0) where
@@ -178,10 +181,18 @@ module _ (text : List ℕ) (m : ℕ) where
           (ap₂ (λ (s : Session) (r : List ℕ). headOf s ++ (text ++ r)) (good-session g C) (drop-of-length-le b {i = HEAD + length text} (omega arith))
           ∙ ap (λ (r : List ℕ). headOf (openOf C trace m .session) ++ r) (append-nil text))
 
+      -- no core is lost, so the text is read as its lines are
+      plain : readWhole text ≡ readText text
+      plain = whole-same text (λ q. let n : numberIn (readWhole text .answer) ≡ numberIn turned.Lost = ap numberIn q in omega arith)
+
       -- the opened session stands on the text
       on : On C (openOf C trace m .session) text
       unfolding afresh
-      on = record { intact = opened-intact C trace m; good = g; trace = ap (λ (s : Session). s .trace) (opened C trace m o) }
+      on = record {
+        intact = opened-intact C trace m;
+        good = ap (λ (r : Reading). numberIn (r .answer)) (sym plain) ∙ g;
+        trace = ap (λ (s : Session). s .trace) (opened C trace m o) ∙ ap (λ (r : Reading). r .trace) plain;
+      }
 
       run : (cs : List Act) → bytesAfter C (openBytes C text m b) cs ≡ headOf (after C (openOf C trace m .session) cs) ++ text
       run cs = ap (λ (x : List ℕ). bytesAfter C x cs) opened-bytes ∙ bytes-after C cs (openOf C trace m .session) text on

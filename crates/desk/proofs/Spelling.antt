@@ -23,8 +23,8 @@ use Rattle.trace.specs.declared.Trace.{Trace}
 use Rattle.trace.proofs.Meaning.{reads-iff}
 use Rattle.text.specs.Room.{putAt}
 use Rattle.text.proofs.Put.{put-front, put-then}
-use Rattle.reader.specs.Read.{readText}
-use Rattle.reader.proofs.RoundTrip.{read-well}
+use Rattle.reader.specs.Whole.{readWhole}
+use Rattle.reader.proofs.Whole.{whole-well}
 use Rattle.pairs.specs.Kept.{modelled, keptOf}
 use Rattle.trace.specs.Meaning.{frameOf}
 use Rattle.orders.specs.Verdict as said
@@ -110,10 +110,10 @@ module _ (os rs : List ℕ) (n : ℕ) (long : length os ≡ RECORDS) (long′ : 
       ∙ put-front (wide (n ∷ os) ++ rs) before (omega arith)
       ∙ ap (λ (k : ℕ). (wide (n ∷ os) ++ rs) ++ drop k before) all
 
-pub told-good : (text : List ℕ) (m : ℕ) (before : List ℕ) → numberOf text ≡ 0 → So (modelled m) → VERDICT ≤ length before → (r : Verdict) → Told (readText text .trace) m r
+pub told-good : (text : List ℕ) (m : ℕ) (before : List ℕ) → numberOf text ≡ 0 → So (modelled m) → VERDICT ≤ length before → (r : Verdict) → Told (readWhole text .trace) m r
     → Answered text m before (laidOut (spelled r) ++ drop VERDICT before) (outcomeNumber (r .outcome))
 told-good text m before z k h r t =
-    let (v, s, e) = t .says k (read-well text) in
+    let (v, s, e) = t .says k (whole-well text) in
     ranked-says text m VERDICT _ before z k h _ _ (
       v,
       s,
@@ -125,7 +125,7 @@ pub answered-one : (text : List ℕ) (m : ℕ) (before a b : List ℕ) (r s : �
 answered-one text m before = ranked-one text m VERDICT _ before (λ r s a b p q. one p q)
   where
     t : Trace
-    t = readText text .trace
+    t = readWhole text .trace
 
     one : {r s : ℕ} {a b : List ℕ} → (v : said.Verdict) × said.Says (frameOf t) (keptOf m t) v × (r ≡ answerTo v) × (a ≡ bytesOf v ++ drop VERDICT before)
         → (v : said.Verdict) × said.Says (frameOf t) (keptOf m t) v × (s ≡ answerTo v) × (b ≡ bytesOf v ++ drop VERDICT before) → (r ≡ s) × (a ≡ b)

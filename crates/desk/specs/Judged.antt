@@ -10,7 +10,7 @@ use mathlib.Core.Path.{_≡_}
 use mathlib.Core.List.{List, [], _∷_, _++_}
 use Prim.Native.Nat.{ℕ}
 use lib.ListN.{drop}
-use Rattle.reader.specs.Read.{readText}
+use Rattle.reader.specs.Whole.{readWhole}
 use Rattle.orders.specs.Judged.{judgedOf}
 use Rattle.orders.specs.declared.judging.Judgement.{Judgement}
 use Rattle.orders.specs.declared.judging.Judgement.the-variants.{Yes, NoModel, NotWellFormed, WrongLength, BadNumber, Repeat, OutOfTurn, WrongValue}
@@ -53,5 +53,5 @@ second (WrongValue L) = 0
 
 abbrev pub Judged : List ℕ → ℕ → List ℕ → List ℕ → List ℕ → ℕ → Type 0
 Judged text m xs before after r =
-    let j = judgedOf (readText text .trace) m xs in
+    let j = judgedOf (readWhole text .trace) m xs in
     Ranked text m JUDGEMENT (λ r after. (r ≡ judgementNumber j) × (after ≡ wide (concerns j ∷ second j ∷ []) ++ drop JUDGEMENT before)) before after r

@@ -26,7 +26,7 @@ use Rattle.session.specs.declared.Stack.{Stack}
 use Rattle.session.specs.declared.Session.{Session}
 use Rattle.session.specs.declared.Reply.{Reply}
 use Rattle.desk.specs.declared.sessions.Lent.{Lent}
-use Rattle.desk.specs.Text.{numberOf}
+use Rattle.desk.specs.Text.{linesOf}
 use Rattle.desk.specs.Head.{BYTE, HEAD, headOf}
 
 abbrev pub textIn : List ℕ → List ℕ
@@ -50,7 +50,7 @@ sessionIn C b = madeIn C b .session
 unfoldable pub like : Closings → List ℕ → Bool
 like C b =
     leb HEAD (length b)
-    && eqb (numberOf (textIn b)) 0
+    && eqb (linesOf (textIn b)) 0
     && isDone (madeIn C b .answer)
     && alike (headOf (sessionIn C b)) (take HEAD b)
 

@@ -10,7 +10,7 @@ use mathlib.Core.List.{List, _++_}
 use Prim.Native.Nat.{ℕ, _+_}
 use lib.Dec.{eqb, leb}
 use lib.ListN.{length, drop}
-use Rattle.reader.specs.Read.{readText}
+use Rattle.reader.specs.Whole.{readWhole}
 use Rattle.session.specs.Opening.{openingOf}
 use Rattle.session.specs.Closings.{Closings}
 use Rattle.session.specs.Session.{blank}
@@ -25,10 +25,10 @@ abbrev pub roomy : List ℕ → List ℕ → Bool
 roomy text b = leb (HEAD + length text) (length b)
 
 unfoldable pub openNumber : List ℕ → ℕ → ℕ
-openNumber text m = cond (eqb (numberOf text) 0) (codeOf (openingOf (readText text .trace) m)) (numberOf text)
+openNumber text m = cond (eqb (numberOf text) 0) (codeOf (openingOf (readWhole text .trace) m)) (numberOf text)
 
 unfoldable pub openSession : Closings → List ℕ → ℕ → Session
-openSession C text m = cond (eqb (numberOf text) 0) (openOf C (readText text .trace) m .session) (blank C)
+openSession C text m = cond (eqb (numberOf text) 0) (openOf C (readWhole text .trace) m .session) (blank C)
 
 unfoldable pub openAnswer : List ℕ → ℕ → List ℕ → ℕ
 openAnswer text m b = cond (eqb (openNumber text m) 0) (cond (roomy text b) 0 NO-ROOM) (openNumber text m)

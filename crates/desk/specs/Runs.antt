@@ -15,7 +15,7 @@ use mathlib.Core.Bool.{Bool, true, false, cond}
 use mathlib.Core.List.{List, [], _∷_, _++_}
 use Prim.Native.Nat.{ℕ, _+_}
 use lib.ListN.{drop}
-use Rattle.reader.specs.Read.{readText}
+use Rattle.reader.specs.Whole.{readWhole}
 use Rattle.machine.specs.Machine.{machined, answer, refusedBy, placeOf}
 use Rattle.machine.specs.Replay.{STEPS, stepsOf}
 use Rattle.machine.specs.declared.Ran.{Ran}
@@ -57,10 +57,10 @@ hosted m = cond (machined m) m 0
 
 abbrev pub Run : List ℕ → ℕ → List ℕ → List ℕ → List ℕ → ℕ → Type 0
 Run text m ss before after r =
-    let a = answer (readText text .trace) m ss in
+    let a = answer (readWhole text .trace) m ss in
     Ranked text (hosted m) PLACE (λ r after. (r ≡ ranNumber a) × (after ≡ wide (placeOf a ∷ []) ++ drop PLACE before)) before after r
 
 abbrev pub Replayed : List ℕ → ℕ → List ℕ → List ℕ → List ℕ → ℕ → Type 0
 Replayed text m xs before after r =
-    let s = stepsOf (readText text .trace) m xs in
+    let s = stepsOf (readWhole text .trace) m xs in
     Ranked text (hosted m) REPLAY (λ r after. (r ≡ givenNumber (s .given)) × (after ≡ spread s ++ drop REPLAY before)) before after r

@@ -14,7 +14,7 @@ use lib.ListN.{length, drop}
 use Rattle.trace.specs.Bounds.{RECORDS}
 use Rattle.trace.specs.Meaning.{frameOf}
 use Rattle.pairs.specs.Kept.{keptOf}
-use Rattle.reader.specs.Read.{readText}
+use Rattle.reader.specs.Whole.{readWhole}
 use Rattle.orders.specs.Verdict as said
 use Rattle.verdict.specs.Told.{padded}
 use Rattle.desk.specs.Answers.{answerTo}
@@ -44,5 +44,5 @@ bytesOf v = wide (length (operationsOf v) ∷ padded (operationsOf v)) ++ padded
 
 abbrev pub Answered : List ℕ → ℕ → List ℕ → List ℕ → ℕ → Type 0
 Answered text m before after r =
-    let t = readText text .trace in
+    let t = readWhole text .trace in
     Ranked text m VERDICT (λ r after. (v : said.Verdict) × said.Says (frameOf t) (keptOf m t) v × (r ≡ answerTo v) × (after ≡ bytesOf v ++ drop VERDICT before)) before after r

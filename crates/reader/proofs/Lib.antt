@@ -9,4 +9,5 @@ pub mod Part
 pub mod Cases
 pub mod Inits
 pub mod RoundTrip
+pub mod Whole
 pub mod One

@@ -28,6 +28,8 @@ use Rattle.reader.proofs.read.Reads as read
 use Rattle.reader.proofs.read.Kinds as read-kinds
 use Rattle.reader.proofs.bad_place.Reads as bad-place
 use Rattle.reader.proofs.bad_place.Kinds as bad-place-kinds
+use Rattle.reader.proofs.read_whole.Reads as read-whole
+use Rattle.reader.proofs.read_whole.Kinds as read-whole-kinds
 use Rattle.reader.proofs.bad_line.Reads as bad-line
 use Rattle.reader.proofs.bad_line.Kinds as bad-line-kinds
 
@@ -63,6 +65,9 @@ read-settles κs a x y s t p q = p ∙ sym q
 
 pub bad-place-settles : Settles 1 bad-place-kinds.ps bad-place-kinds.r bad-place.Post
 bad-place-settles κs a x y s t p q = p ∙ sym q
+
+pub read-whole-settles : Settles 1 read-whole-kinds.ps read-whole-kinds.r read-whole.Post
+read-whole-settles κs a x y s t p q = p ∙ sym q
 
 pub bad-line-shows : Shows 1 bad-line-kinds.ps bad-line-kinds.r (λ κs x. laid x) bad-line.Post
 bad-line-shows κs a x y s t p q = part-one (a .0) p q

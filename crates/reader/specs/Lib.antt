@@ -1,4 +1,4 @@
--- What a text says. Form and Behind have the notation; Answer, Read, Part and Cases what comes back for any text whatever; TextOf which texts are a trace's.
+-- What a text says. Form and Behind have the notation; Answer, Read, Part, Cases and Whole what comes back for any text whatever; TextOf which texts are a trace's.
 pub mod Bounds
 pub mod Form
 pub mod Behind
@@ -7,3 +7,4 @@ pub mod Read
 pub mod Part
 pub mod Cases
 pub mod TextOf
+pub mod Whole

@@ -15,12 +15,13 @@ use lib.Dec.{eqb}
 use Rattle.text.specs.Lines.{endAt, nextAt}
 use Rattle.reader.specs.Read.{readText}
 use Rattle.reader.specs.declared.Answer.{Answer}
-use Rattle.reader.specs.declared.Answer.the-variants.{Good, Refused}
+use Rattle.reader.specs.declared.Answer.the-variants.{Good, Refused, Lost}
 use Rattle.reader.specs.declared.Place.{Place}
 
 abbrev pub lineIn : Answer → ℕ
 lineIn Good = 0
 lineIn (Refused reason line) = line
+lineIn Lost = 0
 
 abbrev pub lineOf : List ℕ → ℕ
 lineOf text = lineIn (readText text .answer)

@@ -7,6 +7,7 @@ ghost use Rattle.text.specs.Lines.{lines};
 ghost use Rattle.text.specs.Part.{PartOf};
 ghost use Rattle.reader.specs.Read.{none, readLines, readInits, readText};
 ghost use Rattle.reader.specs.Part.{lineIn, lineStart, lineEnd, startOf, endOf, placeOf};
+ghost use Rattle.reader.specs.Whole.{readWhole};
 
 pub mod forms;
 pub mod turns;
@@ -17,6 +18,7 @@ use trace::Op;
 use trace::RECORDS;
 use trace::Record;
 use trace::Trace;
+use trace::cores::lost;
 use trace::empty;
 use turns::begin;
 use turns::turned;
@@ -25,6 +27,9 @@ use turns::turned;
 const TEXT: usize = 32768;
 
 const LINE: usize = 80;
+
+// Document 02's number of a lost core; specs/Whole.antt has the same.
+pub const LOST: u8 = 22;
 
 // A line of one of the four forms, its numbers not yet held to their bounds.
 pub enum Raw {
@@ -81,10 +86,11 @@ pub enum Turn {
     Refused(Reason),
 }
 
-// What a text gets: lines are counted from 1, and number 1 comes with line 0.
+// What a text gets: lines are counted from 1, and number 1 comes with line 0. Only `read_whole` says that a core is lost, number 22.
 pub enum Answer {
     Good,
     Refused { reason: Reason, line: usize },
+    Lost,
 }
 
 // The answer, and the trace; beside a refusal the empty one.
@@ -216,4 +222,24 @@ pub fn bad_line<'a>(text: &'a [u8]) -> &'a [u8]
     let start = place.start;
     let end = place.end;
     &text[start..end]
+}
+
+// The same as `read`, but where every line is good no core may be lost.
+pub fn read_whole(text: &[u8]) -> Reading
+    ensures { λ r. ⌜ r ≡ readWhole (now (text .entry)) ⌝ }
+{
+    let reading = read(text);
+    let answer = reading.answer;
+    match answer {
+        Answer::Good => {
+            if lost(reading.trace) {
+                let answer = Answer::Lost;
+                let trace = empty();
+                return Reading { answer, trace };
+            }
+            reading
+        }
+        Answer::Refused { .. } => reading,
+        Answer::Lost => reading,
+    }
 }

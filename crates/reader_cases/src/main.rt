@@ -116,7 +116,7 @@ fn say_records(t: Trace) {
 }
 
 fn answer(text: &[u8]) {
-    let r = reader::read(text);
+    let r = reader::read_whole(text);
     let a = r.answer;
     match a {
         Answer::Good => {
@@ -127,6 +127,10 @@ fn answer(text: &[u8]) {
         Answer::Refused { reason, line } => {
             say_number(b": refused ", wide8(reader::turns::number(reason)));
             say_number(b" line ", long(line));
+        }
+        Answer::Lost => {
+            say_number(b": refused ", wide8(reader::LOST));
+            say(b" line 0");
         }
     }
     say_place(reader::bad_place(text));

@@ -121,11 +121,12 @@ fn say_models(t: Trace, report: &[u8]) -> bool {
 fn answered(text: &[u8]) -> bool {
     let mut out = [0u8; report::REPORT];
     let n = report::report(text, &mut out);
-    let reading = reader::read(text);
+    let reading = reader::read_whole(text);
     let answer = reading.answer;
     match answer {
         Answer::Good => say_models(reading.trace, &out),
         Answer::Refused { reason: _, line: _ } => say_part(&out, 0, n),
+        Answer::Lost => say_part(&out, 0, n),
     }
 }
 

@@ -1,7 +1,7 @@
 -- The answer as a whole.
 --
 --   listed-none, listed-more       == the lines of no model, and of one model more
---   answer-good, answer-refused    == the lines of all models, or the line of a refusal, are the output for the text
+--   answer-good, answer-refused, answer-lost == the lines of all models, or the line of a refusal, are the output for the text
 --   answer-says                    == a text that is read is answered: no line of it says `refused`
 --   prints-one                     == no second output
 --   reported-put                   == what comes of an answer that was written elsewhere and put into a buffer: it fits, or nothing is written
@@ -19,12 +19,12 @@ use Rattle.orders.specs.Verdict as said
 use Rattle.text.specs.Room.{putAt, behind}
 use Rattle.text.proofs.Put.{put-front, put-none, behind-room, behind-none}
 use Rattle.reader.specs.Answer.{numberOf}
-use Rattle.reader.specs.Read.{readText}
+use Rattle.reader.specs.Whole.{LOST, readWhole}
 use Rattle.reader.specs.declared.Answer.{Answer}
-use Rattle.reader.specs.declared.Answer.the-variants.{Good, Refused}
+use Rattle.reader.specs.declared.Answer.the-variants.{Good, Refused, Lost}
 use Rattle.reader.specs.declared.Reading.{Reading}
 use Rattle.reader.specs.declared.Reason.{Reason}
-use Rattle.reader.proofs.RoundTrip.{read-well}
+use Rattle.reader.proofs.Whole.{whole-well}
 use Rattle.verdict.specs.Told.{laid, Told}
 use Rattle.verdict.proofs.One.{told-one}
 use Rattle.verdict.specs.declared.Verdict.{Verdict}
@@ -47,7 +47,7 @@ module _ (t : Trace) (before : List ℕ) where
     within = omega (arith, l .within);
   }
 
-module _ (text : List ℕ) (r : Reading) (e : r ≡ readText text) where
+module _ (text : List ℕ) (r : Reading) (e : r ≡ readWhole text) where
   whole : (a : Answer) → r .answer ≡ a → (out : List ℕ) → Answers a (r .trace) out → Prints text out
   whole a q out p = subst (λ (r : Reading). Answers (r .answer) (r .trace) out) e (subst (λ (a : Answer). Answers a (r .trace) out) (sym q) p)
 
@@ -57,8 +57,11 @@ module _ (text : List ℕ) (r : Reading) (e : r ≡ readText text) where
   pub answer-refused : (reason : Reason) (n line : ℕ) → r .answer ≡ Refused reason line → n ≡ numberOf reason → Prints text (refusalOf n line)
   answer-refused reason n line q p = whole (Refused reason line) q (refusalOf n line) (ap (λ (n : ℕ). refusalOf n line) p)
 
-pub answer-says : (text : List ℕ) (m : ℕ) → So (modelled m) → let t = readText text .trace in (r : Verdict) → Told t m r → (v : said.Verdict) × said.Says (frameOf t) (keptOf m t) v × (r ≡ laid v)
-answer-says text m k r h = h .says k (read-well text)
+  pub answer-lost : (n : ℕ) → r .answer ≡ Lost → n ≡ LOST → Prints text (refusalOf n 0)
+  answer-lost n q p = whole Lost q (refusalOf n 0) (ap (λ (n : ℕ). refusalOf n 0) p)
+
+pub answer-says : (text : List ℕ) (m : ℕ) → So (modelled m) → let t = readWhole text .trace in (r : Verdict) → Told t m r → (v : said.Verdict) × said.Says (frameOf t) (keptOf m t) v × (r ≡ laid v)
+answer-says text m k r h = h .says k (whole-well text)
 
 -- no second output
 lines-one : (t : Trace) (m : ℕ) (x y : List ℕ) → Lines t m x → Lines t m y → x ≡ y
@@ -69,9 +72,10 @@ lines-one t (suc m) x y (b, v, p, q, e) (c, w, r, s, f) =
 answers-one : (a : Answer) (t : Trace) (x y : List ℕ) → Answers a t x → Answers a t y → x ≡ y
 answers-one Good t x y p q = lines-one t MODELS x y p q
 answers-one (Refused reason line) t x y e f = e ∙ sym f
+answers-one Lost t x y e f = e ∙ sym f
 
 pub prints-one : (text x y : List ℕ) → Prints text x → Prints text y → x ≡ y
-prints-one text x y = answers-one (readText text .answer) (readText text .trace) x y
+prints-one text x y = answers-one (readWhole text .answer) (readWhole text .trace) x y
 
 module _ (text before blank buffer : List ℕ) (n : ℕ) (w : Written text blank buffer n) where
   pub reported-put : (after : List ℕ) (r : ℕ) → r ≡ behind (take n buffer) before 0 → after ≡ putAt (take n buffer) before 0 → Reported text before after r

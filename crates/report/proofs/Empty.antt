@@ -6,8 +6,11 @@ use mathlib.Core.List.{List, [], _∷_, _++_, List·Memᴰ, List·Memᴰ·head}
 use Prim.Native.Nat.{ℕ, zero, suc, _+_, _<_, _≤_}
 use native.Mathlib.Omega.{arith}
 use lib.ListN.{getD}
+use Rattle.laws.specs.Tests.{any, all}
 use Rattle.text.specs.Lines.{lines}
+use Rattle.trace.specs.Cores.{shows, allShow, lost}
 use Rattle.reader.specs.Read.{readInits, readText}
+use Rattle.reader.specs.Whole.{readWhole}
 use Rattle.reader.specs.declared.Answer.the-variants.{Good}
 use Rattle.reader.specs.declared.Reading.{Reading}
 use Rattle.pairs.specs.Kept.{SC, MODELS}
@@ -27,8 +30,8 @@ unfolding cases
 listed = List·Memᴰ·head refl
 
 -- the empty text is good, and its trace has no records
-read-empty : readText [] ≡ record { answer = Good; trace = traceOf [] }
-unfolding readText readInits lines traceOf places
+read-empty : readWhole [] ≡ record { answer = Good; trace = traceOf [] }
+unfolding readWhole readText readInits lines traceOf places lost allShow shows any all
 read-empty = refl
 
 -- its verdict is the same under every model

@@ -17,9 +17,9 @@ use Rattle.trace.specs.declared.Trace.{Trace}
 use Rattle.text.specs.Bounds.{FEED}
 use Rattle.text.specs.Number.{decimal}
 use Rattle.reader.specs.Answer.{numberOf}
-use Rattle.reader.specs.Read.{readText}
+use Rattle.reader.specs.Whole.{LOST, readWhole}
 use Rattle.reader.specs.declared.Answer.{Answer}
-use Rattle.reader.specs.declared.Answer.the-variants.{Good, Refused}
+use Rattle.reader.specs.declared.Answer.the-variants.{Good, Refused, Lost}
 use Rattle.pairs.specs.Kept.{MODELS}
 use Rattle.verdict.specs.Told.{refusedBy, Told}
 use Rattle.verdict.specs.declared.Outcome.{Outcome}
@@ -59,6 +59,7 @@ Lines t (suc m) out = (before : List ℕ) × (v : Verdict) × Lines t m before �
 abbrev pub Answers : Answer → Trace → List ℕ → Type 0
 Answers Good t out = Lines t MODELS out
 Answers (Refused reason line) t out = out ≡ refusalOf (numberOf reason) line
+Answers Lost t out = out ≡ refusalOf LOST 0
 
 abbrev pub Prints : List ℕ → List ℕ → Type 0
-Prints text out = Answers (readText text .answer) (readText text .trace) out
+Prints text out = Answers (readWhole text .answer) (readWhole text .trace) out

@@ -13,7 +13,8 @@ use lines::put_refusal;
 use pairs::MODELS;
 use pieces::wide;
 use reader::Answer;
-use reader::read;
+use reader::LOST;
+use reader::read_whole;
 use reader::turns::number;
 use text::room::put;
 use trace::RECORDS;
@@ -45,11 +46,12 @@ fn written(text: &[u8], out: &mut [u8]) -> usize
     requires { ⌜ length (now out) ≡ REPORT ⌝ }
     ensures { λ r. ⌜ Written (now (text .entry)) (now (out .entry)) (now (out .exit)) r ⌝ }
 {
-    let reading = read(text);
+    let reading = read_whole(text);
     let answer = reading.answer;
     match answer {
         Answer::Good => put_models(reading.trace, out),
         Answer::Refused { reason, line } => put_refusal(wide(number(reason)), line, out, 0),
+        Answer::Lost => put_refusal(wide(LOST), 0, out, 0),
     }
 }
 

@@ -5,4 +5,5 @@ pub mod Meaning
 pub mod Good
 pub mod Growth
 pub mod Faults
+pub mod Lost
 pub mod One

@@ -25,6 +25,8 @@ use Rattle.trace.proofs.started.Reads as started
 use Rattle.trace.proofs.started.Kinds as started-kinds
 use Rattle.trace.proofs.pushed.Reads as pushed
 use Rattle.trace.proofs.pushed.Kinds as pushed-kinds
+use Rattle.trace.proofs.cores.lost.Reads as lost
+use Rattle.trace.proofs.cores.lost.Kinds as lost-kinds
 use Rattle.trace.proofs.form.written_before.Reads as written-before
 use Rattle.trace.proofs.form.written_before.Kinds as written-before-kinds
 use Rattle.trace.proofs.form.bounded.Reads as bounded
@@ -88,3 +90,6 @@ well-formed-settles κs a x y s t p q = p ∙ sym q
 
 pub fault-of-settles : Settles 0 fault-of-kinds.ps fault-of-kinds.r fault-of.Post
 fault-of-settles κs a x y s t p q = p ∙ sym q
+
+pub lost-settles : Settles 0 lost-kinds.ps lost-kinds.r lost.Post
+lost-settles κs a x y s t p q = p ∙ sym q

@@ -1,10 +1,11 @@
--- What a trace is, and what it means. Bounds, Op, Trace, WellFormed, Form and Fault have its form; Frame, Order and Meaning have what it says.
+-- What a trace is, and what it means. Bounds, Op, Trace, WellFormed, Form, Fault and Cores have its form; Frame, Order and Meaning have what it says.
 pub mod Bounds
 pub mod Op
 pub mod Trace
 pub mod WellFormed
 pub mod Form
 pub mod Fault
+pub mod Cores
 pub mod Frame
 pub mod Order
 pub mod Meaning

@@ -20,7 +20,7 @@ struct Faulty(&'static str);
 
 const RIGHT: &str = "none";
 
-const FAULTS: [&str; 74] = [
+const FAULTS: [&str; 77] = [
     "report: a letter too far",
     "report: short memory written",
     "report: length of one line",
@@ -29,7 +29,9 @@ const FAULTS: [&str; 74] = [
     "number: 17 told as 8",
     "number: 17 before 4",
     "number: an init of 0 is none",
+    "number: any threads",
     "line: counted from 0",
+    "line: a missing core is the last line's",
     "line: init lines are not counted",
     "start: the text's own",
     "start: an empty line has none",
@@ -95,6 +97,7 @@ const FAULTS: [&str; 74] = [
     "session: the table by bytes",
     "session: pairs in order only",
     "session: the text is not looked at",
+    "session: no core may be missing",
 ];
 
 impl Faulty {
@@ -133,6 +136,9 @@ impl Faulty {
         if self.is("session: the text is not looked at") {
             let end = seen.iter().rposition(|&byte| byte == b'\n').map_or(HEAD, |place| (place + 1).max(HEAD));
             seen.truncate(end);
+        }
+        if self.is("session: no core may be missing") && desk::taken(&seen)?.trace.skips_a_thread() {
+            return None;
         }
         if self.is("session: any table") {
             let made = made_anew(&seen)?;
@@ -184,15 +190,19 @@ impl Desk for Faulty {
             4 if self.is("number: any number past a bound is 3") => 3,
             17 if self.is("number: 17 told as 8") => 8,
             4 if self.is("number: 17 before 4") && line.starts_with(b"init") && init_lines(text) + 1 < page.line() => 17,
+            22 if self.is("number: any threads") => DONE,
             17 if self.is("number: an init of 0 is none") && line.ends_with(b" 0") => DONE,
             number => number,
         }
     }
 
     fn line(&self, text: &[u8]) -> usize {
-        let line = self.page(text).line();
+        let page = self.page(text);
+        let line = page.line();
         if self.is("line: counted from 0") {
             line.saturating_sub(1)
+        } else if self.is("line: a missing core is the last line's") && page.number() == 22 {
+            text.split(|&byte| byte == b'\n').count() - 1
         } else if self.is("line: init lines are not counted") {
             line.saturating_sub(init_lines(text))
         } else {

@@ -5,7 +5,7 @@
 //! For holding the parts of the proved program against this one, where its whole output would not show a difference.
 
 use second::bench::standard_input;
-use second::reader::read;
+use second::reader::{read, read_lines};
 use second::rules::{circle, last_round};
 use second::script::{answers, told_pairs};
 use second::trace::{Model, Record, Trace};
@@ -78,8 +78,8 @@ fn forced(trace: &Trace, model: Model) -> String {
     }
 }
 
-/// None where the words are not of the form or the text is refused.
+/// None where the words are not of the form or a line of the text is refused.
 fn told_session(model: &str, script: &[&str]) -> Option<String> {
-    let trace = read(&standard_input().ok()?).ok()?;
+    let trace = read_lines(&standard_input().ok()?).ok()?;
     answers(&trace, model.parse().ok()?, script)
 }

@@ -7,7 +7,7 @@
 use second::bench;
 use second::chance::Chance;
 use second::families::{family, text, Family, FAMILIES};
-use second::reader::read;
+use second::reader::read_lines;
 use second::script::{answers, drawn};
 use second::trace::MODELS;
 use second::verdict::MOST_STEPS;
@@ -82,7 +82,7 @@ fn write_sessions(seed: u64, count: u64, directory: &Path) -> io::Result<()> {
         let name: &str = SESSION_FAMILIES[chance.below(SESSION_FAMILIES.len())];
         let family = family(name).expect("a family");
         let text = text(family, seed, case);
-        let trace = read(&text).expect("these families are read");
+        let trace = read_lines(&text).expect("these families' lines are good");
         let model = if chance.percent(80) { chance.between(1, MODELS) } else { *chance.of(&[0, MODELS + 1]) } as u64;
         let words = drawn(&mut chance, &trace);
         let words: Vec<&str> = words.iter().map(String::as_str).collect();

@@ -1,5 +1,6 @@
 //! First values by chance, and the init lines that say so.
 
+use super::threads::numbered;
 use crate::chance::Chance;
 use crate::trace::{init_line, Firsts, Record, ADDRESSES, BEGINNING, LAST_VALUE};
 
@@ -36,9 +37,10 @@ pub(super) fn init_lines(chance: &mut Chance, firsts: &Firsts) -> Vec<String> {
     lines
 }
 
-/// A text of these records behind these first values.
+/// A text of these records behind these first values, mostly with other threads that leave no gap.
 pub(super) fn text_of(chance: &mut Chance, firsts: &Firsts, records: &[Record]) -> Vec<u8> {
     let inits = init_lines(chance, firsts);
+    let records = numbered(chance, records);
     let lines = inits.into_iter().chain(records.iter().map(Record::to_string));
     lines.map(|line| line + "\n").collect::<String>().into_bytes()
 }

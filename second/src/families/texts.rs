@@ -1,6 +1,7 @@
 //! Texts at the edges of what the reader takes.
 
 use super::firsts::{self, init_lines};
+use super::threads;
 use crate::chance::Chance;
 use crate::machine::{run, Shape};
 use crate::reader::MOST_TEXT;
@@ -87,7 +88,17 @@ fn good_lines(chance: &mut Chance, records: usize) -> Vec<String> {
     };
     let records = run(chance, &shape, true);
     let mut lines = init_lines(chance, &shape.firsts);
-    lines.extend(records.iter().map(Record::to_string));
+    lines.extend(threads::numbered(chance, &records).iter().map(Record::to_string));
+    lines
+}
+
+/// Mostly with a record of every thread, so that lines of any thread leave no gap.
+fn with_threads(chance: &mut Chance, mut lines: Vec<String>) -> Vec<String> {
+    if chance.percent(70) {
+        let inits = lines.iter().take_while(|line| line.starts_with(INIT)).count();
+        let place = *chance.of(&[inits, lines.len()]);
+        lines.splice(place..place, threads::all());
+    }
     lines
 }
 
@@ -97,7 +108,8 @@ fn joined(lines: &[String]) -> Vec<u8> {
 
 pub(super) fn edges(chance: &mut Chance) -> Vec<u8> {
     let count = chance.between(0, 5);
-    let mut lines = good_lines(chance, count);
+    let lines = good_lines(chance, count);
+    let mut lines = with_threads(chance, lines);
     for _ in 0..if chance.percent(80) { 1 } else { 2 } {
         let (bad, good) = *chance.of(&LINES);
         let line = if chance.percent(60) { bad } else { good };
@@ -156,6 +168,7 @@ fn drawn(chance: &mut Chance, choices: &[&'static str], good: usize) -> &'static
 
 pub(super) fn numbers(chance: &mut Chance) -> Vec<u8> {
     let lines: Vec<String> = (0..chance.between(1, 6)).map(|_| line_of_numbers(chance)).collect();
+    let lines = with_threads(chance, lines);
     let mut text = joined(&lines);
     if chance.percent(5) {
         text.pop();
@@ -200,6 +213,7 @@ pub(super) fn inits(chance: &mut Chance) -> Vec<u8> {
         let place = chance.between(0, lines.len());
         lines.insert(place, line_of_init(chance));
     }
+    let lines = with_threads(chance, lines);
     let mut text = joined(&lines);
     if chance.percent(6) {
         text.pop();
@@ -209,6 +223,42 @@ pub(super) fn inits(chance: &mut Chance) -> Vec<u8> {
 
 fn line_of_init(chance: &mut Chance) -> String {
     format!("init: M[{}] := {}", drawn(chance, &GIVEN, 6), drawn(chance, &FIRST, 6))
+}
+
+/// Each thread up to some one has a record or more, or a few have none; fences and init lines among them; at times a line is bad as well.
+pub(super) fn lost(chance: &mut Chance) -> Vec<u8> {
+    let mut threads: Vec<usize> = (0..chance.between(0, LAST_THREAD as usize + 1)).collect();
+    let gone = *chance.of(&[0, 0, 1, 1, 1, 2]);
+    for _ in 0..gone.min(threads.len()) {
+        threads.remove(chance.below(threads.len()));
+    }
+    let mut lines = Vec::new();
+    for thread in threads {
+        (0..chance.between(1, 2)).for_each(|_| lines.push(some_line(chance, thread)));
+    }
+    chance.shuffle(&mut lines);
+    for _ in 0..*chance.of(&[0, 0, 1]) {
+        lines.insert(0, line_of_init(chance));
+    }
+    if chance.percent(15) {
+        let (bad, good) = *chance.of(&LINES);
+        let place = some_place(chance, &lines, bad);
+        lines.insert(place, if chance.percent(70) { bad } else { good }.to_string());
+    }
+    let mut text = joined(&lines);
+    if chance.percent(4) {
+        text.pop();
+    }
+    text
+}
+
+fn some_line(chance: &mut Chance, thread: usize) -> String {
+    let written = 1 + chance.below(40);
+    match chance.below(4) {
+        0 | 1 => format!("{thread}: sync"),
+        2 => format!("{thread}: M[{}] == 0", chance.below(4)),
+        _ => format!("{thread}: M[{}] := {written}", chance.below(16)),
+    }
 }
 
 pub(super) fn ranks(chance: &mut Chance) -> Vec<u8> {
@@ -340,7 +390,7 @@ const ODD: &[u8] = b"0123456789 :=;[]{}MsyncSMmit\n\r\t\x00/@AZaz`\x7f\x80\xff._
 pub(super) fn damaged(chance: &mut Chance) -> Vec<u8> {
     let mut text = if chance.percent(60) {
         let inits: &[u8] = if chance.percent(50) { b"init: M[3] := 7\ninit: M[15] := 0\n" } else { b"" };
-        [inits, b"0: M[3] := 31\n1: M[3] == 31\n0: { M[3] == 31; M[3] := 178 }\n7: sync\n"].concat()
+        [inits, b"0: M[3] := 31\n1: M[3] == 31\n0: { M[3] == 31; M[3] := 178 }\n2: sync\n"].concat()
     } else {
         let count = chance.between(1, 5);
         joined(&good_lines(chance, count))

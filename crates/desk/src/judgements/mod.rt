@@ -13,7 +13,7 @@ use crate::verdicts::put_wide;
 use orders::judging::Judgement;
 use orders::judging::judge;
 use pairs::modelled;
-use reader::read;
+use reader::read_whole;
 
 // How many bytes come with an answer: two numbers of two bytes each.
 const JUDGEMENT: usize = 4;
@@ -72,7 +72,7 @@ fn second(j: Judgement) -> usize
 pub extern "C" fn wheelotter_judge(text: &[u8], model: u8, list: &[u16], out: &mut [u8]) -> u8
     ensures { λ r. ⌜ Judged (now (text .entry)) model (now (list .entry)) (now (out .entry)) (now (out .exit)) r ⌝ }
 {
-    let reading = read(text);
+    let reading = read_whole(text);
     let answer = reading.answer;
     let wrong = number_in(answer);
     if 0 < wrong {

@@ -21,7 +21,7 @@ use machine::Steps;
 use machine::replaying::steps_of;
 use machine::running::machined;
 use machine::running::run;
-use reader::read;
+use reader::read_whole;
 use text::room::put;
 
 // How many bytes come with the end of a run: a place of two bytes.
@@ -82,7 +82,7 @@ fn given_number(given: Given) -> u8
 pub extern "C" fn wheelotter_run(text: &[u8], model: u8, steps: &[u8], out: &mut [u8]) -> u8
     ensures { λ r. ⌜ Run (now (text .entry)) model (now (steps .entry)) (now (out .entry)) (now (out .exit)) r ⌝ }
 {
-    let reading = read(text);
+    let reading = read_whole(text);
     let answer = reading.answer;
     let wrong = number_in(answer);
     if 0 < wrong {
@@ -120,7 +120,7 @@ fn lay(s: Steps, out: &mut [u8])
 pub extern "C" fn wheelotter_steps(text: &[u8], model: u8, order: &[u16], out: &mut [u8]) -> u8
     ensures { λ r. ⌜ Replayed (now (text .entry)) model (now (order .entry)) (now (out .entry)) (now (out .exit)) r ⌝ }
 {
-    let reading = read(text);
+    let reading = read_whole(text);
     let answer = reading.answer;
     let wrong = number_in(answer);
     if 0 < wrong {

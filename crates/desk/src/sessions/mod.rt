@@ -23,6 +23,7 @@ use crate::heads::stack_in;
 use crate::texts::number_in;
 use pairs::SC;
 use reader::read;
+use reader::read_whole;
 use session::Answer;
 use session::Reason;
 use session::Reply;
@@ -138,7 +139,7 @@ fn leave(reply: Reply, session: &mut [u8]) -> u8
 fn opening(text: &[u8], model: u8) -> Opened
     ensures { λ r. ⌜ (r .number ≡ openNumber (now (text .entry)) model) × ((C : Closings) → r .session ≡ openSession C (now (text .entry)) model) ⌝ }
 {
-    let reading = read(text);
+    let reading = read_whole(text);
     let told = reading.answer;
     let number = number_in(told);
     if number != 0 {

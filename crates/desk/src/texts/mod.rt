@@ -4,8 +4,10 @@ ghost use Rattle.report.specs.Wrote.{Reported};
 ghost use Rattle.reader.specs.Part.{lineIn, lineOf, startOf, endOf};
 ghost use Rattle.desk.specs.Text.{numberIn, numberOf};
 use reader::Answer;
+use reader::LOST;
 use reader::bad_place;
 use reader::read;
+use reader::read_whole;
 use reader::turns::number;
 
 // The whole answer to a text, in a lent buffer, and how many bytes it has; 0, and the buffer as it was, where it is too short.
@@ -23,6 +25,7 @@ pub(crate) fn number_in(a: Answer) -> u8
     match a {
         Answer::Good => 0,
         Answer::Refused { reason, line: _ } => number(reason),
+        Answer::Lost => LOST,
     }
 }
 
@@ -33,15 +36,16 @@ fn line_in(a: Answer) -> usize
     match a {
         Answer::Good => 0,
         Answer::Refused { reason: _, line } => line,
+        Answer::Lost => 0,
     }
 }
 
-// The documents' number of what is wrong with a text, 1 to 8 or 17; 0 for a good one.
+// The documents' number of what is wrong with a text, 1 to 8, 17 or 22; 0 for a good one.
 #[no_mangle]
 pub extern "C" fn wheelotter_number(text: &[u8]) -> u8
     ensures { λ r. ⌜ r ≡ numberOf (now (text .entry)) ⌝ }
 {
-    let reading = read(text);
+    let reading = read_whole(text);
     let answer = reading.answer;
     number_in(answer)
 }

@@ -14,7 +14,7 @@ use crate::answers::NONE_LEFT;
 use crate::answers::ORDER;
 use crate::texts::number_in;
 use pairs::modelled;
-use reader::read;
+use reader::read_whole;
 use text::room::put;
 use trace::RECORDS;
 use verdict::Outcome;
@@ -99,7 +99,7 @@ fn lay(v: Verdict, out: &mut [u8])
 pub extern "C" fn wheelotter_verdict(text: &[u8], model: u8, out: &mut [u8]) -> u8
     ensures { λ r. ⌜ Answered (now (text .entry)) model (now (out .entry)) (now (out .exit)) r ⌝ }
 {
-    let reading = read(text);
+    let reading = read_whole(text);
     let answer = reading.answer;
     let wrong = number_in(answer);
     if 0 < wrong {

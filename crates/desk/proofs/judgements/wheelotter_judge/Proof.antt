@@ -6,9 +6,9 @@ use native.Mathlib.Omega.{arith}
 use borrow.Author.Tests.{not-true, not-false}
 use lib.ListN.{drop}
 use Rattle.trace.specs.Bounds.{RECORDS}
-use Rattle.reader.specs.Read.{readText}
+use Rattle.reader.specs.Whole.{readWhole}
 use Rattle.reader.specs.declared.Reading.{Reading}
-use Rattle.reader.proofs.RoundTrip.{read-well}
+use Rattle.reader.proofs.Whole.{whole-well}
 use Rattle.orders.specs.Judged.{judgedOf}
 use Rattle.desk.specs.Text.{numberIn, numberOf}
 use Rattle.desk.specs.Verdict.{wide}
@@ -19,15 +19,15 @@ use borrow.Author.Needs.{needs}
 use Rattle.desk.proofs.judgements.wheelotter_judge.Statement.{statement}
 use Rattle.desk.proofs.judgements.wheelotter_judge.Tie as tie
 
-read-requires : tie.Need-read-requires
-read-requires c κs = search needs
+read-whole-requires : tie.Need-read-whole-requires
+read-whole-requires c κs = search needs
 
 number-in-requires : tie.Need-number-in-requires
 number-in-requires c κs = search needs
 
 -- the number in what the reader answers
 numbered : (c : tie.After-number-in) → c .number-in .result ≡ numberOf (c .before .before .before .before .before .args .text .now)
-numbered c = c .number-in .ensures ∙ ap (λ (r : Reading). numberIn (r .answer)) (c .before .read .ensures)
+numbered c = c .number-in .ensures ∙ ap (λ (r : Reading). numberIn (r .answer)) (c .before .read-whole .ensures)
 
 returns : tie.Need-returns
 returns c =
@@ -56,11 +56,11 @@ judge-requires : tie.Need-judge-requires
 judge-requires c κs = search needs
 
 -- the judgement of the list for the trace that the text writes
-judged : (c : tie.After-judge) → let a = c .before .before .before .before .before .before .before .before .before .before .before .args in c .judge .result ≡ judgedOf (readText (a .text .now) .trace) (a .model) (a .list .now)
+judged : (c : tie.After-judge) → let a = c .before .before .before .before .before .before .before .before .before .before .before .args in c .judge .result ≡ judgedOf (readWhole (a .text .now) .trace) (a .model) (a .list .now)
 judged c =
     let r = c .before .before .before .before .before .before .before in
     let a = r .before .before .before .before .args in
-    c .judge .ensures ∙ ap (λ (r : Reading). judgedOf (r .trace) (a .model) (a .list .now)) (r .read .ensures)
+    c .judge .ensures ∙ ap (λ (r : Reading). judgedOf (r .trace) (a .model) (a .list .now)) (r .read-whole .ensures)
 
 concerns-requires : tie.Need-concerns-requires
 concerns-requires c κs = search needs
@@ -69,7 +69,7 @@ cast-one : tie.Need-cast-one
 cast-one c =
     let a = c .before .before .before .before .before .before .before .before .before .before .before .before .args in
     let small : c .concerns .result < RECORDS =
-    rw (c .concerns .ensures, judged (c .before)) (judged-below (readText (a .text .now) .trace) (a .model) (a .list .now) (read-well (a .text .now)) .0) in
+    rw (c .concerns .ensures, judged (c .before)) (judged-below (readWhole (a .text .now) .trace) (a .model) (a .list .now) (whole-well (a .text .now)) .0) in
     search needs
 
 second-requires : tie.Need-second-requires
@@ -79,7 +79,7 @@ cast-other : tie.Need-cast-other
 cast-other c =
     let a = c .before .before .before .before .before .before .before .before .before .before .before .before .before .args in
     let small : c .second .result < RECORDS =
-    rw (c .second .ensures, judged (c .before .before)) (judged-below (readText (a .text .now) .trace) (a .model) (a .list .now) (read-well (a .text .now)) .1) in
+    rw (c .second .ensures, judged (c .before .before)) (judged-below (readWhole (a .text .now) .trace) (a .model) (a .list .now) (whole-well (a .text .now)) .1) in
     search needs
 
 slice-aggregate-put-wide : tie.Need-slice-aggregate-put-wide
@@ -116,7 +116,7 @@ pub wheelotter-judge-spec : {M : Type 1} → statement M
 wheelotter-judge-spec =
     tie.close
     (tie.spec
-    read-requires
+    read-whole-requires
     number-in-requires
     returns
     modelled-requires

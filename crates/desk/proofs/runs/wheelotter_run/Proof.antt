@@ -6,7 +6,7 @@ use Prim.Native.Nat.{ℕ, _≤_}
 use native.Mathlib.Omega.{arith}
 use borrow.Author.Tests.{not-true, not-false}
 use lib.ListN.{drop}
-use Rattle.reader.specs.Read.{readText}
+use Rattle.reader.specs.Whole.{readWhole}
 use Rattle.reader.specs.declared.Reading.{Reading}
 use Rattle.machine.specs.Machine.{answer, placeOf}
 use Rattle.machine.specs.Replay.{STEPS}
@@ -20,15 +20,15 @@ use borrow.Author.Needs.{needs}
 use Rattle.desk.proofs.runs.wheelotter_run.Statement.{statement}
 use Rattle.desk.proofs.runs.wheelotter_run.Tie as tie
 
-read-requires : tie.Need-read-requires
-read-requires c κs = search needs
+read-whole-requires : tie.Need-read-whole-requires
+read-whole-requires c κs = search needs
 
 number-in-requires : tie.Need-number-in-requires
 number-in-requires c κs = search needs
 
 -- the number in what the reader answers
 numbered : (c : tie.After-number-in) → c .number-in .result ≡ numberOf (c .before .before .before .before .before .args .text .now)
-numbered c = c .number-in .ensures ∙ ap (λ (r : Reading). numberIn (r .answer)) (c .before .read .ensures)
+numbered c = c .number-in .ensures ∙ ap (λ (r : Reading). numberIn (r .answer)) (c .before .read-whole .ensures)
 
 returns : tie.Need-returns
 returns c =
@@ -57,11 +57,11 @@ run-requires : tie.Need-run-requires
 run-requires c κs = search needs
 
 -- how the steps run the trace that the text writes
-ran : (c : tie.After-run) → let a = c .before .before .before .before .before .before .before .before .before .before .before .args in c .run .result ≡ answer (readText (a .text .now) .trace) (a .model) (a .steps .now)
+ran : (c : tie.After-run) → let a = c .before .before .before .before .before .before .before .before .before .before .before .args in c .run .result ≡ answer (readWhole (a .text .now) .trace) (a .model) (a .steps .now)
 ran c =
     let r = c .before .before .before .before .before .before .before in
     let a = r .before .before .before .before .args in
-    c .run .ensures ∙ ap (λ (r : Reading). answer (r .trace) (a .model) (a .steps .now)) (r .read .ensures)
+    c .run .ensures ∙ ap (λ (r : Reading). answer (r .trace) (a .model) (a .steps .now)) (r .read-whole .ensures)
 
 place-of-requires : tie.Need-place-of-requires
 place-of-requires c κs = search needs
@@ -69,7 +69,7 @@ place-of-requires c κs = search needs
 cast-place : tie.Need-cast-place
 cast-place c =
     let a = c .before .before .before .before .before .before .before .before .before .before .before .before .args in
-    let small : c .place-of .result ≤ STEPS = rw (c .place-of .ensures, ran (c .before)) (place-below (readText (a .text .now) .trace) (a .model) (a .steps .now)) in
+    let small : c .place-of .result ≤ STEPS = rw (c .place-of .ensures, ran (c .before)) (place-below (readWhole (a .text .now) .trace) (a .model) (a .steps .now)) in
     search needs
 
 slice-aggregate-put-wide : tie.Need-slice-aggregate-put-wide
@@ -105,7 +105,7 @@ pub wheelotter-run-spec : {M : Type 1} → statement M
 wheelotter-run-spec =
     tie.close
     (tie.spec
-    read-requires
+    read-whole-requires
     number-in-requires
     returns
     machined-requires

@@ -6,7 +6,7 @@ use Prim.Native.Nat.{_≤_}
 use native.Mathlib.Omega.{arith}
 use borrow.Author.Tests.{not-true, not-false}
 use lib.ListN.{drop}
-use Rattle.reader.specs.Read.{readText}
+use Rattle.reader.specs.Whole.{readWhole}
 use Rattle.reader.specs.declared.Reading.{Reading}
 use Rattle.machine.specs.Replay.{STEPS, stepsOf}
 use Rattle.machine.specs.declared.Steps.{Steps}
@@ -19,15 +19,15 @@ use borrow.Author.Needs.{needs}
 use Rattle.desk.proofs.runs.wheelotter_steps.Statement.{statement}
 use Rattle.desk.proofs.runs.wheelotter_steps.Tie as tie
 
-read-requires : tie.Need-read-requires
-read-requires c κs = search needs
+read-whole-requires : tie.Need-read-whole-requires
+read-whole-requires c κs = search needs
 
 number-in-requires : tie.Need-number-in-requires
 number-in-requires c κs = search needs
 
 -- the number in what the reader answers
 numbered : (c : tie.After-number-in) → c .number-in .result ≡ numberOf (c .before .before .before .before .before .args .text .now)
-numbered c = c .number-in .ensures ∙ ap (λ (r : Reading). numberIn (r .answer)) (c .before .read .ensures)
+numbered c = c .number-in .ensures ∙ ap (λ (r : Reading). numberIn (r .answer)) (c .before .read-whole .ensures)
 
 returns : tie.Need-returns
 returns c =
@@ -56,17 +56,17 @@ steps-of-requires : tie.Need-steps-of-requires
 steps-of-requires c κs = search needs
 
 -- the steps of the order for the trace that the text writes
-built : (c : tie.After-steps-of) → let a = c .before .before .before .before .before .before .before .before .before .before .before .args in c .steps-of .result ≡ stepsOf (readText (a .text .now) .trace) (a .model) (a .order .now)
+built : (c : tie.After-steps-of) → let a = c .before .before .before .before .before .before .before .before .before .before .before .args in c .steps-of .result ≡ stepsOf (readWhole (a .text .now) .trace) (a .model) (a .order .now)
 built c =
     let r = c .before .before .before .before .before .before .before in
     let a = r .before .before .before .before .args in
-    c .steps-of .ensures ∙ ap (λ (r : Reading). stepsOf (r .trace) (a .model) (a .order .now)) (r .read .ensures)
+    c .steps-of .ensures ∙ ap (λ (r : Reading). stepsOf (r .trace) (a .model) (a .order .now)) (r .read-whole .ensures)
 
 lay-requires : tie.Need-lay-requires
 lay-requires c κs =
     let j = c .before in
     let a = j .before .before .before .before .before .before .before .before .before .before .before .args in (
-      subst (λ (s : Steps). s .len ≤ STEPS) (sym (built j)) (steps-few (readText (a .text .now) .trace) (a .model) (a .order .now)),
+      subst (λ (s : Steps). s .len ≤ STEPS) (sym (built j)) (steps-few (readWhole (a .text .now) .trace) (a .model) (a .order .now)),
       omega (arith, j .before .before .if3 .left),
     )
 
@@ -94,7 +94,7 @@ pub wheelotter-steps-spec : {M : Type 1} → statement M
 wheelotter-steps-spec =
     tie.close
     (tie.spec
-    read-requires
+    read-whole-requires
     number-in-requires
     returns
     machined-requires

@@ -13,7 +13,7 @@ use Rattle.session.specs.Closings.{Closings}
 use Rattle.session.specs.Entries.{afreshOf}
 use Rattle.session.specs.declared.Stack.{Stack}
 use Rattle.session.specs.declared.Reply.{Reply}
-use Rattle.desk.specs.Text.{numberIn, numberOf}
+use Rattle.desk.specs.Text.{numberIn, linesOf}
 use Rattle.desk.specs.Head.{Fit, headOf}
 use Rattle.desk.specs.Kept.{textIn, madeIn}
 use Rattle.desk.specs.Acts.{codeOf}
@@ -33,7 +33,7 @@ lent c = c .args .bytes .now
 got : (c : tie.After-read) → c .read .result ≡ readText (textIn (lent (c .before .before .before .before)))
 got c = c .read .ensures ∙ ap readText (behind (lent (c .before .before .before .before)))
 
-told : (c : tie.After-number-in) → c .number-in .result ≡ numberOf (textIn (lent (c .before .before .before .before .before)))
+told : (c : tie.After-number-in) → c .number-in .result ≡ linesOf (textIn (lent (c .before .before .before .before .before)))
 told c = c .number-in .ensures ∙ ap (λ (r : Reading). numberIn (r .answer)) (got (c .before))
 
 -- the session that the bytes name

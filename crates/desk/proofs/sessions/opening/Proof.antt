@@ -1,7 +1,7 @@
 -- `desk::sessions::opening`: what is wrong with the text, or with opening a session on its trace.
 use mathlib.Core.Path.{_≡_, sym, ap, _∙_}
 use mathlib.Core.Logic.{_≢_}
-use Rattle.reader.specs.Read.{readText}
+use Rattle.reader.specs.Whole.{readWhole}
 use Rattle.reader.specs.declared.Reading.{Reading}
 use Rattle.session.specs.Closings.{Closings}
 use Rattle.session.specs.Entries.{openOf}
@@ -14,15 +14,15 @@ use borrow.Author.Needs.{needs}
 use Rattle.desk.proofs.sessions.opening.Statement.{statement}
 use Rattle.desk.proofs.sessions.opening.Tie as tie
 
-read-requires : tie.Need-read-requires
-read-requires c κs = search needs
+read-whole-requires : tie.Need-read-whole-requires
+read-whole-requires c κs = search needs
 
 number-in-requires : tie.Need-number-in-requires
 number-in-requires c κs = search needs
 
 -- the text's own number
 told : (c : tie.After-number-in) → c .number-in .result ≡ numberOf (c .before .before .before .args .text .now)
-told c = c .number-in .ensures ∙ ap (λ (r : Reading). numberIn (r .answer)) (c .before .read .ensures)
+told c = c .number-in .ensures ∙ ap (λ (r : Reading). numberIn (r .answer)) (c .before .read-whole .ensures)
 
 blank-requires : tie.Need-blank-requires
 blank-requires c κs = search needs
@@ -46,14 +46,14 @@ returns-2 c =
     let n = o .before .before in
     let m = n .before .before .before .args .model in
     let g = sym (told n) ∙ o .before .if1 .left in
-    let e : (C : Closings) → o .open .result ≡ openOf C (readText (n .before .before .before .args .text .now) .trace) m = λ C. o .open .ensures C ∙ ap (λ (r : Reading). openOf C (r .trace) m) (n .before .read .ensures) in
+    let e : (C : Closings) → o .open .result ≡ openOf C (readWhole (n .before .before .before .args .text .now) .trace) m = λ C. o .open .ensures C ∙ ap (λ (r : Reading). openOf C (r .trace) m) (n .before .read-whole .ensures) in
     (c .code .ensures ∙ ap (λ (r : Reply). codeOf (r .answer)) (e closings-some) ∙ sym (good-number _ _ g), λ C. ap (λ (r : Reply). r .session) (e C) ∙ sym (good-session _ _ g C))
 
 pub opening-spec : {M : Type 1} → statement M
 opening-spec =
     tie.close
     (tie.spec
-    read-requires
+    read-whole-requires
     number-in-requires
     blank-requires
     returns

@@ -6,14 +6,14 @@ use borrow.Author.Needs.{needs}
 use Rattle.desk.proofs.texts.wheelotter_number.Statement.{statement}
 use Rattle.desk.proofs.texts.wheelotter_number.Tie as tie
 
-read-requires : tie.Need-read-requires
-read-requires c κs = search needs
+read-whole-requires : tie.Need-read-whole-requires
+read-whole-requires c κs = search needs
 
 number-in-requires : tie.Need-number-in-requires
 number-in-requires c κs = search needs
 
 returns : tie.Need-returns
-returns c = c .number-in .ensures ∙ ap (λ (r : Reading). numberIn (r .answer)) (c .before .read .ensures)
+returns c = c .number-in .ensures ∙ ap (λ (r : Reading). numberIn (r .answer)) (c .before .read-whole .ensures)
 
 pub wheelotter-number-spec : {M : Type 1} → statement M
-wheelotter-number-spec = tie.close (tie.spec read-requires number-in-requires returns)
+wheelotter-number-spec = tie.close (tie.spec read-whole-requires number-in-requires returns)

@@ -4,9 +4,9 @@ use Prim.Native.Nat.{_≤_}
 use native.Mathlib.Omega.{arith}
 use borrow.Author.Tests.{not-true, not-false}
 use Rattle.trace.specs.Bounds.{RECORDS}
-use Rattle.reader.specs.Read.{readText}
+use Rattle.reader.specs.Whole.{readWhole}
 use Rattle.reader.specs.declared.Reading.{Reading}
-use Rattle.reader.proofs.RoundTrip.{read-well}
+use Rattle.reader.proofs.Whole.{whole-well}
 use Rattle.verdict.specs.Told.{Told}
 use Rattle.verdict.specs.declared.Verdict.{Verdict}
 use Rattle.desk.specs.Text.{numberIn, numberOf}
@@ -17,15 +17,15 @@ use borrow.Author.Needs.{needs}
 use Rattle.desk.proofs.verdicts.wheelotter_verdict.Statement.{statement}
 use Rattle.desk.proofs.verdicts.wheelotter_verdict.Tie as tie
 
-read-requires : tie.Need-read-requires
-read-requires c κs = search needs
+read-whole-requires : tie.Need-read-whole-requires
+read-whole-requires c κs = search needs
 
 number-in-requires : tie.Need-number-in-requires
 number-in-requires c κs = search needs
 
 -- the number in what the reader answers
 numbered : (c : tie.After-number-in) → c .number-in .result ≡ numberOf (c .before .before .before .before .args .text .now)
-numbered c = c .number-in .ensures ∙ ap (λ (r : Reading). numberIn (r .answer)) (c .before .read .ensures)
+numbered c = c .number-in .ensures ∙ ap (λ (r : Reading). numberIn (r .answer)) (c .before .read-whole .ensures)
 
 returns : tie.Need-returns
 returns c =
@@ -54,16 +54,16 @@ verdict-of-requires : tie.Need-verdict-of-requires
 verdict-of-requires c κs = search needs
 
 -- the verdict on the trace that the text writes
-told : (c : tie.After-verdict-of) → let a = c .before .before .before .before .before .before .before .before .before .before .args in Told (readText (a .text .now) .trace) (a .model) (c .verdict-of .result)
+told : (c : tie.After-verdict-of) → let a = c .before .before .before .before .before .before .before .before .before .before .args in Told (readWhole (a .text .now) .trace) (a .model) (c .verdict-of .result)
 told c =
     let r = c .before .before .before .before .before .before .before in
     let a = r .before .before .before .args in
-    subst (λ (r : Reading). Told (r .trace) (a .model) (c .verdict-of .result)) (r .read .ensures) (c .verdict-of .ensures)
+    subst (λ (r : Reading). Told (r .trace) (a .model) (c .verdict-of .result)) (r .read-whole .ensures) (c .verdict-of .ensures)
 
 spelled-requires : tie.Need-spelled-requires
 spelled-requires c κs =
     let a = c .before .before .before .before .before .before .before .before .before .before .args in
-    source-below (a .model) (readText (a .text .now) .trace) (read-well (a .text .now)) (c .verdict-of .result) (told c)
+    source-below (a .model) (readWhole (a .text .now) .trace) (whole-well (a .text .now)) (c .verdict-of .result) (told c)
 
 lay-requires : tie.Need-lay-requires
 lay-requires c κs =
@@ -95,7 +95,7 @@ pub wheelotter-verdict-spec : {M : Type 1} → statement M
 wheelotter-verdict-spec =
     tie.close
     (tie.spec
-    read-requires
+    read-whole-requires
     number-in-requires
     returns
     modelled-requires
