@@ -4,6 +4,7 @@
 --   two-back, lower, upper == a number is what its two bytes say, and they are the only ones
 --   two-drop, entry-drop == what stands at a place is what the rest from there begins with
 --   eight                == as many bytes as a record has, taken off the front
+--   op-load, op-store, op-swap, op-fence, op-none == what six fields are, with the tests that lead to it
 --   in-record, record-in == a record is read from its own bytes, and only from those
 use mathlib.Core.Path.{_≡_, refl, sym, ap, ap₂, _∙_, subst}
 use mathlib.Core.Bool.{Bool, true, false, cond, So, _&&_}
@@ -71,6 +72,31 @@ eight (a ∷ b ∷ c ∷ d ∷ e ∷ []) h = absurd (omega arith)
 eight (a ∷ b ∷ c ∷ d ∷ e ∷ f ∷ []) h = absurd (omega arith)
 eight (a ∷ b ∷ c ∷ d ∷ e ∷ f ∷ g ∷ []) h = absurd (omega arith)
 eight (a ∷ b ∷ c ∷ d ∷ e ∷ f ∷ g ∷ i ∷ bs) h = refl
+
+-- ---- the record of six fields, with the tests that lead to it
+module _ (k t a z r w : ℕ) where
+  pub op-load : (eqb k 0 && eqb z 0 && eqb w 0) ≡ true → Of (Load t a r) ≡ opIn k t a z r w
+  unfolding opIn
+  op-load e = rw e refl
+
+  module _ (x : (eqb k 0 && eqb z 0 && eqb w 0) ≡ false) where
+    pub op-store : (eqb k 1 && eqb z 0 && eqb r 0) ≡ true → Of (Store t a w) ≡ opIn k t a z r w
+    unfolding opIn
+    op-store e = rw (x, e) refl
+
+    module _ (y : (eqb k 1 && eqb z 0 && eqb r 0) ≡ false) where
+      pub op-swap : (eqb k 2 && eqb z 0) ≡ true → Of (Swap t a r w) ≡ opIn k t a z r w
+      unfolding opIn
+      op-swap e = rw (x, y, e) refl
+
+      module _ (v : (eqb k 2 && eqb z 0) ≡ false) where
+        pub op-fence : (eqb k 3 && eqb a 0 && eqb z 0 && eqb r 0 && eqb w 0) ≡ true → Of (Fence t) ≡ opIn k t a z r w
+        unfolding opIn
+        op-fence e = rw (x, y, v, e) refl
+
+        pub op-none : (eqb k 3 && eqb a 0 && eqb z 0 && eqb r 0 && eqb w 0) ≡ false → Nothing ≡ opIn k t a z r w
+        unfolding opIn
+        op-none e = rw (x, y, v, e) refl
 
 in-fields : (o : Op) → opIn (kindOf o) (thread o) (address o) 0 (read o) (written o) ≡ Of o
 unfolding opIn

@@ -1,7 +1,9 @@
 // A trace in a packed file, both ways. Document 02 has the layout; specs/Layout.antt says it again.
 ghost use mathlib.Core.Path.{_≡_};
 ghost use Rattle.packed.specs.Read.{numberOf};
+use trace::FIRSTS;
 use trace::Op;
+use trace::RECORDS;
 use trace::Trace;
 
 mod entries;
@@ -14,6 +16,9 @@ pub const HEAD: usize = 8;
 pub const FIRST: usize = 3;
 
 pub const RECORD: usize = 8;
+
+// The longest file.
+pub const FILE: usize = HEAD + FIRST * FIRSTS + RECORD * RECORDS;
 
 // The version of the layout.
 pub const VERSION: u16 = 1;
