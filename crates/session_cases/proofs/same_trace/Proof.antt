@@ -41,6 +41,9 @@ loop-less c = search needs
 loop-again : tie.Need-loop-again Inv-loop μ-loop
 loop-again c = search needs
 
+same-firsts-requires : tie.Need-same-firsts-requires Inv-loop μ-loop
+same-firsts-requires c κs = search needs
+
 returns-2 : tie.Need-returns-2 Inv-loop μ-loop
 returns-2 c = search needs
 
@@ -60,4 +63,5 @@ same-trace-spec =
     add-i
     loop-less
     loop-again
+    same-firsts-requires
     returns-2)
