@@ -6,4 +6,5 @@ pub mod Laying
 pub mod Firsts
 pub mod Records
 pub mod RoundTrip
+pub mod Cases
 pub mod One
