@@ -83,11 +83,16 @@ pub fn drawn(chance: &mut Chance, trace: &Trace) -> (String, Vec<u8>) {
     }
     let mut what = vec!["a file"];
     for _ in 0..times {
-        let (words, harm) = *chance.of(&DAMAGES);
-        harm(chance, &mut file);
-        what.push(words);
+        what.push(damage(chance, &mut file));
     }
     (what.join(", "), file)
+}
+
+/// Something done to it, in words.
+pub fn damage(chance: &mut Chance, file: &mut Vec<u8>) -> &'static str {
+    let (what, harm) = *chance.of(&DAMAGES);
+    harm(chance, file);
+    what
 }
 
 fn by_chance(chance: &mut Chance) -> Vec<u8> {
