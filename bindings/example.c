@@ -117,15 +117,20 @@ static const char *word(uint8_t answer) {
     }
 }
 
+/* How many bytes a packed file has, as it says itself. */
+static size_t file_length(const uint8_t *file) {
+    return WHEELOTTER_ENTRIES + WHEELOTTER_FIRST * (size_t)file[WHEELOTTER_FIRSTS] + WHEELOTTER_RECORD * (size_t)number(file + WHEELOTTER_COUNT);
+}
+
 /* Supposes 0 before 1, then 2 before 3, takes both back, and looks each time whether 3 before 2 is held. */
 static void talk(void) {
-    static uint8_t session[WHEELOTTER_HEAD + sizeof text];
-    size_t len = WHEELOTTER_HEAD + text_len;
-    uint8_t opened = wheelotter_open(text, text_len, WHEELOTTER_TSO, session, len);
+    static uint8_t session[WHEELOTTER_SESSION];
+    uint8_t opened = wheelotter_open(text, text_len, WHEELOTTER_TSO, session, sizeof session);
     printf("open: %s\n", word(opened));
     if (opened != WHEELOTTER_DONE) {
         return;
     }
+    size_t len = WHEELOTTER_HEAD + file_length(session + WHEELOTTER_HEAD);
     printf("ask 3 2: %s\n", word(wheelotter_ask(session, len, 3, 2)));
     printf("suppose 0 1: %s\n", word(wheelotter_suppose(session, len, 0, 1)));
     printf("ask 3 2: %s\n", word(wheelotter_ask(session, len, 3, 2)));

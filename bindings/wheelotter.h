@@ -68,10 +68,17 @@ extern "C" {
 #define WHEELOTTER_VERDICT 770          /* a verdict in bytes has so many */
 #define WHEELOTTER_OPERATIONS 2         /* where the operations begin in a verdict */
 #define WHEELOTTER_RULES 514            /* where the rules begin in a verdict */
-#define WHEELOTTER_HEAD 8259            /* so many bytes of a session stand before its text */
+#define WHEELOTTER_HEAD 8259            /* so many bytes of a session stand before its trace's packed file */
 #define WHEELOTTER_STANDING 2           /* where the pairs begin in a session */
 #define WHEELOTTER_MARK 66              /* where a session says whether it is contradicted */
 #define WHEELOTTER_TABLE 67             /* where the table of what is held begins in a session */
+#define WHEELOTTER_SESSION 10363        /* a session has at most so many bytes */
+#define WHEELOTTER_FILE 2104            /* a packed file has at most so many bytes */
+#define WHEELOTTER_FIRSTS 5             /* where a packed file says how many first values it has, in one byte */
+#define WHEELOTTER_COUNT 6              /* where a packed file says how many records it has, in two bytes */
+#define WHEELOTTER_ENTRIES 8            /* where the entries begin in a packed file */
+#define WHEELOTTER_FIRST 3              /* a first value in a packed file has so many bytes */
+#define WHEELOTTER_RECORD 8             /* a record in a packed file has so many bytes */
 #define WHEELOTTER_JUDGEMENT 4          /* what the judge names has so many bytes */
 #define WHEELOTTER_PLACE 2              /* the place of an impossible step has so many bytes */
 #define WHEELOTTER_STEPS 512            /* a list of possible steps has at most so many */
@@ -141,21 +148,22 @@ uint8_t wheelotter_run(const uint8_t *text, size_t text_len, uint8_t model, cons
  *   WHEELOTTER_NO_ORDER                   the list is no valid order (wheelotter_judge tells why); there are no steps. */
 uint8_t wheelotter_steps(const uint8_t *text, size_t text_len, uint8_t model, const uint16_t *order, size_t order_len, uint8_t *out, size_t out_len);
 
-/* A session in bytes, WHEELOTTER_HEAD and as many more as its text has:
+/* A session in bytes, WHEELOTTER_HEAD and as many more as its trace's packed file has:
  *   0                      the model
  *   1                      how many pairs stand, at most WHEELOTTER_PAIRS
  *   WHEELOTTER_STANDING    WHEELOTTER_PAIRS pairs, first then second, two bytes each; unused places are 0
  *   WHEELOTTER_MARK        1 where contradicted, else 0
  *   WHEELOTTER_TABLE       a bit for each two records: bit y % 8 of byte WHEELOTTER_TABLE + x * (WHEELOTTER_RECORDS / 8) + y / 8 is 1 where
  *                          x before y is held; all are 0 while contradicted
- *   WHEELOTTER_HEAD        the text, to the end of the slice
- * Two sessions are equal exactly when their bytes are. They may be copied, kept and sent; bytes that are not such a session, made by
- * opening and supposing, get WHEELOTTER_NO_SESSION from every call and stay as they are. */
+ *   WHEELOTTER_HEAD        the packed file of the trace (docs/GUIDE.md has its layout), to the end of the slice
+ * The file says how long it is: WHEELOTTER_ENTRIES + WHEELOTTER_FIRST * (its byte WHEELOTTER_FIRSTS) + WHEELOTTER_RECORD * (the number at its
+ * byte WHEELOTTER_COUNT). Two sessions are equal exactly when their bytes are, from whatever text they were opened. They may be copied, kept and
+ * sent; bytes that are not such a session, made by opening and supposing, get WHEELOTTER_NO_SESSION from every call and stay as they are. */
 
-/* Opens a session on a text under a model, in the first WHEELOTTER_HEAD + text_len bytes of session; the rest stays. Hand on just these
- * bytes. Gives back
- *   1 to 8, 17 or 22, or else WHEELOTTER_NO_MODEL, or else WHEELOTTER_NO_SOURCE (wheelotter_verdict tells whose)   no session is opened: where session
- *                         has WHEELOTTER_HEAD bytes, these are that of the empty text under model 1, the rest stays; else all stays;
+/* Opens a session on a text under a model, at the front of session, of which WHEELOTTER_SESSION bytes are always enough; the rest stays. Hand on
+ * just the session's bytes. Gives back
+ *   1 to 8, 17 or 22, or else WHEELOTTER_NO_MODEL, or else WHEELOTTER_NO_SOURCE (wheelotter_verdict tells whose)   no session is opened: where there is
+ *                         room, WHEELOTTER_HEAD + WHEELOTTER_ENTRIES bytes, the front is that of the empty text under model 1; the rest stays;
  *   WHEELOTTER_NO_ROOM    else session is too short, and stays as it was;
  *   WHEELOTTER_DONE. */
 uint8_t wheelotter_open(const uint8_t *text, size_t text_len, uint8_t model, uint8_t *session, size_t session_len);

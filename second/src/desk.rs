@@ -15,9 +15,10 @@
 //! Numbers of records, and how many are told, are laid down in two bytes, the low one first.
 //!
 //! A session in bytes: the model; how many pairs stand, in one byte; sixteen pairs, first then second, unused ones 0; 1 where contradicted; a
-//! bit for each x and each y, eight to a byte from the lowest on, 1 where x before y is held; then the text of its trace up to the end.
+//! bit for each x and each y, eight to a byte from the lowest on, 1 where x before y is held; then the packed file of its trace up to the end.
 
 use crate::orders::{self, Judgement};
+use crate::packed::{file_of, read_entries};
 use crate::plain::{self, has_machine, Ran};
 use crate::reader::{self, Refusal};
 use crate::report;
@@ -69,7 +70,7 @@ pub const PAIRS_AT: usize = 2;
 pub const CONTRADICTED_AT: usize = PAIRS_AT + 4 * MOST_PAIRS;
 pub const TABLE_AT: usize = CONTRADICTED_AT + 1;
 
-/// What stands in a session before its text.
+/// What stands in a session before the file of its trace.
 pub const HEAD: usize = TABLE_AT + MOST_RECORDS * MOST_RECORDS / 8;
 
 /// The byte and the bit of it where the table says whether a pair is held.
@@ -91,7 +92,6 @@ pub fn number_at(place: &[u8]) -> usize {
 
 /// A text, and what was found out about it: nothing is worked out twice, however many entries are asked.
 pub struct Page<'a> {
-    text: &'a [u8],
     most_steps: u64,
     reading: Result<Trace, Refusal<'a>>,
     verdicts: [OnceCell<Verdict>; MODELS],
@@ -99,7 +99,7 @@ pub struct Page<'a> {
 
 impl<'a> Page<'a> {
     pub fn new(text: &'a [u8], most_steps: u64) -> Page<'a> {
-        Page { text, most_steps, reading: reader::read(text), verdicts: [const { OnceCell::new() }; MODELS] }
+        Page { most_steps, reading: reader::read(text), verdicts: [const { OnceCell::new() }; MODELS] }
     }
 
     pub fn trace(&self) -> Option<&Trace> {
@@ -247,15 +247,16 @@ impl<'a> Page<'a> {
             Err(refusal) => Err(refusal.number),
             Ok(trace) => Talk::open(trace, model.into()).map_err(|refused| refused.number),
         };
-        let (answer, talk, text) = match opened {
-            Ok(talk) => (DONE, talk, self.text),
-            Err(number) => (number, Talk::of_nothing(), &[][..]),
+        let (answer, talk) = match opened {
+            Ok(talk) => (DONE, talk),
+            Err(number) => (number, Talk::of_nothing()),
         };
-        let Some(place) = lent.get_mut(..HEAD + text.len()) else {
+        let file = file_of(&talk.session().trace);
+        let Some(place) = lent.get_mut(..HEAD + file.len()) else {
             return (if answer == DONE { NO_ROOM } else { answer }, None);
         };
         place[..HEAD].copy_from_slice(&head_of(talk.session()));
-        place[HEAD..].copy_from_slice(text);
+        place[HEAD..].copy_from_slice(&file);
         (answer, Some(talk))
     }
 }
@@ -272,7 +273,7 @@ pub fn lay_verdict(place: &mut [u8], operations: &[usize], rules: &[u8]) {
 
 // ---- sessions ----
 
-/// All of a session but its text.
+/// All of a session but the file of its trace.
 pub fn head_of(session: &Session) -> [u8; HEAD] {
     let mut head = [0; HEAD];
     head[0] = session.model as u8;
@@ -291,7 +292,7 @@ pub fn head_of(session: &Session) -> [u8; HEAD] {
 
 /// The session that some bytes are, sound or not; None where they are no session's. What it keeps is its trace by value, which may skip a thread.
 pub fn taken(bytes: &[u8]) -> Option<Session> {
-    let (head, text) = bytes.split_at_checked(HEAD)?;
+    let (head, file) = bytes.split_at_checked(HEAD)?;
     let contradicted = match head[CONTRADICTED_AT] {
         0 => false,
         1 => true,
@@ -302,7 +303,7 @@ pub fn taken(bytes: &[u8]) -> Option<Session> {
     if unused.iter().any(|pair| *pair != (0, 0)) {
         return None;
     }
-    let trace = reader::read_lines(text).ok()?;
+    let trace = read_entries(file).ok()?;
     let bits = head[TABLE_AT..].iter().enumerate().filter(|(_, byte)| **byte != 0);
     let bits = bits.flat_map(|(place, byte)| (0..8).filter(move |bit| byte >> bit & 1 == 1).map(move |bit| 8 * place + bit));
     let held = bits.map(|bit| (bit / MOST_RECORDS, bit % MOST_RECORDS)).collect();

@@ -8,6 +8,7 @@
 //! | `bounds` | the bounds |
 //! | `trace` | what the bench records, first values, models, kept pairs, well formed |
 //! | `reader` | the line forms, numbers 1 to 8, 17 and 22 |
+//! | `packed` | the packed trace file, numbers 4, 6, 7, 8, 10 and 18 to 22 |
 //! | `rules` | the edges that the rules force, rounds, held, the circle shown |
 //! | `orders` | valid orders, the judge, the first order in dictionary order |
 //! | `verdict` | the verdict, numbers 9 and 10 |
@@ -16,7 +17,7 @@
 //! | `report` | the lines of an answer |
 //! | `desk` | the entries of the library, in bytes (their form is ours; what they say is the document's) |
 //! | `bench` | the program at the bench |
-//! | `chance`, `machine`, `families`, `lists`, `script`, `plan` | texts, lists and session words to compare on (these are ours, not the document's) |
+//! | `chance`, `machine`, `families`, `lists`, `files`, `script`, `plan` | texts, lists, files and session words to compare on (these are ours, not the document's) |
 //! | `stated` | the document's own traces with the outputs it states |
 
 pub mod bench;
@@ -24,9 +25,11 @@ pub mod bounds;
 pub mod chance;
 pub mod desk;
 pub mod families;
+pub mod files;
 pub mod lists;
 pub mod machine;
 pub mod orders;
+pub mod packed;
 pub mod plain;
 pub mod plan;
 pub mod reader;

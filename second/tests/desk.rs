@@ -3,7 +3,8 @@
 use second::chance::Chance;
 use second::desk::{ask, head_of, place_of, suppose, take_back, taken, told, Page, DONE, HEAD, VERDICT};
 use second::families::{family, text, FAMILIES};
-use second::reader::{read_lines, MOST_TEXT};
+use second::packed::{file_of, HEADER};
+use second::reader::MOST_TEXT;
 use second::session::{self, Answer, Talk};
 use second::stated::{KNOT, STATED};
 use second::trace::{MODELS, MOST_RECORDS};
@@ -127,9 +128,18 @@ fn a_judgement_in_bytes() {
     assert_eq!(judged("", 1, &[], 4), (70, vec![0; 4]));
 }
 
+/// The packed file of the store buffers.
+const FILE: [u8; 40] = [
+    0x50, 0x59, 0x52, 1, 0, 0, 4, 0, //
+    1, 0, 0, 0, 0, 0, 1, 0, //
+    0, 0, 1, 0, 0, 0, 0, 0, //
+    1, 1, 1, 0, 0, 0, 1, 0, //
+    0, 1, 0, 0, 0, 0, 0, 0, //
+];
+
 /// A session on the store buffers under TSO, as it is opened.
 fn opened() -> Vec<u8> {
-    let mut lent = vec![BEFORE; HEAD + BUFFERS.len()];
+    let mut lent = vec![BEFORE; HEAD + FILE.len()];
     assert_eq!(page(BUFFERS).open(2, &mut lent).0, 0);
     lent
 }
@@ -156,7 +166,7 @@ fn a_session_in_bytes() {
     assert_eq!([place_of((0, 0)), place_of((0, 9)), place_of((last, last))], [(67, 1), (68, 2), (HEAD - 1, 128)]);
     let mut lent = opened();
     let fresh = lent.clone();
-    assert_eq!(&lent[HEAD..], BUFFERS.as_bytes());
+    assert_eq!(lent[HEAD..], FILE);
     assert_eq!(told_head(&lent), (2, 0, vec![], 0, vec![(1, 2), (3, 0)]));
     assert_eq!(ask(&lent, 3, 2), 68);
     assert_eq!(suppose(&mut lent, 0, 1), 0);
@@ -186,43 +196,45 @@ fn a_session_in_bytes() {
 #[test]
 fn a_session_with_first_values_in_bytes() {
     let text = "init: M[2] := 0\ninit: M[0] := 7\n0: M[0] := 0\n1: M[0] == 7\n";
-    let mut lent = vec![BEFORE; HEAD + text.len()];
+    let file = [0x50, 0x59, 0x52, 1, 0, 1, 2, 0, 0, 7, 0, 1, 0, 0, 0, 0, 0, 0, 0, 0, 1, 0, 0, 7, 0, 0, 0];
+    let mut lent = vec![BEFORE; HEAD + file.len()];
     assert_eq!(page(text).open(1, &mut lent).0, 0);
-    assert_eq!(&lent[HEAD..], text.as_bytes());
+    assert_eq!(lent[HEAD..], file);
     assert_eq!(told_head(&lent), (1, 0, vec![], 0, vec![(1, 0)]));
     assert_eq!(suppose(&mut lent, 0, 1), 0);
     assert_eq!(told_head(&lent), (1, 1, vec![(0, 1)], 1, vec![]));
     // With another first value the load has no source.
-    let place = HEAD + "init: M[2] := 0\ninit: M[0] := ".len();
-    lent[place] = b'8';
+    lent[HEAD + 9] = 8;
     assert_eq!(ask(&lent, 0, 1), 12);
 }
 
 #[test]
 fn memory_and_openings() {
-    let nothing: Vec<u8> = std::iter::once(1).chain(std::iter::repeat(0)).take(HEAD).collect();
+    let head = std::iter::once(1).chain(std::iter::repeat(0)).take(HEAD);
+    let nothing: Vec<u8> = head.chain([0x50, 0x59, 0x52, 1, 0, 0, 0, 0]).collect();
+    let length = HEAD + 8;
     for (text, model, answer) in [("0: syn\n", 1, 3), ("0: syn\n", 9, 3), ("1: sync\n", 9, 22), (BUFFERS, 0, 9), ("0: M[0] == 5\n", 2, 11)]
     {
-        let mut lent = vec![BEFORE; HEAD + text.len() + 9];
+        let mut lent = vec![BEFORE; length + 29];
         assert_eq!(page(text).open(model, &mut lent).0, answer);
-        assert_eq!(lent[..HEAD], nothing);
-        assert!(lent[HEAD..].iter().all(|&byte| byte == BEFORE), "the rest stays");
-        assert_eq!([ask(&lent[..HEAD], 0, 1), suppose(&mut lent[..HEAD], 0, 1), take_back(&mut lent[..HEAD])], [13, 13, 16]);
-        for room in [0, 1, HEAD - 1, HEAD] {
+        assert_eq!(lent[..length], nothing);
+        assert!(lent[length..].iter().all(|&byte| byte == BEFORE), "the rest stays");
+        assert_eq!([ask(&lent[..length], 0, 1), suppose(&mut lent[..length], 0, 1), take_back(&mut lent[..length])], [13, 13, 16]);
+        for room in [0, 1, HEAD - 1, HEAD, length - 1, length] {
             let mut lent = vec![BEFORE; room];
             assert_eq!(page(text).open(model, &mut lent).0, answer, "room is asked for last");
-            assert_eq!(lent, if room == HEAD { nothing.clone() } else { vec![BEFORE; room] });
+            assert_eq!(lent, if room == length { nothing.clone() } else { vec![BEFORE; room] });
         }
     }
-    for room in [0, HEAD, HEAD + BUFFERS.len() - 1] {
+    for room in [0, HEAD, HEAD + 8, HEAD + FILE.len() - 1] {
         let mut lent = vec![BEFORE; room];
         assert_eq!(page(BUFFERS).open(2, &mut lent).0, 21);
         assert_eq!(lent, vec![BEFORE; room]);
     }
-    let mut lent = vec![BEFORE; HEAD + BUFFERS.len() + 3];
+    let mut lent = vec![BEFORE; HEAD + FILE.len() + 3];
     assert_eq!(page(BUFFERS).open(2, &mut lent).0, 0);
     assert_eq!(lent, [opened(), vec![BEFORE; 3]].concat());
-    assert_eq!(ask(&lent, 0, 1), 12, "with what lies behind it is another text");
+    assert_eq!(ask(&lent, 0, 1), 12, "what lies behind is left over");
 }
 
 #[test]
@@ -240,12 +252,15 @@ fn any_other_byte_is_no_session() {
         }
         assert_eq!(ask(&lent[..place], 3, 2), 12, "cut off at {place}");
     }
-    // In front of the text only the model may be another, where there is PSO, which keeps no more of this trace than TSO does. In the text each
-    // record may be some further thread's, as TSO keeps no pair of this trace; record 2 also thread 0's, for 0 before 2 and 1 before 2 are held already; and the two stores may write other values, which nobody reads.
-    let threads = [0, 13, 26, 39].into_iter().flat_map(|place| [(place, b'3'), (place, b'7')]);
-    let values = [11, 37].into_iter().flat_map(|place| [(place, b'3'), (place, b'7')]);
-    let texts = threads.chain(values).chain([(26, b'0')]).map(|(place, byte)| (HEAD + place, byte));
-    assert_eq!(sessions, texts.chain((MODELS > 2).then_some((0, 3))).collect());
+    // In front of the file only the model may be another, where there is PSO, which keeps no more of this trace than TSO does. All is held along 3, 0, 1,
+    // 2, so what forces nothing against this may be otherwise. Each record may be some further thread's, as TSO keeps no pair of this trace; record 2
+    // also thread 0's, which keeps 0 before 2 and 1 before 2. The two stores may write other values but the first one, as nobody reads them. Record 0
+    // may be a swap of 0: that keeps 0 before 1. Record 2 may not, for it would keep 2 before 3.
+    let threads = [9, 17, 25, 33].into_iter().flat_map(|place| [(place, 2), (place, 3)]);
+    let low = [14, 30].into_iter().flat_map(|place| [2, 3, b'1', b'3', b'7', 64, 255, 129].map(|byte| (place, byte)));
+    let high = [15, 31].into_iter().flat_map(|place| [1, 2, 3, b'1', b'3', b'7', 64, 255, 128].map(|byte| (place, byte)));
+    let files = threads.chain(low).chain(high).chain([(25, 0), (8, 2)]).map(|(place, byte)| (HEAD + place, byte));
+    assert_eq!(sessions, files.chain((MODELS > 2).then_some((0, 3))).collect());
 }
 
 #[test]
@@ -255,8 +270,9 @@ fn bytes_that_are_taken_are_laid_down_the_same() {
     for case in 0..3_000 {
         let family = chance.of(FAMILIES);
         let text = text(family, 21, case);
-        let mut lent = vec![0; HEAD + text.len()];
-        if Page::new(&text, 1).open(chance.between(1, MODELS) as u8, &mut lent).0 != DONE {
+        let page = Page::new(&text, 1);
+        let mut lent = vec![0; HEAD + page.trace().map_or(HEADER, |trace| file_of(trace).len())];
+        if page.open(chance.between(1, MODELS) as u8, &mut lent).0 != DONE {
             continue;
         }
         for _ in 0..chance.below(4) {
@@ -265,8 +281,7 @@ fn bytes_that_are_taken_are_laid_down_the_same() {
         }
         if let Some(session) = taken(&lent) {
             taken_apart += 1;
-            assert_eq!(head_of(&session), lent[..HEAD]);
-            assert_eq!(read_lines(&lent[HEAD..]), Ok(session.trace));
+            assert_eq!([&head_of(&session)[..], &file_of(&session.trace)].concat(), lent);
         }
     }
     assert!(taken_apart > 500, "{taken_apart}");

@@ -102,9 +102,9 @@ pub fn steps(text: &[u8], model: u8, order: &[u16], out: &mut [u8]) -> u8 {
     unsafe { linked::wheelotter_steps(text.as_ptr(), text.len(), model, order.as_ptr(), order.len(), out.as_mut_ptr(), out.len()) }
 }
 
-/// Opens a session on a text in the first [`HEAD`](crate::HEAD) and as many bytes more as the text has; the rest of `session` stays. Where the text,
-/// the model or a missing source forbids it, the first HEAD bytes, if there are so many, are the session of the empty text under model 1. Where
-/// else `session` is too short it stays as it was.
+/// Opens a session on a text in the first [`HEAD`](crate::HEAD) and as many bytes more as the packed file of its trace has, at most
+/// [`SESSION`](crate::SESSION); the rest of `session` stays. Where the text, the model or a missing source forbids it, the front is the session of the
+/// empty text under model 1, if there is room for it. Where else `session` is too short it stays as it was.
 pub fn open(text: &[u8], model: u8, session: &mut [u8]) -> u8 {
     unsafe { linked::wheelotter_open(text.as_ptr(), text.len(), model, session.as_mut_ptr(), session.len()) }
 }

@@ -165,8 +165,9 @@ pub struct Session {
 impl Session {
     /// Refused where the text is turned back, and where it has a missing source: [`verdict`] tells which.
     pub fn open(text: &[u8], model: Model) -> Result<Session, Answer> {
-        let mut bytes = vec![0; HEAD + text.len()];
+        let mut bytes = vec![0; SESSION];
         done(entries::open(text, model as u8, &mut bytes))?;
+        bytes.truncate(HEAD + file_length(&bytes[HEAD..]));
         Ok(Session { bytes })
     }
 
@@ -201,6 +202,12 @@ impl From<Vec<u8>> for Session {
     fn from(bytes: Vec<u8>) -> Session {
         Session { bytes }
     }
+}
+
+/// How many bytes a packed file has, as it says itself.
+fn file_length(file: &[u8]) -> usize {
+    let records = u16::from_le_bytes([file[COUNT], file[COUNT + 1]]);
+    ENTRIES + FIRST * usize::from(file[FIRSTS]) + RECORD * usize::from(records)
 }
 
 fn done(number: u8) -> Result<(), Answer> {

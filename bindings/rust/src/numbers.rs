@@ -21,7 +21,7 @@ pub const OPERATIONS: usize = 2;
 /// Where the rules begin in a verdict.
 pub const RULES: usize = 514;
 
-/// So many bytes of a session stand before its text.
+/// So many bytes of a session stand before its trace's packed file.
 pub const HEAD: usize = 8259;
 
 /// Where the pairs begin in a session.
@@ -32,6 +32,27 @@ pub const MARK: usize = 66;
 
 /// Where the table of what is held begins in a session.
 pub const TABLE: usize = 67;
+
+/// A session has at most so many bytes.
+pub const SESSION: usize = 10363;
+
+/// A packed file has at most so many bytes.
+pub const FILE: usize = 2104;
+
+/// Where a packed file says how many first values it has, in one byte.
+pub const FIRSTS: usize = 5;
+
+/// Where a packed file says how many records it has, in two bytes.
+pub const COUNT: usize = 6;
+
+/// Where the entries begin in a packed file.
+pub const ENTRIES: usize = 8;
+
+/// A first value in a packed file has so many bytes.
+pub const FIRST: usize = 3;
+
+/// A record in a packed file has so many bytes.
+pub const RECORD: usize = 8;
 
 /// What the judge names has so many bytes.
 pub const JUDGEMENT: usize = 4;

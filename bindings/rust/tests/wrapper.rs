@@ -1,9 +1,21 @@
 //! Each kind of answer through the safe functions, worked out from document 01.
 
 use wheelotter::{check, entries, judge, report, run, steps, verdict, Answer, Asked, Judgement, Model, Ran, Refusal, Session, Verdict};
-use wheelotter::{HEAD, JUDGEMENT, MARK, MODELS, OPERATIONS, PAIRS, PLACE, RECORDS, REPLAY, REPORT, RULES, STANDING, STEPS, STEPS_AT, TABLE, TEXT, VERDICT};
+use wheelotter::{
+    COUNT, ENTRIES, FILE, FIRST, FIRSTS, HEAD, JUDGEMENT, MARK, MODELS, OPERATIONS, PAIRS, PLACE, RECORD, RECORDS, REPLAY, REPORT, RULES, SESSION,
+    STANDING, STEPS, STEPS_AT, TABLE, TEXT, VERDICT,
+};
 
 const BUFFERS: &[u8] = b"0: M[0] := 1\n0: M[1] == 0\n1: M[1] := 1\n1: M[0] == 0\n";
+/// The packed file of BUFFERS, by hand from document 02.
+#[rustfmt::skip]
+const PACKED: &[u8] = &[
+    0x50, 0x59, 0x52, 1, 0, 0, 4, 0,
+    1, 0, 0, 0, 0, 0, 1, 0,
+    0, 0, 1, 0, 0, 0, 0, 0,
+    1, 1, 1, 0, 0, 0, 1, 0,
+    0, 1, 0, 0, 0, 0, 0, 0,
+];
 const NO_SOURCE: &[u8] = b"0: M[0] := 1\n0: sync\n0: M[0] == 2\n";
 const KNOT: &[u8] = include_bytes!("../../../tests/traces/knot.txt");
 
@@ -18,6 +30,8 @@ fn the_numbers_of_the_header() {
     assert_eq!([number("VERDICT"), number("OPERATIONS"), number("RULES")], [VERDICT, OPERATIONS, RULES]);
     assert_eq!([number("HEAD"), number("STANDING"), number("MARK"), number("TABLE")], [HEAD, STANDING, MARK, TABLE]);
     assert_eq!([number("PLACE"), number("STEPS"), number("STEPS_AT"), number("REPLAY")], [PLACE, STEPS, STEPS_AT, REPLAY]);
+    assert_eq!([number("SESSION"), number("FILE"), number("FIRSTS"), number("COUNT")], [SESSION, FILE, FIRSTS, COUNT]);
+    assert_eq!([number("ENTRIES"), number("FIRST"), number("RECORD")], [ENTRIES, FIRST, RECORD]);
     assert_eq!(["SC", "TSO", "PSO", "WMO"].map(number), MODELS.map(|model| model as usize));
     assert_eq!(number("MODELS"), MODELS.len());
     for answer in (0..=255).filter_map(Answer::numbered) {
@@ -103,7 +117,7 @@ fn sessions() {
 #[test]
 fn bytes_from_anywhere() {
     let session = Session::open(BUFFERS, Model::Tso).expect("opens");
-    assert_eq!(session.as_bytes().len(), HEAD + BUFFERS.len());
+    assert_eq!(session.as_bytes().len(), HEAD + PACKED.len());
     let mut bytes = session.as_bytes().to_vec();
     assert_eq!(Session::from(bytes.clone()).ask(1, 2), Ok(Asked::Held));
     bytes[MARK] = 1;
@@ -133,5 +147,5 @@ fn a_session_in_bytes() {
         assert_eq!(bytes[TABLE + x * (RECORDS / 8) + y / 8] >> (y % 8) & 1 == 1, held, "{x} {y}");
     }
     assert_eq!(session.ask(3, 2), Ok(Asked::Held));
-    assert_eq!(&bytes[HEAD..], BUFFERS);
+    assert_eq!(&bytes[HEAD..], PACKED);
 }

@@ -15,8 +15,11 @@ use Prim.Native.Nat.{ℕ, _≤_}
 use native.Mathlib.Omega.{arith}
 use lib.ListN.{length, drop}
 use Rattle.laws.proofs.Tests.{off, test}
+use Rattle.trace.specs.declared.Trace.{Trace}
+use Rattle.packed.specs.Layout.{fileOf}
 use Rattle.session.specs.Opening.{isDone}
 use Rattle.session.specs.Closings.{Closings}
+use Rattle.session.specs.Session.{Intact}
 use Rattle.session.specs.Numbers.{reasonNumber, Act, replyOf}
 use Rattle.session.specs.Calls.{after}
 use Rattle.session.specs.declared.Reason.the-variants.{NoModel, NotWellFormed, Unlike, NoOperation, OneRecord, TooManyPairs, NoPair}
@@ -26,19 +29,19 @@ use Rattle.session.specs.declared.Session.{Session}
 use Rattle.session.specs.declared.Reply.{Reply}
 use Rattle.session.proofs.Standing.{act-stays}
 use Rattle.session.proofs.Lasting.{act-intact, act-trace}
-use Rattle.desk.specs.Head.{Fit, HEAD, headOf}
-use Rattle.desk.specs.Kept.{textIn, sessionIn, like, keptOf}
+use Rattle.desk.specs.Head.{Fit, HEAD, headOf, bytesOf}
+use Rattle.desk.specs.Kept.{fileIn, sessionIn, like, keptOf}
 use Rattle.desk.specs.Acts.{codeOf, answerIn, bytesIn, bytesAfter}
 use Rattle.desk.specs.declared.sessions.Lent.{Lent}
 use Rattle.desk.proofs.Laying.{intact-fit}
-use Rattle.desk.proofs.Keeping.{On, like-parts, like-same, named-intact, text-again, session-again, like-again}
+use Rattle.desk.proofs.Keeping.{On, on-own, like-parts, like-same, named-intact, file-again, session-again, like-again}
 
 module _ (C : Closings) (b : List ℕ) (a : Act) where
   answer-like : So (like C b) → answerIn C b a ≡ codeOf (replyOf C (sessionIn C b) a .answer)
   unfolding answerIn
   answer-like s = rw s refl
 
-  bytes-like : So (like C b) → bytesIn C b a ≡ headOf (replyOf C (sessionIn C b) a .session) ++ textIn b
+  bytes-like : So (like C b) → bytesIn C b a ≡ headOf (replyOf C (sessionIn C b) a .session) ++ fileIn b
   unfolding bytesIn
   bytes-like s = rw s refl
 
@@ -76,24 +79,26 @@ module _ (C : Closings) (b : List ℕ) (f : Lent) (e : f ≡ keptOf C b) where
     pub act-lays : headOf (r .session) ++ drop HEAD b ≡ bytesIn C b a
     act-lays = ap (λ (x : Reply). headOf (x .session) ++ drop HEAD b) named ∙ sym (bytes-like C b a (sym lent-like ∙ s))
 
-module _ (C : Closings) (s : Session) (text : List ℕ) (o : On C s text) where
+module _ (C : Closings) (s : Session) (i : Intact C s) where
+  -- it stands on its own file
+  o : On C s (fileOf (s .trace))
+  o = on-own C s i
+
   module _ (a : Act) where
-    pub answer-act : answerIn C (headOf s ++ text) a ≡ codeOf (replyOf C s a .answer)
-    answer-act = answer-like C (headOf s ++ text) a (like-again s text C o) ∙ ap (λ (x : Session). codeOf (replyOf C x a .answer)) (session-again s text C o)
+    pub answer-act : answerIn C (bytesOf s) a ≡ codeOf (replyOf C s a .answer)
+    answer-act = answer-like C (bytesOf s) a (like-again s (fileOf (s .trace)) C o) ∙ ap (λ (x : Session). codeOf (replyOf C x a .answer)) (session-again s (fileOf (s .trace)) C o)
 
-    pub bytes-act : bytesIn C (headOf s ++ text) a ≡ headOf (replyOf C s a .session) ++ text
+    -- a call leaves the trace, so its file stays
+    pub bytes-act : bytesIn C (bytesOf s) a ≡ bytesOf (replyOf C s a .session)
     bytes-act =
-        bytes-like C (headOf s ++ text) a (like-again s text C o)
-        ∙ ap₂ (λ (x : Session) (t : List ℕ). headOf (replyOf C x a .session) ++ t) (session-again s text C o) (text-again s text)
+        bytes-like C (bytesOf s) a (like-again s (fileOf (s .trace)) C o)
+        ∙ ap₂ (λ (x : Session) (t : List ℕ). headOf (replyOf C x a .session) ++ t) (session-again s (fileOf (s .trace)) C o) (file-again s (fileOf (s .trace)))
+        ∙ ap (λ (t : Trace). headOf (replyOf C s a .session) ++ fileOf t) (sym (act-trace C s i a))
 
-    -- the session after the call is on the same text
-    on-next : On C (replyOf C s a .session) text
-    on-next = record { intact = act-intact C s (o .intact) a; good = o .good; trace = act-trace C s (o .intact) a ∙ o .trace }
-
-pub bytes-after : (C : Closings) (cs : List Act) (s : Session) (text : List ℕ) → On C s text → bytesAfter C (headOf s ++ text) cs ≡ headOf (after C s cs) ++ text
+pub bytes-after : (C : Closings) (cs : List Act) (s : Session) → Intact C s → bytesAfter C (bytesOf s) cs ≡ bytesOf (after C s cs)
 unfolding bytesAfter after
-bytes-after C [] s text o = refl
-bytes-after C (a ∷ cs) s text o = ap (λ (b : List ℕ). bytesAfter C b cs) (bytes-act C s text o a) ∙ bytes-after C cs (replyOf C s a .session) text (on-next C s text o a)
+bytes-after C [] s i = refl
+bytes-after C (a ∷ cs) s i = ap (λ (b : List ℕ). bytesAfter C b cs) (bytes-act C s i a) ∙ bytes-after C cs (replyOf C s a .session) (act-intact C s i a)
 
 -- an answer is 0 exactly where the call was done
 pub code-done : (a : Answer) → codeOf a ≡ 0 → So (isDone a)
@@ -122,7 +127,7 @@ pub given : (C : Closings) (b : List ℕ) (a : Act) → answerIn C b a ≢ 0 →
 given C b a n = elim (test (like C b)) [
   | inl l ↦
       bytes-like C b a l
-      ∙ ap (λ (x : Session). headOf x ++ textIn b) (act-stays C (sessionIn C b) a (off (λ d. n (answer-like C b a l ∙ done-code (replyOf C (sessionIn C b) a .answer) d))))
+      ∙ ap (λ (x : Session). headOf x ++ fileIn b) (act-stays C (sessionIn C b) a (off (λ d. n (answer-like C b a l ∙ done-code (replyOf C (sessionIn C b) a .answer) d))))
       ∙ like-same C b l
   | inr u ↦ bytes-unlike C b a u
 ]

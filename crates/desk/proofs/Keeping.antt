@@ -1,13 +1,14 @@
 -- A session in bytes.
 --
---   like-parts, like-same  == what the test of bytes says: they are the head of the session that they name, then its text
---   behind                 == the text, as a part of the bytes
+--   like-parts, like-same  == what the test of bytes says: they are the head of the session that they name, then its file
+--   behind                 == the file, as a part of the bytes
 --   kept-like, kept-unlike == the session that bytes are, or none
---   unlike-short, unlike-text, unlike-made, unlike-head == the test fails at one of its parts
+--   unlike-short, unlike-file, unlike-made, unlike-head == the test fails at one of its parts
 --   named-intact, named-trace == the session that bytes name
---   text-again, session-again, like-again == the bytes of an intact session are like, and name that session
---   like-exactly           == bytes are like exactly where they are those of an intact session
---   bytes-one              == two intact sessions with the same bytes are one, on one text
+--   file-again, session-again, like-again == the bytes of an intact session are like, and name that session
+--   on-own, session-bytes  == an intact session stands on its trace's file, and its bytes name it
+--   like-own, like-exactly == bytes are like exactly where they are those of an intact session, the one that they name
+--   bytes-one, session-one == equal sessions are equal bytes: of intact sessions, and of bytes that are like
 use mathlib.Core.Path.{_≡_, refl, sym, ap, ap₂, _∙_, subst}
 use mathlib.Core.Logic.{_≢_, _↔_}
 use mathlib.Core.Bool.{Bool, true, false, So, false≢true}
@@ -20,7 +21,15 @@ use Rattle.laws.specs.Warshall.{row}
 use Rattle.laws.proofs.Tests.{off, and-iff, same-iff, so-le, so-eq}
 use Rattle.laws.proofs.Alike.{alike-iff}
 use Rattle.laws.proofs.Rows.{row-long, row-place}
-use Rattle.reader.specs.Read.{readText}
+use Rattle.packed.specs.Layout.{fileOf}
+use Rattle.packed.specs.Read.{readFile}
+use Rattle.packed.specs.declared.Reason.the-variants.{PastBound, FirstValue, TooMany, Twice, NoFile, OtherVersion, NoEntry}
+use Rattle.packed.specs.declared.Answer.{Answer}
+use Rattle.packed.specs.declared.Answer.the-variants as told
+use Rattle.packed.specs.declared.Reading.{Reading}
+use Rattle.packed.proofs.Codec.{Bytes, bytes-drop}
+use Rattle.packed.proofs.RoundTrip.{read-file, file-only}
+use Rattle.trace.specs.WellFormed.{wellFormed}
 use Rattle.trace.specs.declared.Trace.{Trace}
 use Rattle.session.specs.Bounds.{PAIRS}
 use Rattle.session.specs.Stack.{unused, pairAt, standing}
@@ -34,12 +43,13 @@ use Rattle.session.specs.declared.Stack.{Stack}
 use Rattle.session.specs.declared.Session.{Session}
 use Rattle.session.specs.declared.Reply.{Reply}
 use Rattle.session.proofs.Pairs.{stands-iff}
+use Rattle.session.proofs.Openings.{openable-iff}
 use Rattle.session.proofs.Sessions.{intact-stands}
 use Rattle.session.proofs.Answering.{afresh-done, afresh-allows}
 use Rattle.session.proofs.Lasting.{made-intact}
-use Rattle.desk.specs.Text.{linesOf}
-use Rattle.desk.specs.Head.{BYTE, FRONT, TABLE, HEAD, numberAt, frontAt, tableAt, headOf}
-use Rattle.desk.specs.Kept.{textIn, twoIn, pairIn, stackIn, madeIn, sessionIn, like, keptOf}
+use Rattle.desk.specs.File.{fileNumberIn, fileNumber}
+use Rattle.desk.specs.Head.{BYTE, FRONT, TABLE, HEAD, numberAt, frontAt, tableAt, headOf, bytesOf}
+use Rattle.desk.specs.Kept.{fileIn, twoIn, pairIn, stackIn, madeIn, sessionIn, like, keptOf}
 use Rattle.desk.specs.declared.sessions.Lent.{Lent}
 use Rattle.desk.proofs.Laying.{number-first, number-second, byte-lower, byte-upper, front-model, front-count, front-pair, head-long}
 
@@ -48,14 +58,14 @@ abbrev both : Bool → Session → Lent
 both l s = record { like = l; session = s }
 
 -- all that stands behind the head
-pub behind : (b : List ℕ) → take (length b - HEAD) (drop HEAD b) ≡ textIn b
+pub behind : (b : List ℕ) → take (length b - HEAD) (drop HEAD b) ≡ fileIn b
 behind b = take-all (length b - HEAD) (drop HEAD b) (omega (arith, length-drop HEAD b))
 
 module _ (C : Closings) (b : List ℕ) where
   -- the parts of the test
   pub record Parts : Type 0 where
     pub long : HEAD ≤ length b
-    pub good : linesOf (textIn b) ≡ 0
+    pub good : fileNumber (fileIn b) ≡ 0
     pub done : So (isDone (madeIn C b .answer))
     pub head : headOf (sessionIn C b) ≡ take HEAD b
 
@@ -67,8 +77,8 @@ module _ (C : Closings) (b : List ℕ) where
         λ p. i .1 (((p .long, p .good), p .done), p .head),
       )
 
-  pub like-same : So (like C b) → headOf (sessionIn C b) ++ textIn b ≡ b
-  like-same s = ap (λ (h : List ℕ). h ++ textIn b) (like-parts .0 s .head) ∙ take-append-drop HEAD b
+  pub like-same : So (like C b) → headOf (sessionIn C b) ++ fileIn b ≡ b
+  like-same s = ap (λ (h : List ℕ). h ++ fileIn b) (like-parts .0 s .head) ∙ take-append-drop HEAD b
 
   pub kept-like : So (like C b) → (s : Session) → s ≡ sessionIn C b → both true s ≡ keptOf C b
   unfolding keptOf
@@ -82,8 +92,8 @@ module _ (C : Closings) (b : List ℕ) where
   pub unlike-short : length b < HEAD → like C b ≡ false
   unlike-short h = off (λ l. let g = like-parts .0 l .long in omega arith)
 
-  pub unlike-text : linesOf (textIn b) ≢ 0 → like C b ≡ false
-  unlike-text d = off (λ l. d (like-parts .0 l .good))
+  pub unlike-file : fileNumber (fileIn b) ≢ 0 → like C b ≡ false
+  unlike-file d = off (λ l. d (like-parts .0 l .good))
 
   pub unlike-made : isDone (madeIn C b .answer) ≡ false → like C b ≡ false
   unlike-made n = off (λ l. false≢true (sym n ∙ like-parts .0 l .done))
@@ -94,33 +104,47 @@ module _ (C : Closings) (b : List ℕ) where
   -- what bytes name is intact, whatever they are
   pub named-intact : Intact C (sessionIn C b)
   unfolding madeIn
-  named-intact = made-intact C (readText (textIn b) .trace) (getD b 0 0) (stackIn b)
+  named-intact = made-intact C (readFile (fileIn b) .trace) (getD b 0 0) (stackIn b)
 
-  pub named-trace : So (isDone (madeIn C b .answer)) → sessionIn C b .trace ≡ readText (textIn b) .trace
+  pub named-trace : So (isDone (madeIn C b .answer)) → sessionIn C b .trace ≡ readFile (fileIn b) .trace
   unfolding madeIn afresh
   named-trace d =
-      let t = readText (textIn b) .trace in
+      let t = readFile (fileIn b) .trace in
       sym (ap (λ (r : Reply). r .session .trace) (afresh-done C t (getD b 0 0) (stackIn b) (afresh-allows C t (getD b 0 0) (stackIn b) d) (afresh C t (getD b 0 0) (standing (stackIn b))) refl))
 
--- an intact session on the trace of a good text
-pub record On (C : Closings) (s : Session) (text : List ℕ) : Type 0 where
-  pub intact : Intact C s
-  pub good : linesOf text ≡ 0
-  pub trace : s .trace ≡ readText text .trace
+-- a reading without a number is good
+good-answer : (r : Reading) → fileNumberIn (r .answer) ≡ 0 → r ≡ record { answer = told.Good; trace = r .trace }
+good-answer r z = ap (λ (a : Answer). record { answer = a; trace = r .trace }) (go (r .answer) z)
+  where
+    go : (a : Answer) → fileNumberIn a ≡ 0 → a ≡ told.Good
+    go told.Good e = refl
+    go (told.Refused PastBound n) e = absurd (omega arith)
+    go (told.Refused FirstValue n) e = absurd (omega arith)
+    go (told.Refused TooMany n) e = absurd (omega arith)
+    go (told.Refused Twice n) e = absurd (omega arith)
+    go (told.Refused NoFile n) e = absurd (omega arith)
+    go (told.Refused OtherVersion n) e = absurd (omega arith)
+    go (told.Refused NoEntry n) e = absurd (omega arith)
 
-module _ (s : Session) (text : List ℕ) where
+-- an intact session on the trace of a good file
+pub record On (C : Closings) (s : Session) (file : List ℕ) : Type 0 where
+  pub intact : Intact C s
+  pub good : fileNumber file ≡ 0
+  pub trace : s .trace ≡ readFile file .trace
+
+module _ (s : Session) (file : List ℕ) where
   -- the bytes of the session
   abbrev whole : List ℕ
-  whole = headOf s ++ text
+  whole = headOf s ++ file
 
-  pub text-again : textIn whole ≡ text
-  text-again = drop-at (headOf s) text HEAD (head-long s)
+  pub file-again : fileIn whole ≡ file
+  file-again = drop-at (headOf s) file HEAD (head-long s)
 
   front-place : (j : ℕ) → j < FRONT → getD whole j 0 ≡ frontAt s j
   unfolding headOf
   front-place j h =
       let n = row-long (frontAt s) 0 FRONT in
-      List·getD-append (headOf s) text 0 j (omega (arith, head-long s))
+      List·getD-append (headOf s) file 0 j (omega (arith, head-long s))
       ∙ List·getD-append (row (frontAt s) 0 FRONT) (row (tableAt (s .held)) 0 TABLE) 0 j (omega arith)
       ∙ row-place (frontAt s) 0 FRONT j h
 
@@ -163,13 +187,13 @@ module _ (s : Session) (text : List ℕ) where
       (λ i h. let m : i < PAIRS = omega (arith, row-long (pairIn whole) 0 PAIRS) in row-place (pairIn whole) unused PAIRS i m ∙ pair-again i m))
       (front-place 1 (omega arith) ∙ front-count s 1 refl)
 
-  module _ (C : Closings) (o : On C s text) where
+  module _ (C : Closings) (o : On C s file) where
     made-again : madeIn C whole ≡ record { answer = Done; session = s }
     unfolding madeIn
     made-again =
         let i = o .intact in
         let k = intact-stands C s i in
-        ap (λ (t : Trace). afreshOf C t (getD whole 0 0) (stackIn whole)) (ap (λ (x : List ℕ). readText x .trace) text-again ∙ sym (o .trace))
+        ap (λ (t : Trace). afreshOf C t (getD whole 0 0) (stackIn whole)) (ap (λ (x : List ℕ). readFile x .trace) file-again ∙ sym (o .trace))
         ∙ ap₂ (λ (m : ℕ) (q : Stack). afreshOf C (s .trace) m q) (front-place 0 (omega arith) ∙ front-model s 0 refl) (stack-again (k .long))
         ∙ sym (afresh-done C (s .trace) (s .model) (s .stack) (and-iff same-iff (stands-iff (s .trace) (s .stack)) .1 (i .opens, k)) s (i .same))
 
@@ -178,20 +202,45 @@ module _ (s : Session) (text : List ℕ) where
 
     pub like-again : So (like C whole)
     like-again = like-parts C whole .1 (record {
-      long = omega (arith, length-append (headOf s) text, head-long s);
-      good = ap linesOf text-again ∙ o .good;
+      long = omega (arith, length-append (headOf s) file, head-long s);
+      good = ap fileNumber file-again ∙ o .good;
       done = ap (λ (r : Reply). isDone (r .answer)) made-again;
-      head = ap headOf session-again ∙ sym (take-at (headOf s) text HEAD (head-long s));
+      head = ap headOf session-again ∙ sym (take-at (headOf s) file HEAD (head-long s));
     })
 
-pub like-exactly : (C : Closings) (b : List ℕ) → So (like C b) ↔ ((s : Session) × (text : List ℕ) × On C s text × (b ≡ headOf s ++ text))
-like-exactly C b = (
-  λ l. let p = like-parts C b .0 l in (sessionIn C b, textIn b, record { intact = named-intact C b; good = p .good; trace = named-trace C b (p .done) }, sym (like-same C b l)),
-  λ w. subst (λ (x : List ℕ). So (like C x)) (sym (w .3)) (like-again (w .0) (w .1) C (w .2)),
+-- a session's own file
+module _ (C : Closings) (s : Session) (i : Intact C s) where
+  own : So (wellFormed (s .trace))
+  own = openable-iff (s .trace) (s .model) .0 (i .opens) .form
+
+  pub on-own : On C s (fileOf (s .trace))
+  on-own =
+      let r = read-file (s .trace) own in
+      record { intact = i; good = ap (λ (x : Reading). fileNumberIn (x .answer)) r; trace = sym (ap (λ (x : Reading). x .trace) r) }
+
+  -- of bytes, it is the only one that the session stands on
+  own-only : (file : List ℕ) → Bytes file → On C s file → file ≡ fileOf (s .trace)
+  own-only file h o =
+      let e = good-answer (readFile file) (o .good) in
+      file-only file (readFile file .trace) h e .1 ∙ ap fileOf (sym (o .trace))
+
+  pub session-bytes : sessionIn C (bytesOf s) ≡ s
+  session-bytes = session-again s (fileOf (s .trace)) C on-own
+
+pub like-own : (C : Closings) (b : List ℕ) → Bytes b → So (like C b) → b ≡ bytesOf (sessionIn C b)
+like-own C b h l =
+    let p = like-parts C b .0 l in
+    let o : On C (sessionIn C b) (fileIn b) = record { intact = named-intact C b; good = p .good; trace = named-trace C b (p .done) } in
+    sym (like-same C b l) ∙ ap (λ (f : List ℕ). headOf (sessionIn C b) ++ f) (own-only C (sessionIn C b) (named-intact C b) (fileIn b) (bytes-drop HEAD b h) o)
+
+pub like-exactly : (C : Closings) (b : List ℕ) → Bytes b → So (like C b) ↔ ((s : Session) × Intact C s × (b ≡ bytesOf s))
+like-exactly C b h = (
+  λ l. (sessionIn C b, named-intact C b, like-own C b h l),
+  λ w. subst (λ (x : List ℕ). So (like C x)) (sym (w .2)) (like-again (w .0) (fileOf (w .0 .trace)) C (on-own C (w .0) (w .1))),
 )
 
-pub bytes-one : (C : Closings) (s s′ : Session) (text text′ : List ℕ) → On C s text → On C s′ text′ → headOf s ++ text ≡ headOf s′ ++ text′ → (s ≡ s′) × (text ≡ text′)
-bytes-one C s s′ text text′ o o′ e = (
-  sym (session-again s text C o) ∙ ap (λ (b : List ℕ). sessionIn C b) e ∙ session-again s′ text′ C o′,
-  sym (text-again s text) ∙ ap (λ (b : List ℕ). textIn b) e ∙ text-again s′ text′,
-)
+pub bytes-one : (C : Closings) (s s′ : Session) → Intact C s → Intact C s′ → (s ≡ s′) ↔ (bytesOf s ≡ bytesOf s′)
+bytes-one C s s′ i i′ = (ap bytesOf, λ e. sym (session-bytes C s i) ∙ ap (λ (b : List ℕ). sessionIn C b) e ∙ session-bytes C s′ i′)
+
+pub session-one : (C : Closings) (b b′ : List ℕ) → Bytes b → Bytes b′ → So (like C b) → So (like C b′) → sessionIn C b ≡ sessionIn C b′ → b ≡ b′
+session-one C b b′ h h′ l l′ e = like-own C b h l ∙ ap bytesOf e ∙ sym (like-own C b′ h′ l′)

@@ -8,6 +8,7 @@ pub mod Tabled
 pub mod Keeping
 pub mod Acting
 pub mod Opens
+pub mod Packing
 pub mod Heard
 pub mod Sourceless
 pub mod One

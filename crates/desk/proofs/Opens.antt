@@ -3,31 +3,30 @@
 --   bad-number, bad-session, good-number, good-session == by whether the text is good
 --   session-intact == the session laid down is intact
 --   never-ten      == 10 never comes
---   no-room, open-short, open-turned, open-done == the answer and the bytes, as the entry learns them
+--   opened-trace   == where one is opened it is on the text's trace
+--   open-turned, open-done, no-room == the answer, as the entry learns it
 --   opened-bytes   == the bytes of an opened session
 --   after-bytes    == opened bytes after any calls are those of the session made afresh with the pairs still standing
 --   again-bytes    == hence those of opening afresh and supposing the pairs still standing in turn
 use mathlib.Core.Path.{_≡_, refl, sym, ap, ap₂, _∙_, subst}
 use mathlib.Core.Logic.{_≢_, inl, inr}
 use mathlib.Core.Bool.{false, So}
-use mathlib.Core.List.{List, [], _++_, append-assoc, append-nil}
-use Prim.Native.Nat.{ℕ, _+_, _<_, _≤_}
+use mathlib.Core.List.{List, [], _++_, append-nil}
+use Prim.Native.Nat.{ℕ, _+_}
 use native.Mathlib.Omega.{arith}
-use lib.Dec.{eqb}
-use lib.ListN.{length, take, drop, drop-of-length-le, length-append, length-drop}
-use lib.Seq.{take-length, take-at, drop-at, drop-drop}
-use borrow.Author.Tests.{eq-eqb, ne-eqb, le-leb, lt-leb}
+use lib.Dec.{leb}
+use lib.ListN.{length, drop-of-length-le, length-append}
+use borrow.Author.Tests.{eq-eqb, ne-eqb}
 use Rattle.laws.proofs.Tests.{eq?, test}
 use Rattle.text.specs.Room.{putAt}
-use Rattle.text.proofs.Put.{put-paste}
+use Rattle.text.proofs.Put.{put-front}
+use Rattle.packed.specs.Layout.{fileOf}
 use Rattle.trace.specs.declared.Trace.{Trace}
-use Rattle.reader.specs.Read.{readText}
 use Rattle.reader.specs.Whole.{readWhole}
 use Rattle.reader.specs.declared.Reason.the-variants.{LongText, LongLine, NoForm, PastBound, Addresses, FirstValue, TooMany, Twice, Late}
 use Rattle.reader.specs.declared.Answer as told
-use Rattle.reader.specs.declared.Reading.{Reading}
 use Rattle.reader.specs.declared.Answer.the-variants as turned
-use Rattle.reader.proofs.Whole.{whole-same, whole-well}
+use Rattle.reader.proofs.Whole.{whole-well}
 use Rattle.pairs.specs.Kept.{modelled}
 use Rattle.orders.specs.MissingOf.{missingOf}
 use Rattle.orders.specs.declared.sources.Found.{Found}
@@ -46,12 +45,11 @@ use Rattle.session.proofs.Standing.{opened, after-opened, after-again}
 use Rattle.session.proofs.Lasting.{blank-intact, opened-intact}
 use Rattle.desk.specs.Answers.{NO-ROOM}
 use Rattle.desk.specs.Text.{numberIn, numberOf}
-use Rattle.desk.specs.Head.{HEAD, headOf}
+use Rattle.desk.specs.Head.{HEAD, headOf, bytesOf}
 use Rattle.desk.specs.Acts.{codeOf, bytesAfter}
-use Rattle.desk.specs.Opened.{openNumber, openSession, openAnswer, openBytes}
+use Rattle.desk.specs.Opened.{openFile, roomy, openNumber, openSession, openAnswer, openBytes}
 use Rattle.desk.proofs.Laying.{head-long}
-use Rattle.desk.proofs.Keeping.{On}
-use Rattle.desk.proofs.Acting.{bytes-after, done-code}
+use Rattle.desk.proofs.Acting.{bytes-after, code-done}
 
 module _ (text : List ℕ) (m : ℕ) where
   -- the trace that the text writes
@@ -112,93 +110,57 @@ module _ (text : List ℕ) (m : ℕ) where
       bad-ten (turned.Refused Late n) e = omega arith
       bad-ten turned.Lost e = omega arith
 
+  -- an opened session is on the text's trace
+  pub opened-trace : openNumber text m ≡ 0 → (C : Closings) → openSession C text m .trace ≡ trace
+  unfolding openable afresh
+  opened-trace z C = elim (eq? (numberOf text) 0) [
+    | inl g ↦ ap (λ (s : Session). s .trace) (good-session g C ∙ opened C trace m (code-done (openingOf trace m) (sym (good-number g) ∙ z)))
+    | inr d ↦ absurd (d (sym (bad-number d) ∙ z))
+  ]
+
   module _ (b : List ℕ) where
-    module _ (z : openNumber text m ≡ 0) where
-      pub no-room : length b < HEAD + length text → (NO-ROOM ≡ openAnswer text m b) × ((C : Closings) → b ≡ openBytes C text m b)
-      unfolding openAnswer openBytes
-      no-room h = (rw (eq-eqb _ _ z, lt-leb _ _ h) refl, λ C. rw (eq-eqb _ _ z, lt-leb _ _ h) refl)
+    pub open-turned : openNumber text m ≢ 0 → openAnswer text m b ≡ openNumber text m
+    unfolding openAnswer
+    open-turned d = rw (ne-eqb (openNumber text m) 0 d) refl
 
-    module _ (n : ℕ) (e : n ≡ openNumber text m) (d : n ≢ 0) where
-      off-zero : eqb (openNumber text m) 0 ≡ false
-      off-zero = ne-eqb (openNumber text m) 0 (λ z. d (e ∙ z))
+    module _ (z : openNumber text m ≡ 0) (C : Closings) where
+      -- room for the session is room for a head and the file
+      same-room : leb (length (bytesOf (openSession C text m))) (length b) ≡ roomy text b
+      same-room =
+          let s = openSession C text m in
+          ap (λ (n : ℕ). leb n (length b)) (length-append (headOf s) (fileOf (s .trace)) ∙ ap₂ (λ (n : ℕ) (t : Trace). n + length (fileOf t)) (head-long s) (opened-trace z C))
 
-      turned-answer : n ≡ openAnswer text m b
+      pub open-done : So (leb (length (bytesOf (openSession C text m))) (length b)) → openAnswer text m b ≡ 0
       unfolding openAnswer
-      turned-answer = rw off-zero e
+      open-done r = let y : So (roomy text b) = sym same-room ∙ r in rw (eq-eqb (openNumber text m) 0 z, y) refl
 
-      pub open-short : length b < HEAD → (n ≡ openAnswer text m b) × ((C : Closings) → b ≡ openBytes C text m b)
-      unfolding openBytes
-      open-short h = (turned-answer, λ C. rw (off-zero, lt-leb _ _ h) refl)
+      pub no-room : leb (length (bytesOf (openSession C text m))) (length b) ≡ false → openAnswer text m b ≡ NO-ROOM
+      unfolding openAnswer
+      no-room r = let n : roomy text b ≡ false = sym same-room ∙ r in rw (eq-eqb (openNumber text m) 0 z, n) refl
 
-      pub open-turned : HEAD ≤ length b → (now : List ℕ) → ((C : Closings) → now ≡ headOf (openSession C text m) ++ drop HEAD b) → (n ≡ openAnswer text m b) × ((C : Closings) → now ≡ openBytes C text m b)
-      unfolding openBytes
-      open-turned h now q = (turned-answer, λ C. rw (off-zero, le-leb _ _ h) (q C))
+    module _ (C : Closings) (g : numberOf text ≡ 0) (o : So (openable trace m)) (l : length b ≡ HEAD + length (openFile text)) where
+      -- the opened session, and its trace
+      abbrev first : Session
+      first = openOf C trace m .session
 
-    module _ (h : HEAD + length text ≤ length b) where
-      -- the text laid down behind the head
-      module _ (C : Closings) (mid : List ℕ) (p : mid ≡ headOf (openSession C text m) ++ drop HEAD b) where
-        abbrev head : List ℕ
-        head = headOf (openSession C text m)
+      on-trace : first .trace ≡ trace
+      unfolding afresh
+      on-trace = ap (λ (s : Session). s .trace) (opened C trace m o)
 
-        long : length head ≡ HEAD
-        long = head-long (openSession C text m)
-
-        room : HEAD + length text ≤ length mid
-        room = omega (arith, ap length p, length-append head (drop HEAD b), length-drop HEAD b, long)
-
-        front : take HEAD mid ≡ head
-        front = ap (take HEAD) p ∙ take-at head (drop HEAD b) HEAD long
-
-        rest : drop (HEAD + length text) mid ≡ drop (HEAD + length text) b
-        rest =
-            sym (drop-drop (length text) HEAD mid)
-            ∙ ap (drop (length text)) (ap (drop HEAD) p ∙ drop-at head (drop HEAD b) HEAD long)
-            ∙ drop-drop (length text) HEAD b
-
-        put-behind : putAt text mid HEAD ≡ headOf (openSession C text m) ++ (text ++ drop (HEAD + length text) b)
-        put-behind =
-            put-paste text mid HEAD room
-            ∙ ap₂ (λ (x y : List ℕ). x ++ y ++ drop (HEAD + length text) mid) front (take-length text)
-            ∙ ap (λ (x : List ℕ). head ++ text ++ x) rest
-            ∙ append-assoc head text (drop (HEAD + length text) b)
-
-      pub open-done : (n : ℕ) (mid now : List ℕ) → n ≡ openNumber text m → n ≡ 0 → ((C : Closings) → mid ≡ headOf (openSession C text m) ++ drop HEAD b) → now ≡ putAt text mid HEAD
-          → (0 ≡ openAnswer text m b) × ((C : Closings) → now ≡ openBytes C text m b)
-      unfolding openAnswer openBytes
-      open-done n mid now e z p q =
-          let y = eq-eqb (openNumber text m) 0 (sym e ∙ z) in
-          (rw (y, le-leb _ _ h) refl, λ C. rw (y, le-leb _ _ h) (q ∙ put-behind C mid (p C)))
-
-    module _ (C : Closings) (g : numberOf text ≡ 0) (o : So (openable trace m)) (l : length b ≡ HEAD + length text) where
-      done : openNumber text m ≡ 0
-      unfolding openable
-      done = good-number g ∙ done-code (openingOf trace m) o
-
-      pub opened-bytes : openBytes C text m b ≡ headOf (openOf C trace m .session) ++ text
+      pub opened-bytes : openBytes C text m b ≡ bytesOf first
       unfolding openBytes
       opened-bytes =
-          rw (eq-eqb (openNumber text m) 0 done, le-leb (HEAD + length text) (length b) (omega arith))
-          (ap₂ (λ (s : Session) (r : List ℕ). headOf s ++ (text ++ r)) (good-session g C) (drop-of-length-le b {i = HEAD + length text} (omega arith))
-          ∙ ap (λ (r : List ℕ). headOf (openOf C trace m .session) ++ r) (append-nil text))
+          let n : length (bytesOf first) ≡ length b = length-append (headOf first) (fileOf (first .trace)) ∙ ap₂ (λ (n : ℕ) (t : Trace). n + length (fileOf t)) (head-long first) on-trace ∙ sym l in
+          ap (λ (s : Session). putAt (bytesOf s) b 0) (good-session g C)
+          ∙ put-front (bytesOf first) b (omega arith)
+          ∙ ap (λ (r : List ℕ). bytesOf first ++ r) (drop-of-length-le b {i = length (bytesOf first)} (omega arith))
+          ∙ append-nil (bytesOf first)
 
-      -- no core is lost, so the text is read as its lines are
-      plain : readWhole text ≡ readText text
-      plain = whole-same text (λ q. let n : numberIn (readWhole text .answer) ≡ numberIn turned.Lost = ap numberIn q in omega arith)
+      run : (cs : List Act) → bytesAfter C (openBytes C text m b) cs ≡ bytesOf (after C first cs)
+      run cs = ap (λ (x : List ℕ). bytesAfter C x cs) opened-bytes ∙ bytes-after C cs first (opened-intact C trace m)
 
-      -- the opened session stands on the text
-      on : On C (openOf C trace m .session) text
-      unfolding afresh
-      on = record {
-        intact = opened-intact C trace m;
-        good = ap (λ (r : Reading). numberIn (r .answer)) (sym plain) ∙ g;
-        trace = ap (λ (s : Session). s .trace) (opened C trace m o) ∙ ap (λ (r : Reading). r .trace) plain;
-      }
-
-      run : (cs : List Act) → bytesAfter C (openBytes C text m b) cs ≡ headOf (after C (openOf C trace m .session) cs) ++ text
-      run cs = ap (λ (x : List ℕ). bytesAfter C x cs) opened-bytes ∙ bytes-after C cs (openOf C trace m .session) text on
-
-      pub after-bytes : (cs : List Act) → bytesAfter C (openBytes C text m b) cs ≡ headOf (afresh C trace m (standingAfter trace [] cs)) ++ text
-      after-bytes cs = run cs ∙ ap (λ (s : Session). headOf s ++ text) (after-opened C trace m o cs)
+      pub after-bytes : (cs : List Act) → bytesAfter C (openBytes C text m b) cs ≡ bytesOf (afresh C trace m (standingAfter trace [] cs))
+      after-bytes cs = run cs ∙ ap bytesOf (after-opened C trace m o cs)
 
       pub again-bytes : (cs : List Act) → bytesAfter C (openBytes C text m b) cs ≡ bytesAfter C (openBytes C text m b) (supposeAll (standingAfter trace [] cs))
-      again-bytes cs = run cs ∙ ap (λ (s : Session). headOf s ++ text) (after-again C trace m o cs) ∙ sym (run (supposeAll (standingAfter trace [] cs)))
+      again-bytes cs = run cs ∙ ap bytesOf (after-again C trace m o cs) ∙ sym (run (supposeAll (standingAfter trace [] cs)))

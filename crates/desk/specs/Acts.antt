@@ -14,7 +14,7 @@ use Rattle.session.specs.declared.Answer.{Answer}
 use Rattle.session.specs.declared.Answer.the-variants.{Done, Held, NotHeld, Contradicted, NoSource, Refused}
 use Rattle.desk.specs.Answers.{HELD, NOT-HELD, CONTRADICTED, NO-SOURCE}
 use Rattle.desk.specs.Head.{headOf}
-use Rattle.desk.specs.Kept.{textIn, sessionIn, like}
+use Rattle.desk.specs.Kept.{fileIn, sessionIn, like}
 
 abbrev pub codeOf : Answer → ℕ
 codeOf Done = 0
@@ -28,7 +28,7 @@ unfoldable pub answerIn : Closings → List ℕ → Act → ℕ
 answerIn C b a = cond (like C b) (codeOf (replyOf C (sessionIn C b) a .answer)) (reasonNumber Unlike)
 
 unfoldable pub bytesIn : Closings → List ℕ → Act → List ℕ
-bytesIn C b a = cond (like C b) (headOf (replyOf C (sessionIn C b) a .session) ++ textIn b) b
+bytesIn C b a = cond (like C b) (headOf (replyOf C (sessionIn C b) a .session) ++ fileIn b) b
 
 unfoldable pub bytesAfter : Closings → List ℕ → List Act → List ℕ
 bytesAfter C b [] = b

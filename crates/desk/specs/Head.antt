@@ -1,4 +1,4 @@
--- The head of a session in bytes: all of it but its trace's text.
+-- The bytes of a session: its head, then its trace's packed file.
 --
 --   Fit s          == the session's trace and model open one, and its pairs stand on it, so that each part fits its bytes
 --   BYTE           == how many numbers a byte can be
@@ -11,6 +11,7 @@
 --   byteOf w j     == byte j of a word, counted from the lowest
 --   tableAt held i == byte i of the table: the words of its rows in turn, the lowest byte of each first
 --   headOf s       == the head of a session
+--   bytesOf s      == the bytes of a session
 use mathlib.Core.Bool.{So, cond}
 use mathlib.Core.List.{List, _++_}
 use Prim.Native.Nat.{ℕ, _+_, _*_, _-_, _/_, _%_, _^_}
@@ -19,6 +20,7 @@ use lib.ListN.{getD}
 use Rattle.laws.specs.Sums.{num}
 use Rattle.laws.specs.Warshall.{row}
 use Rattle.trace.specs.Bounds.{RECORDS}
+use Rattle.packed.specs.Layout.{fileOf}
 use Rattle.session.specs.Bounds.{PAIRS}
 use Rattle.session.specs.Stack.{pairAt, Stands}
 use Rattle.session.specs.Opening.{openable}
@@ -61,3 +63,6 @@ tableAt held i = byteOf (getD held (i / 8) 0) (i % 8)
 
 unfoldable pub headOf : Session → List ℕ
 headOf s = row (frontAt s) 0 FRONT ++ row (tableAt (s .held)) 0 TABLE
+
+abbrev pub bytesOf : Session → List ℕ
+bytesOf s = headOf s ++ fileOf (s .trace)

@@ -1,10 +1,10 @@
--- A session in bytes: its head, then its trace's text. C has what the rules come to.
+-- A session in bytes: its head, then its trace's packed file to the end. C has what the rules come to.
 --
---   textIn b      == the text
+--   fileIn b      == the file
 --   twoIn b i     == the number that two bytes make from place i on, the lower first
 --   pairIn b i    == the pair at place i
 --   stackIn b     == the pairs that the bytes name
---   madeIn C b    == the session on the text's trace with the model and the pairs that the bytes name, made afresh, or that there is none
+--   madeIn C b    == the session on the file's trace with the model and the pairs that the bytes name, made afresh, or that there is none
 --   sessionIn C b == the session
 --   like C b      == the bytes are those of a session that opening and supposing make
 --   keptOf C b    == whether the bytes are those of a session, and which; beside a no that of the empty trace under model 1
@@ -15,7 +15,7 @@ use lib.Dec.{eqb, leb}
 use lib.ListN.{length, getD, take, drop}
 use Rattle.laws.specs.Alike.{alike}
 use Rattle.laws.specs.Warshall.{row}
-use Rattle.reader.specs.Read.{readText}
+use Rattle.packed.specs.Read.{readFile}
 use Rattle.session.specs.Bounds.{PAIRS}
 use Rattle.session.specs.Opening.{isDone}
 use Rattle.session.specs.Closings.{Closings}
@@ -26,11 +26,11 @@ use Rattle.session.specs.declared.Stack.{Stack}
 use Rattle.session.specs.declared.Session.{Session}
 use Rattle.session.specs.declared.Reply.{Reply}
 use Rattle.desk.specs.declared.sessions.Lent.{Lent}
-use Rattle.desk.specs.Text.{linesOf}
+use Rattle.desk.specs.File.{fileNumber}
 use Rattle.desk.specs.Head.{BYTE, HEAD, headOf}
 
-abbrev pub textIn : List ℕ → List ℕ
-textIn b = drop HEAD b
+abbrev pub fileIn : List ℕ → List ℕ
+fileIn b = drop HEAD b
 
 unfoldable pub twoIn : List ℕ → ℕ → ℕ
 twoIn b i = getD b i 0 + BYTE * getD b (i + 1) 0
@@ -42,7 +42,7 @@ unfoldable pub stackIn : List ℕ → Stack
 stackIn b = record { pairs = row (pairIn b) 0 PAIRS; count = getD b 1 0 }
 
 unfoldable pub madeIn : Closings → List ℕ → Reply
-madeIn C b = afreshOf C (readText (textIn b) .trace) (getD b 0 0) (stackIn b)
+madeIn C b = afreshOf C (readFile (fileIn b) .trace) (getD b 0 0) (stackIn b)
 
 abbrev pub sessionIn : Closings → List ℕ → Session
 sessionIn C b = madeIn C b .session
@@ -50,7 +50,7 @@ sessionIn C b = madeIn C b .session
 unfoldable pub like : Closings → List ℕ → Bool
 like C b =
     leb HEAD (length b)
-    && eqb (linesOf (textIn b)) 0
+    && eqb (fileNumber (fileIn b)) 0
     && isDone (madeIn C b .answer)
     && alike (headOf (sessionIn C b)) (take HEAD b)
 

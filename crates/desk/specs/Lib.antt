@@ -1,5 +1,6 @@
 -- What the entries answer, in numbers.
 pub mod Text
+pub mod File
 pub mod Answers
 pub mod Ranked
 pub mod Verdict

@@ -2,11 +2,9 @@
 --
 --   numberIn a    == the documents' number in a reader's answer; 0 for a good text
 --   numberOf text == the number of a text
---   linesOf text  == the number of its lines alone, whatever core is lost
 use mathlib.Core.List.{List}
 use Prim.Native.Nat.{ℕ}
 use Rattle.reader.specs.Answer as answer
-use Rattle.reader.specs.Read.{readText}
 use Rattle.reader.specs.Whole.{LOST, readWhole}
 use Rattle.reader.specs.declared.Answer.{Answer}
 use Rattle.reader.specs.declared.Answer.the-variants.{Good, Refused, Lost}
@@ -18,6 +16,3 @@ numberIn Lost = LOST
 
 abbrev pub numberOf : List ℕ → ℕ
 numberOf text = numberIn (readWhole text .answer)
-
-abbrev pub linesOf : List ℕ → ℕ
-linesOf text = numberIn (readText text .answer)

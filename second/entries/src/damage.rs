@@ -1,11 +1,12 @@
-//! Bytes that were a session. Some of what is done here leaves one: a pair that was held all the same, a line that changes nothing.
+//! Bytes that were a session. Some of what is done here leaves one: a pair that was held all the same, a record that changes nothing.
 
 use crate::call::OTHER_MODELS;
 use second::chance::Chance;
-use second::desk::{place_of, put_number, CONTRADICTED_AT as CONTRADICTED, HEAD, PAIRS_AT as PAIRS, TABLE_AT as TABLE};
-use second::reader::MOST_TEXT;
+use second::desk::{number_at, place_of, put_number, CONTRADICTED_AT as CONTRADICTED, HEAD, PAIRS_AT as PAIRS, TABLE_AT as TABLE};
+use second::files;
+use second::packed::{file_of, HEADER, RECORD};
 use second::session::MOST_PAIRS;
-use second::trace::{MODELS, MOST_RECORDS};
+use second::trace::{Trace, MODELS, MOST_RECORDS};
 
 const COUNT: usize = 1;
 
@@ -14,7 +15,7 @@ const PAIR: usize = 4;
 
 type Damage = (&'static str, fn(&mut Chance, &mut Vec<u8>));
 
-const DAMAGES: [Damage; 19] = [
+const DAMAGES: [Damage; 20] = [
     ("another model", |chance, bytes| {
         bytes[0] = if chance.percent(60) { chance.between(1, MODELS) as u8 } else { *chance.of(&OTHER_MODELS) };
     }),
@@ -75,17 +76,21 @@ const DAMAGES: [Damage; 19] = [
         let place = chance.between(TABLE, HEAD - 1);
         bytes[place] = byte(chance, bytes[place]);
     }),
-    ("a byte of the text", |chance, bytes| {
-        if bytes.len() > HEAD {
-            let place = chance.between(HEAD, bytes.len() - 1);
-            bytes[place] = byte(chance, bytes[place]);
+    ("a byte of the file", |chance, bytes| {
+        let place = chance.between(HEAD, bytes.len() - 1);
+        bytes[place] = byte(chance, bytes[place]);
+    }),
+    ("a thread or a value of a record", |chance, bytes| {
+        let records = count_of_records(bytes);
+        if records > 0 {
+            let place = bytes.len() - RECORD * (1 + chance.below(records)) + *chance.of(&[1, 1, 4, 6]);
+            bytes[place] = chance.below(8) as u8;
         }
     }),
-    ("a digit of the text", |chance, bytes| {
-        let digits: Vec<usize> = (HEAD..bytes.len()).filter(|&place| bytes[place].is_ascii_digit()).collect();
-        if !digits.is_empty() {
-            bytes[*chance.of(&digits)] = b'0' + chance.below(10) as u8;
-        }
+    ("something wrong with its file", |chance, bytes| {
+        let mut file = bytes.split_off(HEAD);
+        files::damage(chance, &mut file);
+        bytes.extend(file);
     }),
     ("cut off", |chance, bytes| {
         let length = bytes.len();
@@ -93,18 +98,40 @@ const DAMAGES: [Damage; 19] = [
         bytes.truncate(*chance.of(&to));
     }),
     ("something behind it", |chance, bytes| {
-        let more = ["0: sync\n", "3: sync\n7: sync\n", "0: M[0] == 0\n", "\n", "0", "0: sync", "\0", "5: M[9] := 65535\n"];
-        bytes.extend_from_slice(chance.of(&more).as_bytes());
+        let records = count_of_records(bytes);
+        bytes.extend([[3, 0, 0, 0, 0, 0, 0, 0], [3, 7, 0, 0, 0, 0, 0, 0], [0, 0, 9, 0, 0, 0, 0, 0]][chance.below(3)]);
+        if chance.percent(70) && records < MOST_RECORDS {
+            put_number(&mut bytes[HEAD + HEADER - 2..], records + 1);
+        } else if chance.percent(50) {
+            bytes.truncate(bytes.len() - chance.below(RECORD));
+        }
     }),
     ("bytes by chance", |chance, bytes| {
-        let long = HEAD + MOST_TEXT;
-        let lengths =
-            [0, 1, PAIRS, CONTRADICTED, TABLE, HEAD - 1, HEAD, HEAD + 1, HEAD + 9, bytes.len(), chance.below(long), long, long + 1];
+        let long = HEAD + HEADER + RECORD * MOST_RECORDS;
+        let lengths = [
+            0,
+            1,
+            PAIRS,
+            CONTRADICTED,
+            TABLE,
+            HEAD - 1,
+            HEAD,
+            HEAD + 1,
+            HEAD + 7,
+            HEAD + 8,
+            HEAD + 8,
+            HEAD + 9,
+            bytes.len(),
+            chance.below(long),
+            long,
+            long + 1,
+        ];
         let length = *chance.of(&lengths);
         *bytes = chance.bytes(length);
         if chance.percent(60) {
             bytes.fill(0);
             bytes.iter_mut().take(1).for_each(|model| *model = chance.below(MODELS + 2) as u8);
+            bytes.iter_mut().skip(HEAD).zip(file_of(&Trace::empty())).for_each(|(place, byte)| *place = byte);
         }
     }),
 ];
@@ -134,9 +161,14 @@ fn standing(chance: &mut Chance, bytes: &[u8]) -> Option<usize> {
     (count > 0).then(|| PAIRS + PAIR * chance.below(count))
 }
 
-/// Records of the text, by how many lines it has; seldom the one past its end.
+/// Records of the trace; seldom the one past its end.
 fn some_pair(chance: &mut Chance, bytes: &[u8]) -> (usize, usize) {
-    let records = bytes[HEAD..].iter().filter(|&&byte| byte == b'\n').count();
+    let records = count_of_records(bytes);
     let mut number = || if records == 0 || chance.percent(2) { records } else { chance.below(records) };
     (number(), number())
+}
+
+/// As the file of a session that stands says.
+fn count_of_records(bytes: &[u8]) -> usize {
+    number_at(&bytes[HEAD + HEADER - 2..])
 }

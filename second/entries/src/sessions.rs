@@ -7,6 +7,7 @@ use crate::desk::Desk;
 use crate::lent::Lent;
 use second::chance::Chance;
 use second::desk::{self, head_of, told, CONTRADICTED_AT, DONE, HEAD, NO_SESSION};
+use second::packed::{file_of, HEADER};
 use second::session::Talk;
 use second::trace::{Trace, MODELS, MOST_RECORDS};
 
@@ -48,7 +49,7 @@ fn talk<D: Desk>(case: &mut Case<'_, D>) -> bool {
     let Some(mut talk) = talk else { return handed(case, mine, "memory that was too short") };
     let operations = talk.session().trace.operations().len();
     let manner = if wanted == DONE { manner(&mut case.chance, operations) } else { Manner { calls: 1, supposes: 40, damages: 30 } };
-    let length = if wanted == DONE { HEAD + case.text.len() } else { HEAD };
+    let length = HEAD + file_of(&talk.session().trace).len();
     if room > length && case.chance.percent(30) && !handed(case, mine.clone(), "with what lies behind it") {
         return false;
     }
@@ -61,10 +62,12 @@ fn talk<D: Desk>(case: &mut Case<'_, D>) -> bool {
 
 /// Mostly what is needed or a little more; at times too little.
 fn room<D: Desk>(case: &mut Case<'_, D>) -> usize {
-    let (chance, needed) = (&mut case.chance, HEAD + case.text.len());
+    let nothing = Trace::empty();
+    let file = file_of(case.page.trace().unwrap_or(&nothing));
+    let (chance, needed) = (&mut case.chance, HEAD + file.len());
     match chance.below(20) {
         0 => needed - 1,
-        1 => *chance.of(&[0, 1, CONTRADICTED_AT, HEAD - 1, HEAD]),
+        1 => *chance.of(&[0, 1, CONTRADICTED_AT, HEAD - 1, HEAD, HEAD + HEADER - 1, HEAD + HEADER]),
         2 => chance.below(needed),
         3..=5 => needed + *chance.of(&[1, 8, 13, 64]),
         6 => needed + chance.below(300),

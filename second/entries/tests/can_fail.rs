@@ -10,6 +10,7 @@ use second::desk::{
 };
 use second::desk::{NOT_THROUGH, NO_ORDER, PLACE, REPLAY, REPLAYED, STEPS_AT, STUCK, THROUGH};
 use second::families::FAMILIES;
+use second::packed::{file_of, FIRST, HEADER, RECORD};
 use second::session::{self, Session, MOST_PAIRS};
 use second::trace::Model;
 
@@ -96,7 +97,7 @@ const FAULTS: [&str; 77] = [
     "session: low bytes of pairs",
     "session: the table by bytes",
     "session: pairs in order only",
-    "session: the text is not looked at",
+    "session: what lies behind its file is not looked at",
     "session: no core may be missing",
 ];
 
@@ -133,9 +134,9 @@ impl Faulty {
                 seen[CONTRADICTED_AT..HEAD].copy_from_slice(&head[CONTRADICTED_AT..]);
             }
         }
-        if self.is("session: the text is not looked at") {
-            let end = seen.iter().rposition(|&byte| byte == b'\n').map_or(HEAD, |place| (place + 1).max(HEAD));
-            seen.truncate(end);
+        if self.is("session: what lies behind its file is not looked at") && seen.len() >= HEAD + HEADER {
+            let file = &seen[HEAD..];
+            seen.truncate(HEAD + HEADER + FIRST * usize::from(file[5]) + RECORD * number_at(&file[6..]));
         }
         if self.is("session: no core may be missing") && desk::taken(&seen)?.trace.skips_a_thread() {
             return None;
@@ -155,7 +156,7 @@ impl Faulty {
     }
 }
 
-/// The session that some bytes' model, pairs and text make, whatever their table says.
+/// The session that some bytes' model, pairs and file make, whatever their table says.
 fn made_anew(bytes: &[u8]) -> Option<Session> {
     let mut wiped = bytes.to_vec();
     wiped[CONTRADICTED_AT..HEAD].fill(0);
@@ -375,7 +376,8 @@ impl Desk for Faulty {
     }
 
     fn open(&self, text: &[u8], model: u8, session: &mut [u8]) -> u8 {
-        let (page, before, needed) = (self.page(text), session.to_vec(), HEAD + text.len());
+        let (page, before) = (self.page(text), session.to_vec());
+        let needed = HEAD + page.trace().map_or(HEADER, |trace| file_of(trace).len());
         if self.is("open: one byte less is enough") && session.len() + 1 == needed {
             let mut wide = vec![0; needed];
             return page.open(model, &mut wide).0;

@@ -1,14 +1,16 @@
-// The entries for a session in lent bytes: its head, then its trace's text. No bytes are believed: whatever opening and supposing do not make is
+// The entries for a session in lent bytes: its head, then its trace's packed file. No bytes are believed: whatever opening and supposing do not make is
 // turned back as 12, and stays.
 ghost use mathlib.Core.Path.{_≡_};
 ghost use mathlib.Core.Bool.{false};
 ghost use mathlib.Core.List.{_++_};
 ghost use Prim.Native.Nat.{_≤_};
+ghost use lib.Dec.{leb};
 ghost use lib.ListN.{length, drop};
+ghost use Rattle.text.specs.Room.{putAt};
 ghost use Rattle.session.specs.Closings.{Closings};
 ghost use Rattle.session.specs.Session.{blank};
 ghost use Rattle.session.specs.Numbers.{reasonNumber, supposes, takesBack, asks};
-ghost use Rattle.desk.specs.Head.{Fit, HEAD, headOf};
+ghost use Rattle.desk.specs.Head.{Fit, HEAD, headOf, bytesOf};
 ghost use Rattle.desk.specs.Kept.{keptOf};
 ghost use Rattle.desk.specs.Acts.{codeOf, answerIn, bytesIn};
 ghost use Rattle.desk.specs.Opened.{openNumber, openSession, openAnswer, openBytes};
@@ -16,13 +18,16 @@ use crate::answers::CONTRADICTED;
 use crate::answers::HELD;
 use crate::answers::NO_ROOM;
 use crate::answers::NOT_HELD;
+use crate::files;
 use crate::heads::HEAD;
 use crate::heads::agrees;
 use crate::heads::lay;
 use crate::heads::stack_in;
 use crate::texts::number_in;
+use packed::Wrote;
+use packed::packing::write;
+use packed::unpacking;
 use pairs::SC;
-use reader::read;
 use reader::read_whole;
 use session::Answer;
 use session::Reason;
@@ -33,7 +38,6 @@ use session::calls::ask;
 use session::calls::open;
 use session::calls::suppose;
 use session::calls::take_back;
-use text::room::put;
 
 // Document 01's number of a session that is not one.
 const UNLIKE: u8 = 12;
@@ -98,16 +102,16 @@ fn unlike() -> Lent
     }
 }
 
-// The session that lent bytes are, made afresh from their text, their model and their pairs, and held against them.
+// The session that lent bytes are, made afresh from their file, their model and their pairs, and held against them.
 fn kept(bytes: &[u8]) -> Lent
     ensures { λ r. ⌜ ((C : Closings) → r ≡ keptOf C (now (bytes .entry))) ⌝ }
 {
     if bytes.len() < HEAD {
         return unlike();
     }
-    let reading = read(&bytes[HEAD..]);
+    let reading = unpacking::read(&bytes[HEAD..]);
     let told = reading.answer;
-    if number_in(told) != 0 {
+    if files::number_in(told) != 0 {
         return unlike();
     }
     let reply = afresh(reading.trace, bytes[0], stack_in(bytes));
@@ -155,30 +159,40 @@ fn opening(text: &[u8], model: u8) -> Opened
     }
 }
 
-// Opens a session with no pairs into lent bytes: 0, and its head and the text; or why not, and where there is room the head of the session of the
-// empty text under model 1. All other bytes stay.
+// A session's bytes at the front of lent bytes, where there is room for them, and whether there is.
+fn placed(s: Session, out: &mut [u8]) -> bool
+    requires { ⌜ Fit s ⌝ }
+    ensures { λ r. ⌜ (r ≡ leb (length (bytesOf s)) (length (now (out .entry)))) × (now (out .exit) ≡ putAt (bytesOf s) (now (out .entry)) 0) ⌝ }
+{
+    if out.len() < HEAD {
+        return false;
+    }
+    match write(s.trace, &mut out[HEAD..]) {
+        Wrote::Length(_) => {
+            lay(s, out);
+            true
+        }
+        Wrote::NotWellFormed => false,
+        Wrote::NoRoom => false,
+    }
+}
+
+// Opens a session with no pairs into lent bytes: 0, and its bytes; or why not, and where there is room the bytes of the session of the empty trace
+// under model 1. All other bytes stay.
 #[no_mangle]
 pub extern "C" fn wheelotter_open(text: &[u8], model: u8, session: &mut [u8]) -> u8
     ensures { λ r. ⌜ (r ≡ openAnswer (now (text .entry)) model (now (session .entry))) × ((C : Closings) → now (session .exit) ≡ openBytes C (now (text .entry)) model (now (session .entry))) ⌝ }
 {
     let o = opening(text, model);
+    let room = placed(o.session, session);
     let number = o.number;
     if number != 0 {
-        if session.len() < HEAD {
-            return number;
-        }
-        lay(o.session, session);
         return number;
     }
-    if session.len() < HEAD {
-        return NO_ROOM;
+    if room {
+        return 0;
     }
-    if session.len() - HEAD < text.len() {
-        return NO_ROOM;
-    }
-    lay(o.session, session);
-    put(text, session, HEAD);
-    0
+    NO_ROOM
 }
 
 // Supposes x before y in a session in bytes.

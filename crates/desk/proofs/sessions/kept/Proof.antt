@@ -7,19 +7,19 @@ use lib.ListN.{getD}
 use borrow.Author.Tests.{not-true, not-false}
 use Rattle.laws.proofs.Tests.{off}
 use Rattle.trace.specs.declared.Trace.{Trace}
-use Rattle.reader.specs.Read.{readText}
-use Rattle.reader.specs.declared.Reading.{Reading}
+use Rattle.packed.specs.Read.{readFile}
+use Rattle.packed.specs.declared.Reading.{Reading}
 use Rattle.session.specs.Closings.{Closings}
 use Rattle.session.specs.Entries.{afreshOf}
 use Rattle.session.specs.declared.Stack.{Stack}
 use Rattle.session.specs.declared.Reply.{Reply}
-use Rattle.desk.specs.Text.{numberIn, linesOf}
+use Rattle.desk.specs.File.{fileNumberIn, fileNumber}
 use Rattle.desk.specs.Head.{Fit, headOf}
-use Rattle.desk.specs.Kept.{textIn, madeIn}
+use Rattle.desk.specs.Kept.{fileIn, madeIn}
 use Rattle.desk.specs.Acts.{codeOf}
 use Rattle.session.proofs.Forcing.{closings-some}
 use Rattle.desk.proofs.Laying.{intact-fit}
-use Rattle.desk.proofs.Keeping.{like-parts, behind, kept-like, kept-unlike, unlike-short, unlike-text, unlike-made, unlike-head, named-intact}
+use Rattle.desk.proofs.Keeping.{like-parts, behind, kept-like, kept-unlike, unlike-short, unlike-file, unlike-made, unlike-head, named-intact}
 use Rattle.desk.proofs.Acting.{code-done, done-code}
 use borrow.Author.Needs.{needs}
 use Rattle.desk.proofs.sessions.kept.Statement.{statement}
@@ -29,12 +29,12 @@ use Rattle.desk.proofs.sessions.kept.Tie as tie
 abbrev lent : tie.Start → List ℕ
 lent c = c .args .bytes .now
 
--- what the text behind the head reads as
-got : (c : tie.After-read) → c .read .result ≡ readText (textIn (lent (c .before .before .before .before)))
-got c = c .read .ensures ∙ ap readText (behind (lent (c .before .before .before .before)))
+-- what the file behind the head reads as
+got : (c : tie.After-read) → c .read .result ≡ readFile (fileIn (lent (c .before .before .before .before)))
+got c = c .read .ensures ∙ ap readFile (behind (lent (c .before .before .before .before)))
 
-told : (c : tie.After-number-in) → c .number-in .result ≡ linesOf (textIn (lent (c .before .before .before .before .before)))
-told c = c .number-in .ensures ∙ ap (λ (r : Reading). numberIn (r .answer)) (got (c .before))
+told : (c : tie.After-number-in) → c .number-in .result ≡ fileNumber (fileIn (lent (c .before .before .before .before .before)))
+told c = c .number-in .ensures ∙ ap (λ (r : Reading). fileNumberIn (r .answer)) (got (c .before))
 
 -- the session that the bytes name
 named : (C : Closings) (c : tie.After-afresh) → c .afresh .result ≡ madeIn C (lent (c .before .before .before .before .before .before .before .before .before))
@@ -73,7 +73,7 @@ returns-2 : tie.Need-returns-2
 returns-2 c C =
     let n = c .before .before in
     let b = lent (n .before .before .before .before .before) in
-    kept-unlike C b (unlike-text C b (λ z. c .before .if2 .taken (told n ∙ z))) _ (c .unlike2 .ensures .0, c .unlike2 .ensures .1 C)
+    kept-unlike C b (unlike-file C b (λ z. c .before .if2 .taken (told n ∙ z))) _ (c .unlike2 .ensures .0, c .unlike2 .ensures .1 C)
 
 shared-slice-read-afresh : tie.Need-shared-slice-read-afresh
 shared-slice-read-afresh c = search needs

@@ -1,16 +1,16 @@
--- `desk::sessions::wheelotter_open`: what is wrong, beside the head where there is room for it; or no room; or the head laid down, and the text behind it.
+-- `desk::sessions::wheelotter_open`: the session's bytes where there is room for them; then what is wrong, or whether there was room.
 use mathlib.Core.Path.{_≡_, sym, ap, _∙_, subst}
-use mathlib.Core.List.{_++_}
-use Prim.Native.Nat.{_+_, _≤_}
-use native.Mathlib.Omega.{arith}
-use lib.ListN.{length, drop}
+use mathlib.Core.List.{List}
+use lib.Dec.{leb}
+use lib.ListN.{length}
+use Rattle.text.specs.Room.{putAt}
 use Rattle.session.specs.Closings.{Closings}
 use Rattle.session.specs.declared.Session.{Session}
 use Rattle.session.proofs.Forcing.{closings-some}
-use Rattle.desk.specs.Head.{Fit, HEAD, headOf}
-use Rattle.desk.specs.Opened.{openSession}
+use Rattle.desk.specs.Head.{Fit, bytesOf}
+use Rattle.desk.specs.Opened.{openSession, openBytes}
 use Rattle.desk.proofs.Laying.{intact-fit}
-use Rattle.desk.proofs.Opens.{session-intact, no-room, open-short, open-turned, open-done}
+use Rattle.desk.proofs.Opens.{session-intact, open-turned, open-done, no-room}
 use borrow.Author.Needs.{needs}
 use Rattle.desk.proofs.sessions.wheelotter_open.Statement.{statement}
 use Rattle.desk.proofs.sessions.wheelotter_open.Tie as tie
@@ -21,95 +21,68 @@ fits c =
     let a = c .before .before .before .args in
     subst (λ (s : Session). Fit s) (sym (c .opening .ensures .1 closings-some)) (intact-fit closings-some _ (session-intact (a .text .now) (a .model) closings-some))
 
--- the head that was laid down beside a refusal
-laid : (c : tie.After-lay) → let a = c .before .before .before .before .before .before .before .args in
-    (C : Closings) → c .lay .last .1 .0 ≡ headOf (openSession C (a .text .now) (a .model)) ++ drop HEAD (a .session .now)
+-- what the bytes are then
+laid : (c : tie.After-placed) → let a = c .before .before .before .before .before .args in
+    (C : Closings) → c .placed .last .1 .0 ≡ openBytes C (a .text .now) (a .model) (a .session .now)
+unfolding openBytes
 laid c C =
-    let o = c .before .before .before .before in
+    let o = c .before .before in
     let a = o .before .before .before .args in
-    c .lay .ensures ∙ ap (λ (s : Session). headOf s ++ drop HEAD (a .session .now)) (o .opening .ensures .1 C)
+    c .placed .ensures .1 ∙ ap (λ (s : Session). putAt (bytesOf s) (a .session .now) 0) (o .opening .ensures .1 C)
 
--- there is room for the head and the text
-room : (c : tie.Else4) → let a = c .before .before .before .before .before .before .args in HEAD + length (a .text .now) ≤ length (a .session .now)
-room c = omega arith
-
--- the head that was laid down before the text
-opened : (c : tie.After-lay2) → let a = c .before .before .before .before .before .before .before .before .args in
-    (C : Closings) → c .lay2 .last .1 .0 ≡ headOf (openSession C (a .text .now) (a .model)) ++ drop HEAD (a .session .now)
-opened c C =
-    let o = c .before .before .before .before .before in
+-- whether there was room
+room : (c : tie.After-placed) → let a = c .before .before .before .before .before .args in
+    leb (length (bytesOf (openSession closings-some (a .text .now) (a .model)))) (length (a .session .now)) ≡ c .placed .result
+room c =
+    let o = c .before .before in
     let a = o .before .before .before .args in
-    c .lay2 .ensures ∙ ap (λ (s : Session). headOf s ++ drop HEAD (a .session .now)) (o .opening .ensures .1 C)
+    sym (c .placed .ensures .0 ∙ ap (λ (s : Session). leb (length (bytesOf s)) (length (a .session .now))) (o .opening .ensures .1 closings-some))
 
 opening-requires : tie.Need-opening-requires
 opening-requires c κs = search needs
 
-returns : tie.Need-returns
-returns c =
-    let o = c .before .before in
-    let a = o .before .before .before .args in
-    open-short (a .text .now) (a .model) (a .session .now) _ (o .opening .ensures .0) (c .before .if1 .taken) (omega arith)
-
-lay-requires : tie.Need-lay-requires
-lay-requires c κs = (fits (c .before .before .before), search needs)
+placed-requires : tie.Need-placed-requires
+placed-requires c κs = fits (c .before)
 
 same-length : tie.Need-same-length
 same-length c = search needs
 
-returns-2 : tie.Need-returns-2
-returns-2 c =
-    let l = c .before .before in
-    let e = l .before .before in
-    let o = e .before .before in
+returns : tie.Need-returns
+returns c =
+    let p = c .before .before .before in
+    let o = p .before .before in
     let a = o .before .before .before .args in
-    open-turned (a .text .now) (a .model) (a .session .now) _ (o .opening .ensures .0) (e .before .if1 .taken) (omega arith) _ (laid l)
-
-returns-3 : tie.Need-returns-3
-returns-3 c =
-    let o = c .before .before in
-    let a = o .before .before .before .args in
-    no-room (a .text .now) (a .model) (a .session .now) (sym (o .opening .ensures .0) ∙ c .before .if1 .left) (omega arith)
-
-sub-if4 : tie.Need-sub-if4
-sub-if4 c = search needs
-
-returns-4 : tie.Need-returns-4
-returns-4 c =
-    let o = c .before .before .before in
-    let a = o .before .before .before .args in
-    no-room (a .text .now) (a .model) (a .session .now) (sym (o .opening .ensures .0) ∙ c .before .before .if1 .left) (omega arith)
-
-lay-requires-2 : tie.Need-lay-requires-2
-lay-requires-2 c κs = (fits (c .before .before .before .before), search needs)
-
-put-requires : tie.Need-put-requires
-put-requires c κs = search needs
+    (o .opening .ensures .0 ∙ sym (open-turned (a .text .now) (a .model) (a .session .now) (λ z. c .if1 .taken (o .opening .ensures .0 ∙ z))), laid p)
 
 same-length-2 : tie.Need-same-length-2
 same-length-2 c = search needs
 
-returns-5 : tie.Need-returns-5
-returns-5 c =
-    let p = c .before .before in
-    let l = p .before .before .before .before in
-    let e = l .before .before in
-    let o = e .before .before .before in
+returns-2 : tie.Need-returns-2
+returns-2 c =
+    let p = c .before .before .before .before in
+    let o = p .before .before in
     let a = o .before .before .before .args in
-    open-done (a .text .now) (a .model) (a .session .now) (room e) _ _ _ (o .opening .ensures .0) (e .before .before .if1 .left) (opened l) (p .put .ensures .1)
+    (sym (open-done (a .text .now) (a .model) (a .session .now) (sym (o .opening .ensures .0) ∙ c .before .if1 .left) closings-some (room p ∙ c .if2 .taken)), laid p)
+
+same-length-3 : tie.Need-same-length-3
+same-length-3 c = search needs
+
+returns-3 : tie.Need-returns-3
+returns-3 c =
+    let p = c .before .before .before .before in
+    let o = p .before .before in
+    let a = o .before .before .before .args in
+    (sym (no-room (a .text .now) (a .model) (a .session .now) (sym (o .opening .ensures .0) ∙ c .before .if1 .left) closings-some (room p ∙ c .if2 .left)), laid p)
 
 pub wheelotter-open-spec : {M : Type 1} → statement M
 wheelotter-open-spec =
     tie.close
     (tie.spec
     opening-requires
-    returns
-    lay-requires
+    placed-requires
     same-length
-    returns-2
-    returns-3
-    sub-if4
-    returns-4
-    lay-requires-2
-    put-requires
+    returns
     same-length-2
-    returns-5)
+    returns-2
+    same-length-3
+    returns-3)

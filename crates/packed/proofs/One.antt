@@ -1,0 +1,25 @@
+-- No second answer meets the contract of a public function.
+--
+--   FUNCTION-settles == the contract settles what the function gives back
+--   FUNCTION-leaves  == and what the lent bytes hold
+use mathlib.Core.Path.{_∙_, sym}
+use denote.Ref.{now}
+use Rattle.laws.specs.Settles.{Settles, Leaves}
+use Rattle.packed.proofs.number.Reads as number
+use Rattle.packed.proofs.number.Kinds as number-kinds
+use Rattle.packed.proofs.unpacking.read.Reads as read
+use Rattle.packed.proofs.unpacking.read.Kinds as read-kinds
+use Rattle.packed.proofs.packing.write.Reads as write
+use Rattle.packed.proofs.packing.write.Kinds as write-kinds
+
+pub number-settles : Settles 0 number-kinds.ps number-kinds.r number.Post
+number-settles κs a x y s t p q = p ∙ sym q
+
+pub read-settles : Settles 1 read-kinds.ps read-kinds.r read.Post
+read-settles κs a x y s t p q = p ∙ sym q
+
+pub write-settles : Settles 1 write-kinds.ps write-kinds.r write.Post
+write-settles κs a x y s t p q = p .0 ∙ sym (q .0)
+
+pub write-leaves : Leaves 1 write-kinds.ps write-kinds.r (λ κs s. now (s .1 .0)) write.Post
+write-leaves κs a x y s t p q = p .1 ∙ sym (q .1)
