@@ -11,6 +11,7 @@
 //! | `rules` | the edges that the rules force, rounds, held, the circle shown |
 //! | `orders` | valid orders, the judge, the first order in dictionary order |
 //! | `verdict` | the verdict, numbers 9 and 10 |
+//! | `limited` | the verdict within a limit of steps |
 //! | `session` | suppose, take back, ask, numbers 9 to 16 |
 //! | `report` | the lines of an answer |
 //! | `desk` | the entries of the library, in bytes (their form is ours; what they say is the document's) |
@@ -23,6 +24,7 @@ pub mod bounds;
 pub mod chance;
 pub mod desk;
 pub mod families;
+pub mod limited;
 pub mod lists;
 pub mod machine;
 pub mod orders;

@@ -1,8 +1,8 @@
 //! Reads a trace from standard input. Prints the answer to it, what is wrong with it and where, the verdict in numbers under each model, whether
-//! 1 2 3 0 is an order, and a short talk with a session under TSO.
+//! 1 2 3 0 is an order, how many steps the verdict takes within 20, and a short talk with a session under TSO.
 
 use std::io::{self, Read};
-use wheelotter::{check, judge, report, verdict, Answer, Asked, Judgement, Model, Session, Verdict, MODELS};
+use wheelotter::{check, judge, limited, report, verdict, Answer, Asked, Judgement, Limited, Model, Session, Verdict, MODELS};
 
 fn main() -> io::Result<()> {
     let mut text = Vec::new();
@@ -52,6 +52,12 @@ fn print_verdict(text: &[u8], model: Model) {
         Err(refusal) => format!("no, {}", refusal.answer as u8),
     };
     println!("model {}: {told}; is 1 2 3 0 an order: {judged}", model as u8);
+    let within = match limited(text, model, 20) {
+        Ok(Limited::Decided(_, steps)) => format!("decided, steps {steps}"),
+        Ok(Limited::Undecided) => "undecided after 20".to_string(),
+        Err(refusal) => format!("refused {}", refusal.answer as u8),
+    };
+    println!("model {} within 20 steps: {within}", model as u8);
 }
 
 fn done(answer: Result<(), Answer>) -> &'static str {

@@ -21,6 +21,12 @@ pub const OPERATIONS: usize = 2;
 /// Where the rules begin in a verdict.
 pub const RULES: usize = 514;
 
+/// A limited verdict in bytes has so many.
+pub const LIMITED: usize = 778;
+
+/// Where the count of steps begins in a limited verdict, eight bytes.
+pub const STEPS: usize = 770;
+
 /// So many bytes of a session stand before its text.
 pub const HEAD: usize = 8259;
 
@@ -109,11 +115,13 @@ pub enum Answer {
     OutOfTurn = 74,
     /// A record would read another value.
     WrongValue = 75,
+    /// The plain search makes more steps than the limit.
+    Undecided = 76,
 }
 
 /// In the order of their numbers.
 #[rustfmt::skip]
-pub(crate) const ANSWERS: [Answer; 29] = [
+pub(crate) const ANSWERS: [Answer; 30] = [
     Answer::Done,
     Answer::LongText,
     Answer::LongLine,
@@ -143,4 +151,5 @@ pub(crate) const ANSWERS: [Answer; 29] = [
     Answer::Repeat,
     Answer::OutOfTurn,
     Answer::WrongValue,
+    Answer::Undecided,
 ];

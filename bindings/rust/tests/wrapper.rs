@@ -1,7 +1,7 @@
 //! Each kind of answer through the safe functions, worked out from document 01.
 
-use wheelotter::{check, entries, judge, report, verdict, Answer, Asked, Judgement, Model, Refusal, Session, Verdict};
-use wheelotter::{HEAD, JUDGEMENT, MARK, MODELS, OPERATIONS, PAIRS, RECORDS, REPORT, RULES, STANDING, TABLE, TEXT, VERDICT};
+use wheelotter::{check, entries, judge, limited, report, verdict, Answer, Asked, Judgement, Limited, Model, Refusal, Session, Verdict};
+use wheelotter::{HEAD, JUDGEMENT, LIMITED, MARK, MODELS, OPERATIONS, PAIRS, RECORDS, REPORT, RULES, STANDING, STEPS, TABLE, TEXT, VERDICT};
 
 const BUFFERS: &[u8] = b"0: M[0] := 1\n0: M[1] == 0\n1: M[1] := 1\n1: M[0] == 0\n";
 const NO_SOURCE: &[u8] = b"0: M[0] := 1\n0: sync\n0: M[0] == 2\n";
@@ -16,6 +16,7 @@ fn the_numbers_of_the_header() {
     };
     assert_eq!([number("RECORDS"), number("PAIRS"), number("TEXT"), number("REPORT")], [RECORDS, PAIRS, TEXT, REPORT]);
     assert_eq!([number("VERDICT"), number("OPERATIONS"), number("RULES")], [VERDICT, OPERATIONS, RULES]);
+    assert_eq!([number("LIMITED"), number("STEPS")], [LIMITED, STEPS]);
     assert_eq!([number("HEAD"), number("STANDING"), number("MARK"), number("TABLE")], [HEAD, STANDING, MARK, TABLE]);
     assert_eq!(["SC", "TSO", "PSO", "WMO"].map(number), MODELS.map(|model| model as usize));
     assert_eq!(number("MODELS"), MODELS.len());
@@ -47,6 +48,31 @@ fn judgements() {
     assert_eq!(judged(Model::Tso, &[0, 1, 2, 3]), Judgement::WrongValue(3));
     assert_eq!(judge(b"\n", Model::Sc, &[]).map_err(|refusal| refusal.answer), Err(Answer::NoForm));
     assert_eq!(entries::judge(BUFFERS, 1, &[], &mut [0; JUDGEMENT - 1]), Answer::NoRoom as u8);
+}
+
+#[test]
+fn limits() {
+    // 11 steps: worked out by hand, and the plain search's definition computes it.
+    let order = Verdict::Order(vec![1, 2, 3, 0]);
+    assert_eq!(limited(BUFFERS, Model::Tso, 11), Ok(Limited::Decided(order.clone(), 11)));
+    assert_eq!(limited(BUFFERS, Model::Tso, u64::MAX), Ok(Limited::Decided(order, 11)));
+    assert_eq!(limited(BUFFERS, Model::Tso, 10), Ok(Limited::Undecided));
+    assert_eq!(limited(BUFFERS, Model::Tso, 0), Ok(Limited::Undecided));
+    let circle = verdict(BUFFERS, Model::Sc).expect("a good text");
+    assert_eq!(limited(BUFFERS, Model::Sc, 0), Ok(Limited::Decided(circle, 0)));
+    assert_eq!(limited(NO_SOURCE, Model::Wmo, 0), Ok(Limited::Decided(Verdict::NoSource(2), 0)));
+    assert_eq!(limited(b"", Model::Sc, 0), Ok(Limited::Decided(Verdict::Order(vec![]), 0)));
+    assert_eq!(limited(b"\n", Model::Sc, 0).map_err(|refusal| refusal.answer), Err(Answer::NoForm));
+    for (model, steps) in [(Model::Sc, 1_006_638), (Model::Tso, 1_929_410)] {
+        assert_eq!(limited(KNOT, model, steps), Ok(Limited::Decided(Verdict::NoneLeft, steps)));
+        assert_eq!(limited(KNOT, model, steps - 1), Ok(Limited::Undecided));
+    }
+    let mut out = [1; LIMITED];
+    assert_eq!(entries::limited(BUFFERS, 2, 10, &mut out), Answer::Undecided as u8);
+    assert_eq!(out[..STEPS], [0; VERDICT]);
+    assert_eq!(out[STEPS..], 10u64.to_le_bytes());
+    assert_eq!(entries::limited(BUFFERS, 1, 0, &mut [0; LIMITED - 1]), Answer::NoRoom as u8);
+    assert_eq!(entries::limited(BUFFERS, 5, 0, &mut []), Answer::NoModel as u8);
 }
 
 #[test]

@@ -3,6 +3,7 @@
 mod answers;
 mod heads;
 pub mod judgements;
+pub mod limits;
 pub mod sessions;
 pub mod texts;
 pub mod verdicts;

@@ -11,6 +11,7 @@ pub enum Call {
     Start,
     End,
     Verdict { model: u8, room: usize },
+    Limited { model: u8, limit: u64, room: usize },
     Judge { model: u8, list: Vec<u16>, room: usize },
     Open { model: u8, room: usize },
     Suppose { x: usize, y: usize },
@@ -25,7 +26,8 @@ pub const OTHER_MODELS: [u8; 5] = [0, LAST_MODEL + 1, LAST_MODEL + 2, 128, 255];
 pub const LAST_MODEL: u8 = MODELS as u8;
 
 /// The entries' names without the front that all share, in the order of the header.
-pub const ENTRIES: [&str; 11] = ["report", "number", "line", "start", "end", "verdict", "judge", "open", "suppose", "take_back", "ask"];
+pub const ENTRIES: [&str; 12] =
+    ["report", "number", "line", "start", "end", "verdict", "limited", "judge", "open", "suppose", "take_back", "ask"];
 
 impl Call {
     /// Which of `ENTRIES` is called.
@@ -37,11 +39,12 @@ impl Call {
             Call::Start => 3,
             Call::End => 4,
             Call::Verdict { .. } => 5,
-            Call::Judge { .. } => 6,
-            Call::Open { .. } => 7,
-            Call::Suppose { .. } => 8,
-            Call::TakeBack => 9,
-            Call::Ask { .. } => 10,
+            Call::Limited { .. } => 6,
+            Call::Judge { .. } => 7,
+            Call::Open { .. } => 8,
+            Call::Suppose { .. } => 9,
+            Call::TakeBack => 10,
+            Call::Ask { .. } => 11,
         }
     }
 
@@ -57,6 +60,7 @@ impl fmt::Display for Call {
         match self {
             Call::Report { room } => write!(f, " into {room} bytes"),
             Call::Verdict { model, room } => write!(f, " under {model} into {room} bytes"),
+            Call::Limited { model, limit, room } => write!(f, " under {model} within {limit} steps into {room} bytes"),
             Call::Judge { model, list, room } => write!(f, " under {model} of {list:?} into {room} bytes"),
             Call::Open { model, room } => write!(f, " under {model} in {room} bytes"),
             Call::Suppose { x, y } | Call::Ask { x, y } => write!(f, " {x} {y}"),

@@ -5,7 +5,8 @@ use entries::desk::Desk;
 use second::desk::{
     self, head_of, number_at, place_of, put_number, Page, CONTRADICTED_AT, DONE, HEAD, OPERATIONS_AT, PAIRS_AT, RULES_AT, VERDICT,
 };
-use second::desk::{BAD_NUMBER, CONTRADICTED, JUDGEMENT, NONE_LEFT, NOT_HELD, NO_ROOM, ORDER, REPEAT, VALID, WRONG_LENGTH, WRONG_VALUE};
+use second::desk::{BAD_NUMBER, CIRCLE, CONTRADICTED, JUDGEMENT, LIMITED, NONE_LEFT, NOT_HELD, NO_ROOM, ORDER, REPEAT, UNDECIDED, VALID, WRONG_LENGTH};
+use second::desk::WRONG_VALUE;
 use second::families::FAMILIES;
 use second::session::{self, Session, MOST_PAIRS};
 use second::trace::Model;
@@ -17,7 +18,7 @@ struct Faulty(&'static str);
 
 const RIGHT: &str = "none";
 
-const FAULTS: [&str; 57] = [
+const FAULTS: [&str; 64] = [
     "report: a letter too far",
     "report: short memory written",
     "report: length of one line",
@@ -39,6 +40,13 @@ const FAULTS: [&str; 57] = [
     "verdict: some other order",
     "verdict: every trace has an order",
     "verdict: any model is SC",
+    "limited: one step less",
+    "limited: one step more is counted",
+    "limited: undecided with count 0",
+    "limited: a circle costs a step",
+    "limited: the high byte first",
+    "limited: undecided names something",
+    "limited: room for a verdict is enough",
     "judge: yes to all",
     "judge: repeats",
     "judge: no model",
@@ -236,6 +244,35 @@ impl Desk for Faulty {
             NONE_LEFT if self.is("verdict: every trace has an order") => ORDER,
             answer => answer,
         }
+    }
+
+    fn limited(&self, text: &[u8], model: u8, limit: u64, out: &mut [u8]) -> u8 {
+        let page = self.page(text);
+        if self.is("limited: room for a verdict is enough") && (VERDICT..LIMITED).contains(&out.len()) {
+            return page.limited(model, limit, &mut [0; LIMITED]).unwrap_or(UNDECIDED);
+        }
+        let less = if self.is("limited: one step less") { limit.saturating_sub(1) } else { limit };
+        // What is not known here is not asked there.
+        let Some(answer) = page.limited(model, less, out) else { return UNDECIDED };
+        if answer < 11 || answer == NO_ROOM {
+            return answer;
+        }
+        let steps = u64::from_le_bytes(out[VERDICT..LIMITED].try_into().expect("eight bytes"));
+        let steps = match answer {
+            UNDECIDED if self.is("limited: undecided with count 0") => 0,
+            UNDECIDED => limit,
+            CIRCLE if self.is("limited: a circle costs a step") => 1,
+            ORDER if self.is("limited: one step more is counted") => steps + 1,
+            _ => steps,
+        };
+        out[VERDICT..LIMITED].copy_from_slice(&steps.to_le_bytes());
+        if self.is("limited: the high byte first") {
+            out[VERDICT..LIMITED].reverse();
+        }
+        if self.is("limited: undecided names something") && answer == UNDECIDED {
+            put_number(out, 1);
+        }
+        answer
     }
 
     fn judge(&self, text: &[u8], model: u8, list: &[u16], out: &mut [u8]) -> u8 {

@@ -31,3 +31,6 @@ pub const REPEAT: u8 = 73;
 pub const OUT_OF_TURN: u8 = 74;
 
 pub const WRONG_VALUE: u8 = 75;
+
+// A limited verdict: the plain search makes more steps than the limit.
+pub const UNDECIDED: u8 = 76;
