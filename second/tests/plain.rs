@@ -75,5 +75,5 @@ fn all_steps_against_all_orders() {
 }
 
 fn shown(trace: &Trace) -> String {
-    String::from_utf8(text_of(trace.records())).expect("letters")
+    String::from_utf8(text_of(trace)).expect("letters")
 }
