@@ -25,7 +25,7 @@ unfolding traceOf places frameOf first keptOf keptBy letOff fenced operations su
 early-tso = refl
 
 -- the set that is placed does not decide what is below it: two stores to one address, then a load of the first
-set-is-not-enough : let t = traceOf (Store 0 0 1 ∷ Store 1 0 2 ∷ Load 2 0 1 ∷ []) in
+pub set-is-not-enough : let t = traceOf (Store 0 0 1 ∷ Store 1 0 2 ∷ Load 2 0 1 ∷ []) in
     _≡_ {A = (ℕ × Option (List ℕ)) × (ℕ × Option (List ℕ))} (plain (frameOf t) (keptOf SC t) 1 (0 ∷ 1 ∷ []), plain (frameOf t) (keptOf SC t) 1 (1 ∷ 0 ∷ [])) ((0, none), (1, some (2 ∷ [])))
 unfolding traceOf places frameOf first keptOf keptBy letOff fenced operations sum count all any plain tries next? expected soFar waits lastOf writer?
 set-is-not-enough = refl

@@ -5,7 +5,7 @@
 use second::chance::Chance;
 use second::desk::{Page, LIMITED, UNDECIDED};
 use second::machine::{run_under, Shape};
-use second::trace::{text_of, Model, Record};
+use second::trace::{text_of, Firsts, Model, Record, Trace};
 use std::collections::BTreeMap;
 use std::process::ExitCode;
 
@@ -53,8 +53,29 @@ fn main() -> ExitCode {
     ExitCode::from(u8::from(failed > 0))
 }
 
+/// What each address begins with: 0 everywhere, or here and there a value that nobody is likely to write.
+fn begun(chance: &mut Chance) -> Firsts {
+    let share = *chance.of(&[0, 0, 50, 100]);
+    std::array::from_fn(|address| if chance.percent(share) { 60_000 + address as u64 } else { 0 })
+}
+
+/// Threads numbered without gaps, in the order of their first records: a text that skips one is turned back.
+fn numbered(records: &mut [Record]) {
+    let mut seen = Vec::new();
+    for record in records {
+        let thread = record.thread();
+        if !seen.contains(&thread) {
+            seen.push(thread);
+        }
+        let new = seen.iter().position(|&other| other == thread).unwrap_or(0) as u64;
+        match record {
+            Record::Load { thread, .. } | Record::Store { thread, .. } | Record::Swap { thread, .. } | Record::Fence { thread } => *thread = new,
+        }
+    }
+}
+
 /// A run of a machine, with up to three reads changed to what somebody else wrote there, or to the beginning.
-fn drawn(chance: &mut Chance) -> Vec<Record> {
+fn drawn(chance: &mut Chance) -> Trace {
     let records = chance.between(1, MOST_RECORDS);
     let threads = chance.between(1, 5);
     let addresses = chance.between(1, 4);
@@ -69,6 +90,7 @@ fn drawn(chance: &mut Chance) -> Vec<Record> {
         drains: chance.below(60),
         own: chance.below(40),
         home: chance.below(60),
+        firsts: begun(chance),
     };
     let model = *chance.of(Model::all());
     let mut records = run_under(chance, &shape, model);
@@ -77,12 +99,13 @@ fn drawn(chance: &mut Chance) -> Vec<Record> {
         let place = chance.below(records.len().max(1));
         let Some(address) = records.get(place).and_then(Record::address) else { continue };
         let written = |record: &Record| record.written().filter(|_| record.address() == Some(address));
-        let values: Vec<u64> = std::iter::once(0).chain(records.iter().filter_map(written)).collect();
+        let values: Vec<u64> = std::iter::once(shape.firsts[address as usize]).chain(records.iter().filter_map(written)).collect();
         let value = *chance.of(&values);
         match &mut records[place] {
             Record::Load { read, .. } | Record::Swap { read, .. } => *read = value,
             _ => (),
         }
     }
-    records
+    numbered(&mut records);
+    Trace::with(shape.firsts, &records)
 }
