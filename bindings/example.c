@@ -102,6 +102,21 @@ static void print_machine(uint8_t model) {
     }
 }
 
+/* The verdict within 20 steps. */
+static void print_limited(uint8_t model) {
+    uint8_t out[WHEELOTTER_LIMITED];
+    uint8_t answer = wheelotter_limited(text, text_len, model, 20, out, sizeof out);
+    if (answer < WHEELOTTER_ORDER && answer != WHEELOTTER_NO_SOURCE) {
+        printf("model %u within 20 steps: refused %u\n", model, answer);
+        return;
+    }
+    uint64_t steps = 0;
+    for (size_t i = 0; i < 8; i++) {
+        steps |= (uint64_t)out[WHEELOTTER_COUNTED + i] << (8 * i);
+    }
+    printf("model %u within 20 steps: %s %u\n", model, answer == WHEELOTTER_UNDECIDED ? "undecided after" : "decided, steps", (unsigned)steps);
+}
+
 static const char *word(uint8_t answer) {
     switch (answer) {
     case WHEELOTTER_DONE:
@@ -149,6 +164,7 @@ int main(void) {
     print_bad_line();
     for (uint8_t model = 1; model <= WHEELOTTER_MODELS; model++) {
         print_verdict(model);
+        print_limited(model);
     }
     print_machine(WHEELOTTER_SC);
     print_machine(WHEELOTTER_TSO);

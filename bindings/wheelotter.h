@@ -54,6 +54,7 @@ extern "C" {
 #define WHEELOTTER_REPEAT 73            /* a record stands in it twice */
 #define WHEELOTTER_OUT_OF_TURN 74       /* a kept pair stands the wrong way round */
 #define WHEELOTTER_WRONG_VALUE 75       /* a record would read another value */
+#define WHEELOTTER_UNDECIDED 76         /* the plain search makes more steps than the limit */
 #define WHEELOTTER_STUCK 25             /* a step is impossible */
 #define WHEELOTTER_THROUGH 79           /* all records ran, and the buffers are empty */
 #define WHEELOTTER_NOT_THROUGH 80       /* all steps are done, and records are left or entries wait */
@@ -68,6 +69,8 @@ extern "C" {
 #define WHEELOTTER_VERDICT 770          /* a verdict in bytes has so many */
 #define WHEELOTTER_OPERATIONS 2         /* where the operations begin in a verdict */
 #define WHEELOTTER_RULES 514            /* where the rules begin in a verdict */
+#define WHEELOTTER_LIMITED 778          /* a limited verdict in bytes has so many */
+#define WHEELOTTER_COUNTED 770          /* where the count of steps begins in a limited verdict, eight bytes */
 #define WHEELOTTER_HEAD 8259            /* so many bytes of a session stand before its trace's packed file */
 #define WHEELOTTER_STANDING 2           /* where the pairs begin in a session */
 #define WHEELOTTER_MARK 66              /* where a session says whether it is contradicted */
@@ -114,6 +117,13 @@ size_t wheelotter_end(const uint8_t *text, size_t text_len);
  *   WHEELOTTER_ORDER                      the operations are the first valid order;
  *   WHEELOTTER_NONE_LEFT                  every order was ruled out; none is named. */
 uint8_t wheelotter_verdict(const uint8_t *text, size_t text_len, uint8_t model, uint8_t *out, size_t out_len);
+
+/* Writes the verdict on a text under a model within a limit of steps into the first WHEELOTTER_LIMITED bytes of out, the rest stays: the bytes of
+ * a verdict as above, and from WHEELOTTER_COUNTED on the count of steps in eight bytes, the low byte first. A step is one operation placed by the plain
+ * search of docs/GUIDE.md. Answers as wheelotter_verdict does, with WHEELOTTER_LIMITED bytes for room, and
+ *   WHEELOTTER_UNDECIDED                  the plain search makes more steps than the limit: no operation is named, the count is the limit.
+ * A missing source and a circle come at any limit, with count 0; an order, and that none is left, with the steps of the plain search. */
+uint8_t wheelotter_limited(const uint8_t *text, size_t text_len, uint8_t model, uint64_t limit, uint8_t *out, size_t out_len);
 
 /* Whether a list of record numbers is a valid order of the trace that a text writes, under a model; or which condition fails first. Gives back
  *   1 to 8, 17 or 22, or else WHEELOTTER_NO_MODEL   the text is turned back, or there is no such model; out stays as it was;

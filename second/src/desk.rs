@@ -8,16 +8,18 @@
 //! | 64, 65, 66 | the verdict: order, circle, none left |
 //! | 67, 68, 69 | asked: held, not held, contradicted |
 //! | 70 to 75 | a list judged: valid, wrong length, bad number, repeat, out of turn, wrong value |
+//! | 76 | undecided: the plain search makes more steps than the limit |
 //! | 25 | the machine: an impossible step, with its place |
 //! | 79, 80 | all steps are done: the trace ran through, or not |
 //! | 81, 82 | steps that run an order through; a list that is no order |
 //!
-//! Numbers of records, and how many are told, are laid down in two bytes, the low one first.
+//! Numbers of records, and how many are told, are laid down in two bytes, a count of steps in eight, the low one first.
 //!
 //! A session in bytes: the model; how many pairs stand, in one byte; sixteen pairs, first then second, unused ones 0; 1 where contradicted; a
 //! bit for each x and each y, eight to a byte from the lowest on, 1 where x before y is held; then the packed file of its trace up to the end.
 
-use crate::orders::{self, Judgement};
+use crate::limited::{limited, Limited};
+use crate::orders::{self, First, Judgement};
 use crate::packed::{file_of, read_entries};
 use crate::plain::{self, has_machine, Ran};
 use crate::reader::{self, Refusal};
@@ -45,6 +47,7 @@ pub const BAD_NUMBER: u8 = 72;
 pub const REPEAT: u8 = 73;
 pub const OUT_OF_TURN: u8 = 74;
 pub const WRONG_VALUE: u8 = 75;
+pub const UNDECIDED: u8 = 76;
 pub const STUCK: u8 = 25;
 pub const THROUGH: u8 = 79;
 pub const NOT_THROUGH: u8 = 80;
@@ -55,6 +58,9 @@ pub const NO_ORDER: u8 = 82;
 pub const VERDICT: usize = RULES_AT + MOST_RECORDS;
 pub const OPERATIONS_AT: usize = 2;
 pub const RULES_AT: usize = OPERATIONS_AT + 2 * MOST_RECORDS;
+
+/// A limited verdict in bytes: a verdict, and behind it the count of steps.
+pub const LIMITED: usize = VERDICT + 8;
 
 /// What a judged list comes with: the place or the record, of a pair both records; unused ones 0.
 pub const JUDGEMENT: usize = 4;
@@ -95,15 +101,22 @@ pub struct Page<'a> {
     most_steps: u64,
     reading: Result<Trace, Refusal<'a>>,
     verdicts: [OnceCell<Verdict>; MODELS],
+    plain: [OnceCell<Option<(First, u64)>>; MODELS],
 }
 
 impl<'a> Page<'a> {
     pub fn new(text: &'a [u8], most_steps: u64) -> Page<'a> {
-        Page { most_steps, reading: reader::read(text), verdicts: [const { OnceCell::new() }; MODELS] }
+        let verdicts = [const { OnceCell::new() }; MODELS];
+        let plain = [const { OnceCell::new() }; MODELS];
+        Page { most_steps, reading: reader::read(text), verdicts, plain }
     }
 
     pub fn trace(&self) -> Option<&Trace> {
         self.reading.as_ref().ok()
+    }
+
+    pub fn most_steps(&self) -> u64 {
+        self.most_steps
     }
 
     /// Of a good text, under a model that there is.
@@ -111,6 +124,19 @@ impl<'a> Page<'a> {
         let trace = self.trace()?;
         let found = || verdict(trace, model.number(), self.most_steps).expect("a good trace");
         Some(self.verdicts[model as usize].get_or_init(found))
+    }
+
+    /// What the plain search comes to under a model that there is, and its steps; None where these are too many for this program.
+    pub fn plain_under(&self, model: Model) -> Option<&(First, u64)> {
+        let trace = self.trace()?;
+        self.plain[model as usize].get_or_init(|| orders::plain_steps(trace, model, self.most_steps)).as_ref()
+    }
+
+    /// The verdict within a limit; None where this program does not know.
+    pub fn limited_under(&self, model: Model, limit: u64) -> Option<Limited> {
+        let early = self.verdict_under(model).filter(|verdict| matches!(verdict, Verdict::NoSource(_) | Verdict::Circle(_)));
+        let plain = if early.is_some() { None } else { self.plain_under(model).cloned() };
+        limited(early, &plain, self.most_steps, limit)
     }
 
     /// What the program at the bench prints for this text.
@@ -148,24 +174,38 @@ impl<'a> Page<'a> {
         self.reading.as_ref().map_or_else(|refusal| refusal.start + refusal.part.len(), |_| 0)
     }
 
+    /// The model, of a good text and with room enough; or what is answered then.
+    fn asked(&self, model: u8, lent: &[u8], room: usize) -> Result<Model, u8> {
+        match (self.number(), Model::numbered(model.into())) {
+            (DONE, None) => Err(NO_MODEL),
+            (DONE, Some(_)) if lent.len() < room => Err(NO_ROOM),
+            (DONE, Some(model)) => Ok(model),
+            (refused, _) => Err(refused),
+        }
+    }
+
     /// None, and nothing laid down, where this package does not know.
     pub fn verdict(&self, model: u8, lent: &mut [u8]) -> Option<u8> {
-        let model = match (self.number(), Model::numbered(model.into())) {
-            (DONE, None) => return Some(NO_MODEL),
-            (DONE, Some(model)) => model,
-            (refused, _) => return Some(refused),
-        };
-        if lent.len() < VERDICT {
-            return Some(NO_ROOM);
+        match self.asked(model, lent, VERDICT) {
+            Err(answer) => Some(answer),
+            Ok(model) => lay_answer(self.verdict_under(model).expect("a good text"), lent),
         }
-        let (answer, operations, rules) = match self.verdict_under(model).expect("a good text") {
-            Verdict::NoSource(load) => (NO_SOURCE, vec![*load], &[][..]),
-            Verdict::Circle(circle) => (CIRCLE, circle.operations.clone(), &circle.rules[..]),
-            Verdict::Order(list) => (ORDER, list.clone(), &[][..]),
-            Verdict::NoneLeft => (NONE_LEFT, vec![], &[][..]),
-            Verdict::NotKnown => return None,
+    }
+
+    /// The same within a limit of steps, with the count behind it.
+    pub fn limited(&self, model: u8, limit: u64, lent: &mut [u8]) -> Option<u8> {
+        let model = match self.asked(model, lent, LIMITED) {
+            Err(answer) => return Some(answer),
+            Ok(model) => model,
         };
-        lay_verdict(&mut lent[..VERDICT], &operations, rules);
+        let (answer, steps) = match self.limited_under(model, limit)? {
+            Limited::Decided(verdict, steps) => (lay_answer(&verdict, lent)?, steps),
+            Limited::Undecided(steps) => {
+                lay_verdict(&mut lent[..VERDICT], &[], &[]);
+                (UNDECIDED, steps)
+            }
+        };
+        lent[VERDICT..LIMITED].copy_from_slice(&steps.to_le_bytes());
         Some(answer)
     }
 
@@ -259,6 +299,19 @@ impl<'a> Page<'a> {
         place[HEAD..].copy_from_slice(&file);
         (answer, Some(talk))
     }
+}
+
+/// A verdict's answer, with its bytes laid down; None where this package does not know it.
+fn lay_answer(verdict: &Verdict, lent: &mut [u8]) -> Option<u8> {
+    let (answer, operations, rules) = match verdict {
+        Verdict::NoSource(load) => (NO_SOURCE, vec![*load], &[][..]),
+        Verdict::Circle(circle) => (CIRCLE, circle.operations.clone(), &circle.rules[..]),
+        Verdict::Order(list) => (ORDER, list.clone(), &[][..]),
+        Verdict::NoneLeft => (NONE_LEFT, vec![], &[][..]),
+        Verdict::NotKnown => return None,
+    };
+    lay_verdict(&mut lent[..VERDICT], &operations, rules);
+    Some(answer)
 }
 
 /// All of a verdict's bytes.

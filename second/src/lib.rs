@@ -13,6 +13,7 @@
 //! | `orders` | valid orders, the judge, the first order in dictionary order |
 //! | `verdict` | the verdict, numbers 9 and 10 |
 //! | `plain` | the plain machine of document 02, number 25 |
+//! | `limited` | the verdict within a limit of steps |
 //! | `session` | suppose, take back, ask, numbers 9 to 16 |
 //! | `report` | the lines of an answer |
 //! | `desk` | the entries of the library, in bytes (their form is ours; what they say is the document's) |
@@ -26,6 +27,7 @@ pub mod chance;
 pub mod desk;
 pub mod families;
 pub mod files;
+pub mod limited;
 pub mod lists;
 pub mod machine;
 pub mod orders;

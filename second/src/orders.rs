@@ -141,6 +141,15 @@ pub fn plain_search(trace: &Trace, model: Model, most_steps: u64) -> First {
     }
 }
 
+/// The same with the steps that it made, each operation placed counted, those taken back too; None where it makes more than `most_steps`.
+pub fn plain_steps(trace: &Trace, model: Model, most_steps: u64) -> Option<(First, u64)> {
+    let board = Board::new(trace, model);
+    let mut list = Vec::new();
+    let mut left = most_steps;
+    let found = plainly(&board, &mut list, board.start(), &mut left)?;
+    Some((if found { First::Order(list) } else { First::None }, most_steps - left))
+}
+
 fn plainly(board: &Board, list: &mut Vec<usize>, state: State, steps: &mut u64) -> Option<bool> {
     if board.is_full(&state) {
         return Some(true);

@@ -442,3 +442,13 @@ fn a_session_in_words() {
     assert_eq!(second::script::answers(&trace, 2, &words).as_deref(), Some(wanted));
     assert_eq!(second::script::answers(&trace, 2, &["ask", "1"]), None);
 }
+
+/// The steps of the plain search on KNOT, as request 7's figures say; under PSO and WMO it ends with an order.
+#[test]
+fn the_steps_on_knot() {
+    let trace = second::reader::read(second::stated::KNOT.as_bytes()).expect("a good text");
+    let steps = |model| second::orders::plain_steps(&trace, model, 2_000_000).expect("within two million");
+    let counts: Vec<u64> = Model::all().iter().map(|&model| steps(model).1).collect();
+    assert_eq!(counts, [1_006_638, 1_929_410, 756_472, 177_091]);
+    assert_eq!(second::orders::plain_steps(&trace, Model::Sc, 1_006_637), None);
+}

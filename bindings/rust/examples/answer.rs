@@ -1,8 +1,8 @@
 //! Reads a trace from standard input. Prints the answer to it, what is wrong with it and where, the verdict in numbers under each model, whether
-//! 1 2 3 0 is an order, what the machine does under SC and TSO, and a short talk with a session under TSO.
+//! 1 2 3 0 is an order, how many steps the verdict takes within 20, what the machine does under SC and TSO, and a short talk with a session under TSO.
 
 use std::io::{self, Read};
-use wheelotter::{check, judge, report, run, steps, verdict, Answer, Asked, Judgement, Model, Ran, Session, Verdict, MODELS};
+use wheelotter::{check, judge, limited, report, run, steps, verdict, Answer, Asked, Judgement, Limited, Model, Ran, Session, Verdict, MODELS};
 
 fn main() -> io::Result<()> {
     let mut text = Vec::new();
@@ -53,6 +53,12 @@ fn print_verdict(text: &[u8], model: Model) {
         Err(refusal) => format!("no, {}", refusal.answer as u8),
     };
     println!("model {}: {told}; is 1 2 3 0 an order: {judged}", model as u8);
+    let within = match limited(text, model, 20) {
+        Ok(Limited::Decided(_, steps)) => format!("decided, steps {steps}"),
+        Ok(Limited::Undecided) => "undecided after 20".to_string(),
+        Err(refusal) => format!("refused {}", refusal.answer as u8),
+    };
+    println!("model {} within 20 steps: {within}", model as u8);
 }
 
 /// The steps that run 1 2 3 0 through, and how the steps 0 0 1 1 end.

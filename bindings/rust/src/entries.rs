@@ -10,6 +10,7 @@ mod linked {
         pub fn wheelotter_start(text: *const u8, text_len: usize) -> usize;
         pub fn wheelotter_end(text: *const u8, text_len: usize) -> usize;
         pub fn wheelotter_verdict(text: *const u8, text_len: usize, model: u8, out: *mut u8, out_len: usize) -> u8;
+        pub fn wheelotter_limited(text: *const u8, text_len: usize, model: u8, limit: u64, out: *mut u8, out_len: usize) -> u8;
         pub fn wheelotter_judge(
             text: *const u8,
             text_len: usize,
@@ -79,6 +80,12 @@ pub fn end(text: &[u8]) -> usize {
 /// as it was.
 pub fn verdict(text: &[u8], model: u8, out: &mut [u8]) -> u8 {
     unsafe { linked::wheelotter_verdict(text.as_ptr(), text.len(), model, out.as_mut_ptr(), out.len()) }
+}
+
+/// The same within a limit of steps of the plain search, in the first [`LIMITED`](crate::LIMITED) bytes of `out`: the verdict's bytes, and from
+/// [`COUNTED`](crate::COUNTED) on the count of steps in eight bytes, the low one first. Undecided names no operation, and its count is the limit.
+pub fn limited(text: &[u8], model: u8, limit: u64, out: &mut [u8]) -> u8 {
+    unsafe { linked::wheelotter_limited(text.as_ptr(), text.len(), model, limit, out.as_mut_ptr(), out.len()) }
 }
 
 /// Whether a list of record numbers is a valid order of the trace that a text writes, under a model, or which condition fails first; the place or

@@ -71,16 +71,44 @@ pub fn check(text: &[u8]) -> Result<(), Refusal<'_>> {
 /// What the memory did under a model.
 pub fn verdict(text: &[u8], model: Model) -> Result<Verdict, Refusal<'_>> {
     let mut out = [0; VERDICT];
-    let answer = Answer::of(entries::verdict(text, model as u8, &mut out));
+    match told(Answer::of(entries::verdict(text, model as u8, &mut out)), &out) {
+        Some(verdict) => Ok(verdict),
+        None => check(text).map(|()| unreachable!("a good text has a verdict under every model")),
+    }
+}
+
+/// The verdict in the bytes that came with an answer; None where the answer is none.
+fn told(answer: Answer, out: &[u8]) -> Option<Verdict> {
     let number = |place: usize| u16::from_le_bytes([out[place], out[place + 1]]);
     let named = usize::from(number(0));
     let operations: Vec<u16> = (0..named).map(|i| number(OPERATIONS + 2 * i)).collect();
     match answer {
-        Answer::NoSource => Ok(Verdict::NoSource(operations[0])),
-        Answer::Circle => Ok(Verdict::Circle { operations, rules: out[RULES..][..named].to_vec() }),
-        Answer::Order => Ok(Verdict::Order(operations)),
-        Answer::NoneLeft => Ok(Verdict::NoneLeft),
-        _ => check(text).map(|()| unreachable!("a good text has a verdict under every model")),
+        Answer::NoSource => Some(Verdict::NoSource(operations[0])),
+        Answer::Circle => Some(Verdict::Circle { operations, rules: out[RULES..][..named].to_vec() }),
+        Answer::Order => Some(Verdict::Order(operations)),
+        Answer::NoneLeft => Some(Verdict::NoneLeft),
+        _ => None,
+    }
+}
+
+/// The verdict within a limit of steps.
+#[derive(Clone, Debug, PartialEq, Eq)]
+pub enum Limited {
+    /// The verdict, and how many steps the plain search makes; 0 for a missing source and a circle.
+    Decided(Verdict, u64),
+    /// The plain search makes more steps than the limit.
+    Undecided,
+}
+
+/// What the memory did under a model, where the plain search makes no more steps than the limit.
+pub fn limited(text: &[u8], model: Model, limit: u64) -> Result<Limited, Refusal<'_>> {
+    let mut out = [0; LIMITED];
+    let answer = Answer::of(entries::limited(text, model as u8, limit, &mut out));
+    let steps = u64::from_le_bytes(out[COUNTED..].try_into().expect("eight bytes"));
+    match (answer, told(answer, &out)) {
+        (Answer::Undecided, _) => Ok(Limited::Undecided),
+        (_, Some(verdict)) => Ok(Limited::Decided(verdict, steps)),
+        (_, None) => check(text).map(|()| unreachable!("a good text has a verdict under every model")),
     }
 }
 

@@ -21,6 +21,12 @@ pub const OPERATIONS: usize = 2;
 /// Where the rules begin in a verdict.
 pub const RULES: usize = 514;
 
+/// A limited verdict in bytes has so many.
+pub const LIMITED: usize = 778;
+
+/// Where the count of steps begins in a limited verdict, eight bytes.
+pub const COUNTED: usize = 770;
+
 /// So many bytes of a session stand before its trace's packed file.
 pub const HEAD: usize = 8259;
 
@@ -146,6 +152,8 @@ pub enum Answer {
     OutOfTurn = 74,
     /// A record would read another value.
     WrongValue = 75,
+    /// The plain search makes more steps than the limit.
+    Undecided = 76,
     /// A step is impossible.
     Stuck = 25,
     /// All records ran, and the buffers are empty.
@@ -160,7 +168,7 @@ pub enum Answer {
 
 /// In the order of their numbers.
 #[rustfmt::skip]
-pub(crate) const ANSWERS: [Answer; 36] = [
+pub(crate) const ANSWERS: [Answer; 37] = [
     Answer::Done,
     Answer::LongText,
     Answer::LongLine,
@@ -192,6 +200,7 @@ pub(crate) const ANSWERS: [Answer; 36] = [
     Answer::Repeat,
     Answer::OutOfTurn,
     Answer::WrongValue,
+    Answer::Undecided,
     Answer::Stuck,
     Answer::Through,
     Answer::NotThrough,

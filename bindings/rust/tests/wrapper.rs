@@ -1,9 +1,11 @@
 //! Each kind of answer through the safe functions, worked out from document 01.
 
-use wheelotter::{check, entries, judge, report, run, steps, verdict, Answer, Asked, Judgement, Model, Ran, Refusal, Session, Verdict};
 use wheelotter::{
-    COUNT, ENTRIES, FILE, FIRST, FIRSTS, HEAD, JUDGEMENT, MARK, MODELS, OPERATIONS, PAIRS, PLACE, RECORD, RECORDS, REPLAY, REPORT, RULES, SESSION,
-    STANDING, STEPS, STEPS_AT, TABLE, TEXT, VERDICT,
+    check, entries, judge, limited, report, run, steps, verdict, Answer, Asked, Judgement, Limited, Model, Ran, Refusal, Session, Verdict,
+};
+use wheelotter::{
+    COUNT, COUNTED, ENTRIES, FILE, FIRST, FIRSTS, HEAD, JUDGEMENT, LIMITED, MARK, MODELS, OPERATIONS, PAIRS, PLACE, RECORD, RECORDS, REPLAY, REPORT,
+    RULES, SESSION, STANDING, STEPS, STEPS_AT, TABLE, TEXT, VERDICT,
 };
 
 const BUFFERS: &[u8] = b"0: M[0] := 1\n0: M[1] == 0\n1: M[1] := 1\n1: M[0] == 0\n";
@@ -28,6 +30,7 @@ fn the_numbers_of_the_header() {
     };
     assert_eq!([number("RECORDS"), number("PAIRS"), number("TEXT"), number("REPORT")], [RECORDS, PAIRS, TEXT, REPORT]);
     assert_eq!([number("VERDICT"), number("OPERATIONS"), number("RULES")], [VERDICT, OPERATIONS, RULES]);
+    assert_eq!([number("LIMITED"), number("COUNTED")], [LIMITED, COUNTED]);
     assert_eq!([number("HEAD"), number("STANDING"), number("MARK"), number("TABLE")], [HEAD, STANDING, MARK, TABLE]);
     assert_eq!([number("PLACE"), number("STEPS"), number("STEPS_AT"), number("REPLAY")], [PLACE, STEPS, STEPS_AT, REPLAY]);
     assert_eq!([number("SESSION"), number("FILE"), number("FIRSTS"), number("COUNT")], [SESSION, FILE, FIRSTS, COUNT]);
@@ -81,6 +84,31 @@ fn machine() {
     assert_eq!(steps(BUFFERS, Model::Sc, &[1, 2, 3, 0]), Err(Answer::NoOrder));
     assert_eq!(steps(b"0: sync\n", Model::Sc, &[]), Ok(vec![0]));
     assert_eq!(entries::steps(BUFFERS, 2, &[], &mut [0; REPLAY - 1]), Answer::NoRoom as u8);
+}
+
+#[test]
+fn limits() {
+    // 11 steps: worked out by hand, and the plain search's definition computes it.
+    let order = Verdict::Order(vec![1, 2, 3, 0]);
+    assert_eq!(limited(BUFFERS, Model::Tso, 11), Ok(Limited::Decided(order.clone(), 11)));
+    assert_eq!(limited(BUFFERS, Model::Tso, u64::MAX), Ok(Limited::Decided(order, 11)));
+    assert_eq!(limited(BUFFERS, Model::Tso, 10), Ok(Limited::Undecided));
+    assert_eq!(limited(BUFFERS, Model::Tso, 0), Ok(Limited::Undecided));
+    let circle = verdict(BUFFERS, Model::Sc).expect("a good text");
+    assert_eq!(limited(BUFFERS, Model::Sc, 0), Ok(Limited::Decided(circle, 0)));
+    assert_eq!(limited(NO_SOURCE, Model::Wmo, 0), Ok(Limited::Decided(Verdict::NoSource(2), 0)));
+    assert_eq!(limited(b"", Model::Sc, 0), Ok(Limited::Decided(Verdict::Order(vec![]), 0)));
+    assert_eq!(limited(b"\n", Model::Sc, 0).map_err(|refusal| refusal.answer), Err(Answer::NoForm));
+    for (model, steps) in [(Model::Sc, 1_006_638), (Model::Tso, 1_929_410)] {
+        assert_eq!(limited(KNOT, model, steps), Ok(Limited::Decided(Verdict::NoneLeft, steps)));
+        assert_eq!(limited(KNOT, model, steps - 1), Ok(Limited::Undecided));
+    }
+    let mut out = [1; LIMITED];
+    assert_eq!(entries::limited(BUFFERS, 2, 10, &mut out), Answer::Undecided as u8);
+    assert_eq!(out[..COUNTED], [0; VERDICT]);
+    assert_eq!(out[COUNTED..], 10u64.to_le_bytes());
+    assert_eq!(entries::limited(BUFFERS, 1, 0, &mut [0; LIMITED - 1]), Answer::NoRoom as u8);
+    assert_eq!(entries::limited(BUFFERS, 5, 0, &mut []), Answer::NoModel as u8);
 }
 
 #[test]

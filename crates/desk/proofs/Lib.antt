@@ -1,6 +1,7 @@
 -- Laws of the entries.
 pub mod Ranked
 pub mod Spelling
+pub mod Limiting
 pub mod Judging
 pub mod Hosted
 pub mod Laying

@@ -8,6 +8,7 @@ use Rattle.laws.specs.Settles.{Settles, Leaves}
 use Rattle.session.proofs.Forcing.{closings-some}
 use Rattle.report.proofs.One.{reported-one}
 use Rattle.desk.proofs.Spelling.{answered-one}
+use Rattle.desk.proofs.Limiting.{limited-one}
 use Rattle.desk.proofs.Judging.{judged-one}
 use Rattle.desk.proofs.Hosted.{run-one, replayed-one}
 use Rattle.desk.proofs.texts.wheelotter_report.Reads as report
@@ -22,6 +23,8 @@ use Rattle.desk.proofs.texts.wheelotter_end.Reads as end
 use Rattle.desk.proofs.texts.wheelotter_end.Kinds as end-kinds
 use Rattle.desk.proofs.verdicts.wheelotter_verdict.Reads as verdict
 use Rattle.desk.proofs.verdicts.wheelotter_verdict.Kinds as verdict-kinds
+use Rattle.desk.proofs.limits.wheelotter_limited.Reads as limited
+use Rattle.desk.proofs.limits.wheelotter_limited.Kinds as limited-kinds
 use Rattle.desk.proofs.judgements.wheelotter_judge.Reads as judge
 use Rattle.desk.proofs.judgements.wheelotter_judge.Kinds as judge-kinds
 use Rattle.desk.proofs.runs.wheelotter_run.Reads as run
@@ -60,6 +63,12 @@ verdict-settles κs a x y s t p q = answered-one (now (a .0)) (a .1 .0) (now (a 
 
 pub verdict-leaves : Leaves 2 verdict-kinds.ps verdict-kinds.r (λ κs s. now (s .1 .1 .0)) verdict.Post
 verdict-leaves κs a x y s t p q = answered-one (now (a .0)) (a .1 .0) (now (a .1 .1 .0)) (now (s .1 .1 .0)) (now (t .1 .1 .0)) x y p q .1
+
+pub limited-settles : Settles 2 limited-kinds.ps limited-kinds.r limited.Post
+limited-settles κs a x y s t p q = limited-one (now (a .0)) (a .1 .0) (a .1 .1 .0) (now (a .1 .1 .1 .0)) (now (s .1 .1 .1 .0)) (now (t .1 .1 .1 .0)) x y p q .0
+
+pub limited-leaves : Leaves 2 limited-kinds.ps limited-kinds.r (λ κs s. now (s .1 .1 .1 .0)) limited.Post
+limited-leaves κs a x y s t p q = limited-one (now (a .0)) (a .1 .0) (a .1 .1 .0) (now (a .1 .1 .1 .0)) (now (s .1 .1 .1 .0)) (now (t .1 .1 .1 .0)) x y p q .1
 
 pub judge-settles : Settles 3 judge-kinds.ps judge-kinds.r judge.Post
 judge-settles κs a x y s t p q =

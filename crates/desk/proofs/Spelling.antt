@@ -2,8 +2,8 @@
 --
 --   wide-long, wide-more     == how many bytes numbers have; one number more behind them
 --   spelled-by, spelled-fits == by its outcome; its operations have places
---   spelled-laid             == the bytes of a verdict, as the code lays them
---   source-below             == a record that lacks a source is one of the trace
+--   spelled-laid, answer-laid == the bytes of a verdict, as the code lays them, and its answer by the outcome
+--   below, source-below      == a record that lacks a source is one of the trace
 --   laid-down                == a count, operations and rules put one behind the other
 --   told-good                == what is answered and left in the buffer, where nothing is wrong
 --   answered-one             == no second answer, and no second state of the buffer
@@ -76,15 +76,14 @@ spelled-laid (said.circle c rs) = refl
 spelled-laid (said.order xs) = refl
 spelled-laid said.noneLeft = refl
 
--- its answer by the outcome
-answer-laid : (v : said.Verdict) → outcomeNumber (laid v .outcome) ≡ answerTo v
+pub answer-laid : (v : said.Verdict) → outcomeNumber (laid v .outcome) ≡ answerTo v
 answer-laid (said.noSource x) = refl
 answer-laid (said.circle c rs) = refl
 answer-laid (said.order xs) = refl
 answer-laid said.noneLeft = refl
 
 module _ (m : ℕ) (t : Trace) (w : So (wellFormed t)) where
-  below : (v : said.Verdict) → said.Says (frameOf t) (keptOf m t) v → lacking (laid v .outcome) < RECORDS
+  pub below : (v : said.Verdict) → said.Says (frameOf t) (keptOf m t) v → lacking (laid v .outcome) < RECORDS
   below (said.noSource x) s = let h = reads-iff t x .0 (s .0 .reads) .0 in omega (arith, well-fits t w)
   below (said.circle c rs) s = omega arith
   below (said.order xs) s = omega arith

@@ -5,6 +5,7 @@
 --   HELD, NOT-HELD, CONTRADICTED   == what a session says when it is asked
 --   VALID                          == the judge: a valid order
 --   WRONG-LENGTH, BAD-NUMBER, REPEAT, OUT-OF-TURN, WRONG-VALUE == the condition that a list fails first
+--   UNDECIDED                      == a limited verdict: the plain search makes more steps than the limit
 --   THROUGH, NOT-THROUGH           == the machine: all steps are done, and the trace ran through, or not
 --   REPLAYED, NO-ORDER             == steps that run an order through, or a list that is none
 --   NO-MODEL, NOT-WELL-FORMED, NO-SOURCE == document 01's numbers of a model that does not exist, of a trace that is not well formed, and of a missing source
@@ -54,6 +55,9 @@ OUT-OF-TURN = 74
 
 abbrev pub WRONG-VALUE : ℕ
 WRONG-VALUE = 75
+
+abbrev pub UNDECIDED : ℕ
+UNDECIDED = 76
 
 abbrev pub THROUGH : ℕ
 THROUGH = 79

@@ -5,6 +5,7 @@ pub mod Answers
 pub mod Ranked
 pub mod Verdict
 pub mod Spelled
+pub mod Limits
 pub mod Heard
 pub mod Judged
 pub mod Runs

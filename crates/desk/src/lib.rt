@@ -4,6 +4,7 @@ mod answers;
 mod files;
 mod heads;
 pub mod judgements;
+pub mod limits;
 pub mod runs;
 pub mod sessions;
 pub mod texts;

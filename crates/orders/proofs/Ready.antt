@@ -4,7 +4,8 @@
 --   valid-sized                             == a valid order has all operations, and nothing else
 --   ready-same, served-step                 == readiness looks at what is placed as a set; one step serves the readers of what it places
 --   due, not-due                            == how often an operation must stand in an order, and anything else
---   disciplined-few, disciplined-full       == a disciplined list has operations only, none twice; if it is long enough, it has them all
+--   steps-few, steps-full                   == a list built by placing operations that are not placed yet has none twice; if it is long enough, it has them all
+--   disciplined-few, disciplined-full       == so has a disciplined list
 --   held-guide, edge-guide, chains-guide    == what is held guides the search; so do the edges of rules 1 to 5, and the chains of any round
 --   valid-ready, unready-none               == in a valid order each operation is ready in its turn; what is not ready begins none
 --   valid-steps, valid-disciplined          == so a valid order is disciplined, and so is each first part of it
@@ -92,33 +93,42 @@ due t = ap (λ b. cond b 1 0) t
 pub not-due : {b : Bool} → b ≡ false → _≡_ {A = ℕ} (cond b 1 0) 0
 not-due t = ap (λ b. cond b 1 0) t
 
+-- of any steps that place operations which are not placed yet
+module _ (f : Frame) (R : List ℕ → ℕ → Type 0) (places : (p : List ℕ) (c : ℕ) → R p c → So (f .operation c) × (count c p ≡ 0)) where
+  steps-from : (q s : List ℕ) → ((x : ℕ) → count x q ≤ cond (f .operation x) 1 0) → Steps R q s → (x : ℕ) → count x (q ++ s) ≤ cond (f .operation x) 1 0
+  unfolding count
+  steps-from q [] h d x = rw append-nil (h x)
+  steps-from q (c ∷ s) h d x = subst (λ (l : List ℕ). count x l ≤ cond (f .operation x) 1 0) (append-snoc q c s) (steps-from (q ++ (c ∷ [])) s next (d .1) x)
+    where
+      next : (x : ℕ) → count x (q ++ (c ∷ [])) ≤ cond (f .operation x) 1 0
+      next x = elim (eq? x c) [
+        | inl e ↦ omega (arith, count-append x q (c ∷ []), count-here x c [] e, ap (λ x. count x q) e ∙ places q c (d .0) .1, due (ap (f .operation) e ∙ places q c (d .0) .0))
+        | inr n ↦ omega (arith, count-append x q (c ∷ []), count-later x c [] n, h x)
+      ]
+
+  pub steps-few : (p : List ℕ) → Steps R [] p → (x : ℕ) → count x p ≤ cond (f .operation x) 1 0
+  unfolding count
+  steps-few p d = steps-from [] p (λ x. omega arith) d
+
+  pub steps-full : Good f → (xs : List ℕ) → Steps R [] xs → length xs ≡ operations f → Once f xs
+  unfolding operations
+  steps-full g xs d l x = go (decLt x (f .records))
+    where
+      few : (x : ℕ) → count x xs ≤ cond (f .operation x) 1 0
+      few = steps-few xs d
+
+      below : (x : ℕ) → 0 < count x xs → x < f .records
+      below x h = g .below x (elim (test (f .operation x)) [ inl t ↦ t | inr t ↦ absurd (omega (arith, few x, not-due t)) ])
+
+      go : Dec (x < f .records) → count x xs ≡ cond (f .operation x) 1 0
+      go (yes h) = omega (arith, few x, sum-same (f .records) (λ x. count x xs) (λ x. cond (f .operation x) 1 0) (λ x _. few x) (omega (arith, count-sum (f .records) xs below)) x h)
+      go (no h) = omega (arith, few x, not-due (off (λ t. h (g .below x t))))
+
 pub disciplined-few : (f : Frame) (H : Rel) (p : List ℕ) → Disciplined f H p → (x : ℕ) → count x p ≤ cond (f .operation x) 1 0
-unfolding count
-disciplined-few f H p d = go [] p (λ x. omega arith) d
-  where
-    go : (q s : List ℕ) → ((x : ℕ) → count x q ≤ cond (f .operation x) 1 0) → Steps (Ready f H) q s → (x : ℕ) → count x (q ++ s) ≤ cond (f .operation x) 1 0
-    go q [] h d x = rw append-nil (h x)
-    go q (c ∷ s) h d x = subst (λ (l : List ℕ). count x l ≤ cond (f .operation x) 1 0) (append-snoc q c s) (go (q ++ (c ∷ [])) s next (d .1) x)
-      where
-        next : (x : ℕ) → count x (q ++ (c ∷ [])) ≤ cond (f .operation x) 1 0
-        next x = elim (eq? x c) [
-          | inl e ↦ omega (arith, count-append x q (c ∷ []), count-here x c [] e, ap (λ x. count x q) e ∙ d .0 .unplaced, due (ap (f .operation) e ∙ d .0 .operation))
-          | inr n ↦ omega (arith, count-append x q (c ∷ []), count-later x c [] n, h x)
-        ]
+disciplined-few f H = steps-few f (Ready f H) (λ p c r. (r .operation, r .unplaced))
 
 pub disciplined-full : (f : Frame) → Good f → (H : Rel) (xs : List ℕ) → Disciplined f H xs → length xs ≡ operations f → Once f xs
-unfolding operations
-disciplined-full f g H xs d l x = go (decLt x (f .records))
-  where
-    few : (x : ℕ) → count x xs ≤ cond (f .operation x) 1 0
-    few = disciplined-few f H xs d
-
-    below : (x : ℕ) → 0 < count x xs → x < f .records
-    below x h = g .below x (elim (test (f .operation x)) [ inl t ↦ t | inr t ↦ absurd (omega (arith, few x, not-due t)) ])
-
-    go : Dec (x < f .records) → count x xs ≡ cond (f .operation x) 1 0
-    go (yes h) = omega (arith, few x, sum-same (f .records) (λ x. count x xs) (λ x. cond (f .operation x) 1 0) (λ x _. few x) (omega (arith, count-sum (f .records) xs below)) x h)
-    go (no h) = omega (arith, few x, not-due (off (λ t. h (g .below x t))))
+disciplined-full f g H = steps-full f (Ready f H) (λ p c r. (r .operation, r .unplaced)) g
 
 -- Kept pairs must join operations; edges/proofs/Counter.antt says why.
 module _ (f : Frame) (g : Good f) (K : Table) (joins : Joins f K) where

@@ -81,7 +81,7 @@ Joining e x k i t = Adding e (Row e x k) (λ _ y. y / WIDTH) i t
 
 -- word i of row x takes over a word q, which has the bits of what is given
 module _ (t : List ℕ) (x i q : ℕ) (given : ℕ → Bool) (same : (y : ℕ) → y < RECORDS → y / WIDTH ≡ i → given y ≡ bitOf q (y % WIDTH)) (below : (y : ℕ) → So (given y) → y < RECORDS)
-    (hx : x < RECORDS) (hi : i < WORDS) (l : length t ≡ CELLS) where
+    (hx : x < RECORDS) (hi : i < WORDS) (l : x * WORDS + i < length t) where
   abbrev grown : List ℕ
   grown = orOf t (x * WORDS + i) q
 
@@ -119,7 +119,7 @@ module _ (e t : List ℕ) (x k i : ℕ) (now : Joining e x k i t) where
       adding-more e (Row e x k) (λ _ y. y / WIDTH) i t now (orOf t (x * WORDS + i) q) (or-long t (x * WORDS + i) q)
       (λ words. or-words t (x * WORDS + i) q (words (k * WORDS + i)) words)
       (λ a y.
-      let given = grown-iff t x i q (bit t k) (λ y h e. bit-at t k y hk h ∙ rw e refl) (λ y h. bit-bounds t k y h .1) hx hi l a y in (
+      let given = grown-iff t x i q (bit t k) (λ y h e. bit-at t k y hk h ∙ rw e refl) (λ y h. bit-bounds t k y h .1) hx hi (omega arith) a y in (
         λ h. elim (given .0 h) [ inl g ↦ inl g | inr p ↦ inr (p .0, (p .1 .0, join-row y .0 (p .1 .1))) ],
         λ s. given .1 (elim s [ inl g ↦ inl g | inr p ↦ inr (p .0, (p .1 .0, join-row y .1 (p .1 .1))) ]),
       ))
@@ -206,7 +206,7 @@ chained-one e a b p q = elim (eq? (length e) CELLS) [
 
 -- A row of another relation -----------------------------------------------------------------------------------------------------------------
 
-module _ (from : List ℕ) (words : Words from) (m : ℕ) (e : List ℕ) (x : ℕ) (hx : x < RECORDS) (full : length e ≡ CELLS) where
+module _ (from : List ℕ) (words : Words from) (m : ℕ) (e : List ℕ) (x : ℕ) (hx : x < RECORDS) (room : x * WORDS + WORDS ≤ length e) where
   abbrev Given : Rel
   Given i j = (i ≡ x) × Edges from m j
 
@@ -218,7 +218,7 @@ module _ (from : List ℕ) (words : Words from) (m : ℕ) (e : List ℕ) (x : �
       let now = taken i (omega arith) in
       let q : ℕ = wordOf from m i in
       let more = adding-more e Given (λ _ y. y / WIDTH) i t now (orOf t (x * WORDS + i) q) (or-long t (x * WORDS + i) q) (or-words t (x * WORDS + i) q (word-small from words m i))
-      (grown-iff t x i q (bit from m) (λ y h e. bit-word from m y h ∙ rw e refl) (λ y h. bit-bounds from m y h .1) hx (omega arith) (now .long ∙ full)) in
+      (grown-iff t x i q (bit from m) (λ y h e. bit-word from m y h ∙ rw e refl) (λ y h. bit-bounds from m y h .1) hx (omega arith) (omega (arith, now .long))) in
       rw add-one at more
 
   pub row-added : Added e Given (addRowOf from m e x)

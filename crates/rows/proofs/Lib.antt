@@ -5,3 +5,5 @@ pub mod Whole
 pub mod Closing
 pub mod One
 pub mod Against
+pub mod Dropping
+pub mod Sets

@@ -28,6 +28,8 @@ use Rattle.rows.proofs.reflexive.Reads as reflexive
 use Rattle.rows.proofs.reflexive.Kinds as reflexive-kinds
 use Rattle.rows.proofs.add_row.Reads as add-row
 use Rattle.rows.proofs.add_row.Kinds as add-row-kinds
+use Rattle.rows.proofs.drop_row.Reads as drop-row
+use Rattle.rows.proofs.drop_row.Kinds as drop-row-kinds
 use Rattle.rows.proofs.chains.Reads as chains
 use Rattle.rows.proofs.chains.Kinds as chains-kinds
 
@@ -60,6 +62,9 @@ reflexive-settles κs a x y s t p q = p ∙ sym q
 
 pub add-row-leaves : Leaves 2 add-row-kinds.ps add-row-kinds.r (λ κs s. now (s .1 .1 .0)) add-row.Post
 add-row-leaves κs a x y s t p q = p ∙ sym q
+
+pub drop-row-leaves : Leaves 2 drop-row-kinds.ps drop-row-kinds.r (λ κs s. now (s .1 .1 .0)) drop-row.Post
+drop-row-leaves κs a x y s t p q = p ∙ sym q
 
 pub chains-leaves : Leaves 1 chains-kinds.ps chains-kinds.r (λ κs s. now (s .0)) chains.Post
 chains-leaves κs a x y s t p q = chained-one (now (a .0)) (now (s .0)) (now (t .0)) p q

@@ -8,3 +8,5 @@ pub mod Added
 pub mod Chained
 pub mod Within
 pub mod AddRow
+pub mod DropRow
+pub mod Sets

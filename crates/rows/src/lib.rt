@@ -16,6 +16,7 @@ ghost use Rattle.rows.specs.Copy.{copyOf};
 ghost use Rattle.rows.specs.Added.{Added, Row, Through};
 ghost use Rattle.rows.specs.Chained.{Chained};
 ghost use Rattle.rows.specs.AddRow.{addRowOf};
+ghost use Rattle.rows.specs.DropRow.{dropRowOf};
 
 // The bits of a word.
 pub const WIDTH: usize = 64;
@@ -230,6 +231,25 @@ pub fn add_row(from: &[u64], m: usize, to: &mut [u64], x: usize)
         if at < to.len() {
             let p = to[at];
             to[at] = p | q;
+        }
+        i += 1;
+    }
+}
+
+// Takes out of row x of `to` what row m of `from` has, a word at a time; a number past the records has no row, and words past the end are left out.
+pub fn drop_row(from: &[u64], m: usize, to: &mut [u64], x: usize)
+    ensures { λ r. ⌜ now (to .exit) ≡ dropRowOf (now (from .entry)) m (now (to .entry)) x ⌝ }
+{
+    if trace::RECORDS <= x {
+        return;
+    }
+    let mut i: usize = 0;
+    while i < WORDS {
+        let q = word(from, m, i);
+        let at = x * WORDS + i;
+        if at < to.len() {
+            let p = to[at];
+            to[at] = (p | q) ^ q;
         }
         i += 1;
     }

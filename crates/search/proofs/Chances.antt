@@ -25,7 +25,8 @@ use Rattle.rules.proofs.SourceOf.{source-of-is, source-of-has}
 use Rattle.orders.specs.Ready.{Ready}
 use Rattle.orders.specs.Stop.{Stop, unread, covered}
 use Rattle.search.specs.Laid.{Tables, Led, Laid}
-use Rattle.search.specs.Chances.{Holds, waits, Readied, Unread, still, Covered, Enough}
+use Rattle.rows.specs.Sets.{Holds}
+use Rattle.search.specs.Chances.{waits, Readied, Unread, still, Covered, Enough}
 
 module _ (writers sources placed : List ℕ) (c L : ℕ) where
   pub waits-apart : bit writers L c ≡ false → waits writers sources placed c L ≡ false

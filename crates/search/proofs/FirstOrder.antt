@@ -38,7 +38,7 @@ use Rattle.search.specs.Seeking.{follows, Sought}
 use Rattle.search.specs.Looked.{Looked}
 use Rattle.search.specs.FirstOrder.{found?, orderOf, FirstOrder}
 use Rattle.search.specs.declared.Order.{Order}
-use Rattle.search.proofs.Sets.{empty-holds}
+use Rattle.rows.proofs.Sets.{empty-holds}
 use Rattle.search.proofs.Memory.{dead-none}
 use Rattle.search.proofs.Guiding.{laid}
 

@@ -32,7 +32,7 @@ use Rattle.edges.specs.Adds.{Adds, Only, Union}
 use Rattle.rules.specs.SourceOf.{sourceOf}
 use Rattle.orders.specs.Ready.{operations}
 use Rattle.search.specs.Laying.{Filled, Counted}
-use Rattle.search.proofs.Sets.{put-more}
+use Rattle.rows.proofs.Sets.{put-more}
 
 pub filled : (n : ℕ) (R : Table) (m : ℕ) (rows : List ℕ) → Adds (emptyOf m) (Union n (λ y. Union n (λ x. Only (R x y) y x))) rows → Filled n R rows
 unfolding Union

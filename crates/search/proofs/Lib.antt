@@ -1,5 +1,4 @@
 -- Laws of the search, for the proofs of its functions.
-pub mod Sets
 pub mod Chances
 pub mod Refuting
 pub mod Memory

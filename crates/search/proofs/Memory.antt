@@ -25,9 +25,9 @@ use Rattle.rows.specs.Empty.{emptyOf}
 use Rattle.orders.proofs.Ready.{exchange-none}
 use Rattle.search.specs.Bounds.{SLOTS}
 use Rattle.search.specs.Laid.{Tables, Led, Laid}
-use Rattle.search.specs.Chances.{Holds}
+use Rattle.rows.specs.Sets.{Holds}
 use Rattle.search.specs.Memory.{slotOf, Has, Noted, Begun, Dead}
-use Rattle.search.proofs.Sets.{empty-only}
+use Rattle.rows.proofs.Sets.{empty-only}
 
 -- the list with a set in the place of the words from a on
 abbrev written : ℕ → List ℕ → List ℕ → List ℕ

@@ -39,7 +39,7 @@ use Rattle.rules.specs.Rules.{nothing, rule6, rule7}
 use Rattle.rules.proofs.Sound.{gives-sound}
 use Rattle.rules.proofs.SourceOf.{source-of-is}
 use Rattle.search.specs.Laid.{Tables, Laid}
-use Rattle.search.specs.Chances.{Holds}
+use Rattle.rows.specs.Sets.{Holds}
 use Rattle.search.specs.Refuting.{Ranked, Obeys, Settling, Ranking, Grown, Refuted}
 use Rattle.search.proofs.Chances.{lacks}
 

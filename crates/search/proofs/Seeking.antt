@@ -34,10 +34,11 @@ use Rattle.orders.specs.Stop.{Failed}
 use Rattle.orders.proofs.Ready.{valid-sized, unready-none, disciplined-full, full-valid}
 use Rattle.orders.proofs.Stop.{failed-none, failed-more, stop-none}
 use Rattle.search.specs.Laid.{Tables, Led, Laid}
-use Rattle.search.specs.Chances.{More, Readied, Stops}
+use Rattle.rows.specs.Sets.{More}
+use Rattle.search.specs.Chances.{Readied, Stops}
 use Rattle.search.specs.Memory.{Has, Noted, Begun, Dead}
 use Rattle.search.specs.Seeking.{follows, Room, Sought, Trying}
-use Rattle.search.proofs.Sets.{more-holds}
+use Rattle.rows.proofs.Sets.{more-holds}
 use Rattle.search.proofs.Chances.{ready-iff, stop-of}
 use Rattle.search.proofs.Refuting.{refuted-none}
 use Rattle.search.proofs.Memory.{dead-has, dead-noted}

@@ -1,7 +1,5 @@
 -- Which operation may come next, and when the loop may stop, as the functions see it: by sets and rows.
 --
---   Holds set p     == the set has exactly the numbers of the list p
---   More set y next == next has y and the numbers of the set
 --   waits .. c L    == L reads from an address that c writes, its source is placed, and it is not
 --   Readied .. c    == c is an unplaced operation, what must be before it is placed, and nobody waits at its address
 --   Unread .. y     == everybody who reads from y is placed
@@ -10,24 +8,15 @@
 --   Enough .. y     == one of the two: any valid order could go on with one that failed
 --   Stops .. y      == the loop may stop after y: enough has failed, or nothing can go on
 use mathlib.Core.Path.{_≡_}
-use mathlib.Core.Logic.{_⊎_, _↔_}
+use mathlib.Core.Logic.{_⊎_}
 use mathlib.Core.Bool.{Bool, false, So, not, _&&_}
 use mathlib.Core.List.{List}
 use Prim.Native.Nat.{ℕ, _<_}
-use lib.ListN.{length, getD}
-use Rattle.laws.specs.Places.{count}
+use lib.ListN.{getD}
 use Rattle.laws.specs.Tests.{any}
-use Rattle.rows.specs.Bounds.{WORDS}
 use Rattle.rows.specs.Rows.{bit}
 use Rattle.rows.specs.Within.{Within}
 use Rattle.search.specs.Refuting.{Refuted}
-
-abbrev pub Holds : List ℕ → List ℕ → Type 0
-Holds set p = (x : ℕ) → So (bit set 0 x) ↔ (0 < count x p)
-
-pub record More (set : List ℕ) (y : ℕ) (next : List ℕ) : Type 0 where
-  pub long : length next ≡ WORDS
-  pub has : (x : ℕ) → So (bit next 0 x) ↔ (So (bit set 0 x) ⊎ (x ≡ y))
 
 unfoldable pub waits : List ℕ → List ℕ → List ℕ → ℕ → ℕ → Bool
 waits writers sources placed c L = bit writers L c && (bit placed 0 (getD sources L 0) && not (bit placed 0 L))

@@ -19,7 +19,7 @@ use Rattle.rows.specs.Bounds.{WORDS}
 use Rattle.orders.specs.Ready.{Disciplined}
 use Rattle.search.specs.Bounds.{SLOTS}
 use Rattle.search.specs.Laid.{Led}
-use Rattle.search.specs.Chances.{Holds}
+use Rattle.rows.specs.Sets.{Holds}
 
 unfoldable pub slotOf : List ℕ → ℕ → List ℕ
 slotOf dead s = take WORDS (drop (s * WORDS) dead)

@@ -11,6 +11,7 @@ pub enum Call {
     Start,
     End,
     Verdict { model: u8, room: usize },
+    Limited { model: u8, limit: u64, room: usize },
     Judge { model: u8, list: Vec<u16>, room: usize },
     Run { model: u8, steps: Vec<u8>, room: usize },
     Steps { model: u8, list: Vec<u16>, room: usize },
@@ -27,8 +28,8 @@ pub const OTHER_MODELS: [u8; 5] = [0, LAST_MODEL + 1, LAST_MODEL + 2, 128, 255];
 pub const LAST_MODEL: u8 = MODELS as u8;
 
 /// The entries' names without the front that all share, in the order of the header.
-pub const ENTRIES: [&str; 13] =
-    ["report", "number", "line", "start", "end", "verdict", "judge", "run", "steps", "open", "suppose", "take_back", "ask"];
+pub const ENTRIES: [&str; 14] =
+    ["report", "number", "line", "start", "end", "verdict", "limited", "judge", "run", "steps", "open", "suppose", "take_back", "ask"];
 
 impl Call {
     /// Which of `ENTRIES` is called.
@@ -40,13 +41,14 @@ impl Call {
             Call::Start => 3,
             Call::End => 4,
             Call::Verdict { .. } => 5,
-            Call::Judge { .. } => 6,
-            Call::Run { .. } => 7,
-            Call::Steps { .. } => 8,
-            Call::Open { .. } => 9,
-            Call::Suppose { .. } => 10,
-            Call::TakeBack => 11,
-            Call::Ask { .. } => 12,
+            Call::Limited { .. } => 6,
+            Call::Judge { .. } => 7,
+            Call::Run { .. } => 8,
+            Call::Steps { .. } => 9,
+            Call::Open { .. } => 10,
+            Call::Suppose { .. } => 11,
+            Call::TakeBack => 12,
+            Call::Ask { .. } => 13,
         }
     }
 
@@ -62,6 +64,7 @@ impl fmt::Display for Call {
         match self {
             Call::Report { room } => write!(f, " into {room} bytes"),
             Call::Verdict { model, room } => write!(f, " under {model} into {room} bytes"),
+            Call::Limited { model, limit, room } => write!(f, " under {model} within {limit} steps into {room} bytes"),
             Call::Judge { model, list, room } => write!(f, " under {model} of {list:?} into {room} bytes"),
             Call::Run { model, steps, room } => write!(f, " under {model} by {steps:?} into {room} bytes"),
             Call::Steps { model, list, room } => write!(f, " under {model} of {list:?} into {room} bytes"),

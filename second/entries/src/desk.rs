@@ -9,6 +9,7 @@ pub trait Desk: Sync {
     fn start(&self, text: &[u8]) -> usize;
     fn end(&self, text: &[u8]) -> usize;
     fn verdict(&self, text: &[u8], model: u8, out: &mut [u8]) -> u8;
+    fn limited(&self, text: &[u8], model: u8, limit: u64, out: &mut [u8]) -> u8;
     fn judge(&self, text: &[u8], model: u8, list: &[u16], out: &mut [u8]) -> u8;
     fn run(&self, text: &[u8], model: u8, steps: &[u8], out: &mut [u8]) -> u8;
     fn steps(&self, text: &[u8], model: u8, order: &[u16], out: &mut [u8]) -> u8;
@@ -39,6 +40,9 @@ impl Desk for Proved {
     }
     fn verdict(&self, text: &[u8], model: u8, out: &mut [u8]) -> u8 {
         entries::verdict(text, model, out)
+    }
+    fn limited(&self, text: &[u8], model: u8, limit: u64, out: &mut [u8]) -> u8 {
+        entries::limited(text, model, limit, out)
     }
     fn judge(&self, text: &[u8], model: u8, list: &[u16], out: &mut [u8]) -> u8 {
         entries::judge(text, model, list, out)

@@ -5,7 +5,7 @@ use crate::case::Case;
 use crate::desk::Desk;
 use crate::lent::Lent;
 use crate::machines;
-use second::desk::{lay_verdict, number_at, JUDGEMENT, NONE_LEFT, OPERATIONS_AT, ORDER, RULES_AT, VERDICT};
+use second::desk::{lay_verdict, number_at, JUDGEMENT, LIMITED, NONE_LEFT, OPERATIONS_AT, ORDER, RULES_AT, VERDICT};
 use second::lists::drawn;
 use second::report::NOT_KNOWN;
 use second::trace::{Model, Trace, MODELS, MOST_RECORDS};
@@ -16,9 +16,10 @@ pub fn compare<D: Desk>(case: &mut Case<'_, D>) {
     let readings = readings(case);
     let report = report(case);
     let verdicts = verdicts(case);
+    let limits = limits(case);
     let judged = judged(case);
     let machines = machines::compare(case);
-    if !(readings && report && verdicts && judged && machines) {
+    if !(readings && report && verdicts && limits && judged && machines) {
         case.counts.texts_failed += 1;
     } else if case.page.trace().is_some() && case.page.output().contains(NOT_KNOWN) {
         case.counts.not_known += 1;
@@ -86,6 +87,32 @@ fn may_be<D: Desk>(case: &mut Case<'_, D>, model: u8, got: u8, mut mine: Lent, t
     let wanted = if got == ORDER && case.page.judge(model, &numbers) { ORDER } else { NONE_LEFT };
     lay_verdict(&mut mine.bytes_mut()[..VERDICT], if wanted == ORDER { &list } else { &[] }, &[]);
     case.same(Call::Verdict { model, room }, (wanted.into(), &mine), (got.into(), &theirs))
+}
+
+/// Every model at the count of steps, one below it, at 0 and at the largest limit; one model that there is not, and memory that is too short.
+fn limits<D: Desk>(case: &mut Case<'_, D>) -> bool {
+    let chance = &mut case.chance;
+    let short = [0, 1, VERDICT, LIMITED - 1, LIMITED - 1, chance.below(LIMITED)];
+    let mut asked = vec![(chance.between(1, MODELS) as u8, 0, *chance.of(&short)), (*chance.of(&OTHER_MODELS), 7, LIMITED)];
+    for &model in Model::all() {
+        let room = LIMITED + chance.below(3);
+        let limits = match case.page.plain_under(model) {
+            // A search that is too long for the second reading may be so for anybody: only limits that it has passed are asked.
+            None => vec![0, chance.below(case.page.most_steps() as usize) as u64],
+            Some((_, 0)) => vec![0, u64::MAX],
+            Some((_, count)) => vec![0, count - 1, *count, *chance.of(&[count + 1, u64::MAX])],
+        };
+        asked.extend(limits.into_iter().map(|limit| (model as u8, limit, room)));
+    }
+    asked.into_iter().fold(true, |same, (model, limit, room)| limited(case, model, limit, room) && same)
+}
+
+fn limited<D: Desk>(case: &mut Case<'_, D>, model: u8, limit: u64, room: usize) -> bool {
+    let mut mine = Lent::drawn(&mut case.chance, room);
+    let mut theirs = mine.clone();
+    let Some(wanted) = case.page.limited(model, limit, mine.bytes_mut()) else { return true };
+    let got = case.desk.limited(case.text, model, limit, theirs.bytes_mut());
+    case.same(Call::Limited { model, limit, room }, (wanted.into(), &mine), (got.into(), &theirs))
 }
 
 /// Lists that are orders, are nearly so, and are nothing of the kind.

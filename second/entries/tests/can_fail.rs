@@ -6,7 +6,8 @@ use second::desk::{
     self, head_of, number_at, place_of, put_number, Page, CONTRADICTED_AT, DONE, HEAD, OPERATIONS_AT, PAIRS_AT, RULES_AT, VERDICT,
 };
 use second::desk::{
-    BAD_NUMBER, CONTRADICTED, JUDGEMENT, NONE_LEFT, NOT_HELD, NO_ROOM, NO_SOURCE, ORDER, REPEAT, VALID, WRONG_LENGTH, WRONG_VALUE,
+    BAD_NUMBER, CIRCLE, CONTRADICTED, JUDGEMENT, LIMITED, NONE_LEFT, NOT_HELD, NO_ROOM, NO_SOURCE, ORDER, REPEAT, UNDECIDED, VALID, WRONG_LENGTH,
+    WRONG_VALUE,
 };
 use second::desk::{NOT_THROUGH, NO_ORDER, PLACE, REPLAY, REPLAYED, STEPS_AT, STUCK, THROUGH};
 use second::families::FAMILIES;
@@ -21,7 +22,7 @@ struct Faulty(&'static str);
 
 const RIGHT: &str = "none";
 
-const FAULTS: [&str; 77] = [
+const FAULTS: [&str; 84] = [
     "report: a letter too far",
     "report: short memory written",
     "report: length of one line",
@@ -50,6 +51,13 @@ const FAULTS: [&str; 77] = [
     "verdict: every trace has an order",
     "verdict: any model is SC",
     "verdict: memory starts at 0",
+    "limited: one step less",
+    "limited: one step more is counted",
+    "limited: undecided with count 0",
+    "limited: a circle costs a step",
+    "limited: the high byte first",
+    "limited: undecided names something",
+    "limited: room for a verdict is enough",
     "judge: yes to all",
     "judge: repeats",
     "judge: no model",
@@ -278,6 +286,35 @@ impl Desk for Faulty {
             NONE_LEFT if self.is("verdict: every trace has an order") => ORDER,
             answer => answer,
         }
+    }
+
+    fn limited(&self, text: &[u8], model: u8, limit: u64, out: &mut [u8]) -> u8 {
+        let page = self.page(text);
+        if self.is("limited: room for a verdict is enough") && (VERDICT..LIMITED).contains(&out.len()) {
+            return page.limited(model, limit, &mut [0; LIMITED]).unwrap_or(UNDECIDED);
+        }
+        let less = if self.is("limited: one step less") { limit.saturating_sub(1) } else { limit };
+        // What is not known here is not asked there.
+        let Some(answer) = page.limited(model, less, out) else { return UNDECIDED };
+        if answer != NO_SOURCE && answer < ORDER {
+            return answer;
+        }
+        let steps = u64::from_le_bytes(out[VERDICT..LIMITED].try_into().expect("eight bytes"));
+        let steps = match answer {
+            UNDECIDED if self.is("limited: undecided with count 0") => 0,
+            UNDECIDED => limit,
+            CIRCLE if self.is("limited: a circle costs a step") => 1,
+            ORDER if self.is("limited: one step more is counted") => steps + 1,
+            _ => steps,
+        };
+        out[VERDICT..LIMITED].copy_from_slice(&steps.to_le_bytes());
+        if self.is("limited: the high byte first") {
+            out[VERDICT..LIMITED].reverse();
+        }
+        if self.is("limited: undecided names something") && answer == UNDECIDED {
+            put_number(out, 1);
+        }
+        answer
     }
 
     fn judge(&self, text: &[u8], model: u8, list: &[u16], out: &mut [u8]) -> u8 {

@@ -32,6 +32,9 @@ pub const OUT_OF_TURN: u8 = 74;
 
 pub const WRONG_VALUE: u8 = 75;
 
+// A limited verdict: the plain search makes more steps than the limit.
+pub const UNDECIDED: u8 = 76;
+
 // The machine: an impossible step (document 02's number), all steps done, and whether the trace ran through; steps that run an order through, or a
 // list that is none.
 pub const STUCK: u8 = 25;

@@ -22,10 +22,10 @@ use verdict::Verdict;
 use verdict::tell::verdict_of;
 
 // How many bytes a verdict has: how many operations it tells and the operations, two bytes each, and the rules.
-const VERDICT: usize = 2 + 3 * RECORDS;
+pub(crate) const VERDICT: usize = 2 + 3 * RECORDS;
 
 // The answer to a verdict, by its outcome.
-fn outcome_number(outcome: Outcome) -> u8
+pub(crate) fn outcome_number(outcome: Outcome) -> u8
     ensures { λ r. ⌜ r ≡ outcomeNumber outcome ⌝ }
 {
     match outcome {
@@ -39,7 +39,7 @@ fn outcome_number(outcome: Outcome) -> u8
 }
 
 // A verdict as it is told: a record that lacks a source is its one operation.
-fn spelled(v: Verdict) -> Verdict
+pub(crate) fn spelled(v: Verdict) -> Verdict
     requires { ⌜ lacking (v .outcome) < RECORDS ⌝ }
     ensures { λ r. ⌜ r ≡ spelled v ⌝ }
 {
@@ -80,7 +80,7 @@ pub(crate) fn put_wide(numbers: &[u16], out: &mut [u8], at: usize)
 }
 
 // The bytes of a verdict at the front of a buffer that has room for them.
-fn lay(v: Verdict, out: &mut [u8])
+pub(crate) fn lay(v: Verdict, out: &mut [u8])
     requires { ⌜ (v .len ≤ RECORDS) × (VERDICT ≤ length (now out)) ⌝ }
     ensures { λ _. ⌜ now (out .exit) ≡ laidOut v ++ drop VERDICT (now (out .entry)) ⌝ }
 {

@@ -1,5 +1,6 @@
 -- `trail::add_row`: what `rows::add_row` does to rows of the full length.
 use mathlib.Core.Path.{_≡_, ap, _∙_}
+use native.Mathlib.Omega.{arith}
 use lib.ListN.{length}
 use Rattle.rows.specs.Added as rows
 use Rattle.rows.specs.AddRow.{addRowOf}
@@ -18,7 +19,7 @@ done : (c : tie.After-add-row)
 done c =
     let s = c .before .before .before .before in
     let a = s .args in
-    row-added (a .walks .now) (λ i. c .before .before .before .shared-slice-known .given i .fits) (a .m) (a .next .now) (a .x) (s .pre .0) (s .pre .1)
+    row-added (a .walks .now) (λ i. c .before .before .before .shared-slice-known .given i .fits) (a .m) (a .next .now) (a .x) (s .pre .0) (omega (arith, s .pre .0, s .pre .1))
 
 same-length : tie.Need-same-length
 same-length c = ap length (c .before .before .add-row .ensures) ∙ done (c .before .before) .long

@@ -2,7 +2,7 @@
 use mathlib.Core.Path.{sym, _∙_}
 use borrow.Author.Needs.{needs}
 use Rattle.rows.proofs.Whole.{copy-same}
-use Rattle.search.proofs.Sets.{put-more}
+use Rattle.rows.proofs.Sets.{put-more}
 use Rattle.search.proofs.seek.join.Statement.{statement}
 use Rattle.search.proofs.seek.join.Tie as tie
 

@@ -1,8 +1,8 @@
--- Sets of operations, each one row.
+-- Sets of record numbers, each one row.
 --
---   put-more    == a number put into a set
---   more-holds  == the set of a list, and of the list with one number more
---   empty-holds == the set of no number is that of the empty list, and of no other
+--   put-more                == a number put into a set
+--   more-holds              == the set of a list, and of the list with one number more
+--   empty-holds, empty-only == the set of no number is that of the empty list, and of no other
 use mathlib.Core.Path.{_≡_, refl, sym, _∙_}
 use mathlib.Core.Logic.{inl, inr}
 use mathlib.Core.Bool.{false≢true}
@@ -16,13 +16,13 @@ use Rattle.laws.proofs.Tests.{eq?}
 use Rattle.laws.proofs.Places.{count-here, count-later}
 use Rattle.laws.proofs.Counts.{count-append}
 use Rattle.trace.specs.Bounds.{RECORDS}
 use Rattle.rows.specs.Bounds.{WORDS}
 use Rattle.rows.specs.Empty.{emptyOf}
 use Rattle.rows.specs.Put.{putOf}
 use Rattle.rows.proofs.Rows.{row-full}
 use Rattle.rows.proofs.Pair.{put-in, put-long, mark-iff}
 use Rattle.rows.proofs.Whole.{empty-bit}
-use Rattle.search.specs.Chances.{Holds, More}
+use Rattle.rows.specs.Sets.{Holds, More}
 
 pub put-more : (set : List ℕ) (y : ℕ) → length set ≡ WORDS → y < RECORDS → More set y (putOf set 0 y)
 put-more set y l h = record {
