@@ -1,0 +1,7 @@
+-- Laws of parts, for the crates above.
+pub mod Part
+pub mod Embeds
+pub mod Removal
+pub mod Picked
+pub mod Pass
+pub mod Cutting
