@@ -5,7 +5,7 @@
 --   cutting-stuck  == and no single removal from it leaves a trace without one
 use mathlib.Core.Path.{_≡_, refl}
 use mathlib.Core.Logic.{_↔_}
-use mathlib.Core.Bool.{Bool, true, false, So, _&&_}
+use mathlib.Core.Bool.{Bool, false, So, _&&_}
 use mathlib.Core.List.{List}
 use Prim.Native.Nat.{ℕ, _<_}
 use native.Mathlib.Omega.{arith}

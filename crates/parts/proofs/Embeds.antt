@@ -3,15 +3,14 @@
 --   Embeds u v r == record x of u is record r x of v, in the same order, and no load of u has lost its source
 --   embeds-part  == fences that went keep nothing any more, and nothing else changes
 --   embeds-fault == a fault inside is a fault
-use mathlib.Core.Path.{_≡_, refl, sym, ap, _∙_, subst}
+use mathlib.Core.Path.{_≡_, sym, ap, _∙_, subst}
 use mathlib.Core.Logic.{_↔_, _⊎_, inl, inr}
-use mathlib.Core.Bool.{Bool, So, not, _&&_, _||_}
+use mathlib.Core.Bool.{Bool, So, not}
 use mathlib.Core.List.{List}
 use Prim.Native.Nat.{ℕ, _<_}
 use native.Mathlib.Omega.{arith}
-use lib.Dec.{eqb, ltb}
+use lib.Dec.{eqb}
 use Rattle.laws.specs.Tests.{any}
-use Rattle.laws.specs.Relation.{Table}
 use Rattle.laws.proofs.Tests.{and-iff, or-iff, any-iff, same-iff, so-eq, so-lt, three}
 use Rattle.trace.specs.Op.{thread, address, read, written, reads, writes, fence}
 use Rattle.trace.specs.Trace.{at, first}

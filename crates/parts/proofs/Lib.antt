@@ -3,5 +3,6 @@ pub mod Part
 pub mod Embeds
 pub mod Removal
 pub mod Picked
+pub mod Alike
 pub mod Pass
 pub mod Cutting

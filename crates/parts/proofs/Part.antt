@@ -4,11 +4,11 @@
 --   orderOf        == the operations that are left, in the order in which they stood
 --   part-valid     == it is a valid order of the part
 --   part-fault     == so a trace of which a part has no valid order has none
-use mathlib.Core.Path.{_≡_, refl, sym, ap, _∙_, subst}
-use mathlib.Core.Logic.{_≢_, _↔_, _⊎_, inl, inr}
+use mathlib.Core.Path.{_≡_, sym, ap, _∙_, subst}
+use mathlib.Core.Logic.{_≢_, _↔_, inl, inr}
 use mathlib.Core.Bool.{So}
 use mathlib.Core.List.{List}
-use Prim.Native.Nat.{ℕ, _≤_, _<_}
+use Prim.Native.Nat.{ℕ, _≤_}
 use native.Mathlib.Omega.{arith}
 use lib.Dec.{ltb}
 use Rattle.laws.specs.Places.{pos, Before}
@@ -16,8 +16,8 @@ use Rattle.laws.specs.Relation.{Table, Transitive}
 use Rattle.laws.specs.Sorted.{On, sorted}
 use Rattle.laws.proofs.Tests.{so-lt, eq?}
 use Rattle.laws.proofs.Sorted.{sorted-once, sorted-keeps}
-use Rattle.trace.specs.Frame.{Frame, Good, Writer, Source}
-use Rattle.trace.specs.Order.{Visible, Sees, nobody, latest, Once, Valid}
+use Rattle.trace.specs.Frame.{Frame, Good, Source}
+use Rattle.trace.specs.Order.{Visible, Sees, nobody, latest, Valid}
 use Rattle.rules.proofs.Orders.{apart, either}
 
 pub record Part (f g : Frame) (K J : Table) (r : ℕ → ℕ) : Type 0 where

@@ -2,11 +2,12 @@
 --
 --   pass r faulty k i A       == one look at each of i, i + 1, .., k of them: it goes where its removal keeps the fault
 --   pass-smaller              == it does what looking for the lowest again and again does
+--   smaller-closed            == whatever each removal keeps holds of what is left
 --   pass-dull, pass-faulty    == in the end nothing can go, and the fault is still there
 use mathlib.Core.Path.{_≡_, refl, sym, ap, _∙_, subst}
 use mathlib.Core.Logic.{_≢_, _↔_, _⊎_, inl, inr}
 use mathlib.Core.Bool.{Bool, true, false, not, So, _&&_, false≢true}
-use mathlib.Core.Option.{some, none}
+use mathlib.Core.Option.{Option, some, none}
 use Prim.Native.Nat.{ℕ, zero, suc, _+_, _≤_, _<_}
 use native.Mathlib.Omega.{arith}
 use Rattle.laws.specs.Relation.{Table}
@@ -83,3 +84,12 @@ module _ (n : ℕ) (r : Table) (self : (i : ℕ) → So (r i i)) (faulty : Set �
           → So (faulty (elim b [ true ↦ pass r faulty k (suc i) (cut r A i) | false ↦ pass r faulty k (suc i) A ]))
       go true t p q = p (in-both A (λ i. faulty (cut r A i)) i .0 t .1)
       go false t p q = q
+
+pub smaller-closed : (n : ℕ) (r : Table) (faulty : Set → Bool) (C : Set → Type 0) → ((A : Set) (i : ℕ) → C A → C (cut r A i)) → (k : ℕ) (A : Set) → C A → C (smaller n r faulty k A)
+unfolding smaller
+smaller-closed n r faulty C cuts zero A c = c
+smaller-closed n r faulty C cuts (suc k) A c = go (lowest (λ i. A i && faulty (cut r A i)) n 0) (λ i. smaller-closed n r faulty C cuts k (cut r A i) (cuts A i c))
+  where
+    go : (o : Option ℕ) → ((i : ℕ) → C (smaller n r faulty k (cut r A i))) → C (elim o [ some i ↦ smaller n r faulty k (cut r A i) | none ↦ A ])
+    go (some i) h = h i
+    go none h = c

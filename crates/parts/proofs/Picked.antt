@@ -3,6 +3,8 @@
 --   Picks        == a trace and a list of old numbers have the records of A among the first k
 --   picks        == so have `pickedTo` and `oldsTo`
 --   picks-embed  == of two sets the smaller one's records stand inside the larger one's, where it has the source of each load that it has
+--   picked-missing == a load or swap of the part that lacks its source lacked it before, where the part has the source of each that it has
+--   picked-all   == all records are the trace itself
 --   picked-fault == so a fault of the smaller one is a fault of the larger one, and of the trace
 use mathlib.Core.Path.{_≡_, refl, sym, ap, _∙_, subst}
 use mathlib.Core.Logic.{_≢_, _↔_, inl, inr}
@@ -17,21 +19,23 @@ use Rattle.laws.proofs.Places.{pos-lt, at-pos, count-at}
 use Rattle.trace.specs.Bounds.{RECORDS}
 use Rattle.trace.specs.Frame.{Source}
 use Rattle.trace.specs.Order.{Valid}
-use Rattle.trace.specs.Op.{address, written}
-use Rattle.trace.specs.Trace.{at, pushed, first}
+use Rattle.trace.specs.Op.{address, read, written, reads}
+use Rattle.trace.specs.Trace.{at, pushed, upTo, first}
 use Rattle.trace.specs.Form.{Follows, Form, Writes}
 use Rattle.trace.specs.WellFormed.{wellFormed}
 use Rattle.trace.specs.Meaning.{frameOf}
 use Rattle.trace.specs.declared.Op.{Op}
 use Rattle.trace.specs.declared.Trace.{Trace}
 use Rattle.trace.proofs.Places.{pushed-len, pushed-firsts, pushed-last, pushed-other}
-use Rattle.trace.proofs.Growth.{upTo-len, upTo-firsts, upTo-well, pushed-well}
+use Rattle.trace.proofs.Growth.{upTo-len, upTo-firsts, upTo-well, upTo-all, upTo-more, pushed-well}
 use Rattle.trace.proofs.WellFormed.{follows-iff, form-iff}
+use Rattle.trace.proofs.Meaning.{reads-iff}
+use Rattle.rules.specs.Missing.{Missing}
 use Rattle.rules.specs.SourceOf.{readsFrom}
 use Rattle.rules.proofs.Tests.{source-iff}
 use Rattle.rules.proofs.SourceOf.{source-parts}
 use Rattle.pairs.specs.Kept.{keptOf}
-use Rattle.parts.specs.Removal.{Set}
+use Rattle.parts.specs.Removal.{Set, every}
 use Rattle.parts.specs.Picked.{pickedTo, oldsTo, picked, olds}
 use Rattle.parts.proofs.Removal.{Closed}
 use Rattle.parts.proofs.Embeds.{Embeds, embeds-fault}
@@ -197,3 +201,35 @@ module _ (t : Trace) (w : So (wellFormed t)) (A B : Set) (within : (x : ℕ) →
 
   pub picked-fault : (m : ℕ) → ((ys : List ℕ) → Valid (frameOf (picked t A)) (keptOf m (picked t A)) ys → ⊥) → (xs : List ℕ) → Valid (frameOf (picked t B)) (keptOf m (picked t B)) xs → ⊥
   picked-fault m = embeds-fault (picked t A) (picked t B) into picks-embed m (q .well) (p .well)
+
+module _ (t : Trace) (w : So (wellFormed t)) where
+  pub picked-all : picked t every ≡ t
+  unfolding pickedTo
+  picked-all = go (t .len) (omega arith) ∙ upTo-all t w
+    where
+      go : (k : ℕ) → k ≤ t .len → pickedTo t every k ≡ upTo t k
+      go zero h = refl
+      go (suc k) h = ap (λ (u : Trace). pushed u (at t k)) (go k (omega arith)) ∙ upTo-more t w k (omega arith)
+
+  pub picked-missing : (A : Set) → Closed (frameOf t) A → (L : ℕ) → Missing (frameOf (picked t A)) L → Missing (frameOf t) (getD (olds t A) L 0)
+  unfolding frameOf
+  picked-missing A closed L m =
+      let u = picked t A in
+      let p = picks t w A (t .len) (omega arith) in
+      let r = reads-iff u L .0 (m .reads) in
+      let l : L < length (olds t A) = omega (arith, p .long, r .0) in
+      let x = getD (olds t A) L 0 in
+      let same = p .same L l in
+      let begins = first-same u t (p .firsts) in
+      record {
+        reads = reads-iff t x .1 (p .below L l, subst (λ (o : Op). So (reads o)) same (r .1));
+        later = λ e. m .later (ap read same ∙ e ∙ ap (λ (o : Op). first t (address o)) (sym same) ∙ sym (begins (address (at u L))));
+        nobody = λ S s.
+            let (((a, b), d), q) = source-at t S x .0 s in
+            let (T, n, z) = p .all S a (closed S x s (p .chosen L l)) in
+            m .nobody T (source-at u T L .1 (
+              ((omega (arith, p .long), r .0), λ i. d (sym z ∙ ap (λ (k : ℕ). getD (olds t A) k 0) i)),
+              subst (λ (o : Op). So (readsFrom o (at u L) (first u (address (at u L))))) (sym (p .same T n ∙ ap (at t) z))
+                  (subst (λ (o : Op). So (readsFrom (at t S) o (first u (address o)))) (sym same) (subst (λ (v : ℕ). So (readsFrom (at t S) (at t x) v)) (sym (begins (address (at t x)))) q)),
+            ));
+      }

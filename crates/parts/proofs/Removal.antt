@@ -4,11 +4,11 @@
 --   goes-self  == a record goes where it goes
 --   Closed f A == A has the source of each load and swap that it has
 --   cut-closed == a removal takes whoever read from what went
-use mathlib.Core.Path.{_≡_, refl, sym, subst}
+use mathlib.Core.Path.{refl, sym, subst}
 use mathlib.Core.Logic.{_↔_, inl, inr}
 use mathlib.Core.Bool.{So}
 use Prim.Native.Nat.{ℕ, _<_}
-use Rattle.laws.specs.Relation.{Table, Chain, one}
+use Rattle.laws.specs.Relation.{Table, one}
 use Rattle.laws.proofs.Relation.{chain-join}
 use Rattle.laws.proofs.Warshall.{chains-iff}
 use Rattle.laws.proofs.Tests.{and-iff, or-iff, not-iff, same-iff, so-eq}
