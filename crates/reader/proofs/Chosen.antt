@@ -7,6 +7,7 @@
 --   plain-first, swap-first, fence-first, none-first == the first byte behind the thread tells which form can be meant
 --   thread-cut == the thread may be cut before the rest is looked at
 --   colon-there, colon-none, colon-inside == a colon and a space at a place
+--   init-taken, init-left == an init line is found, or it is none
 --   no-thread, no-colon, with-thread == what the beginning of a line says of its form
 use mathlib.Core.Path.{_≡_, refl, sym, ap, _∙_}
 use mathlib.Core.Bool.{Bool, true, false, true≢false, _&&_, and-false, cond}
@@ -21,7 +22,8 @@ use lib.ListN.{length, drop, getD, replicate, List·getD-map}
 use Rattle.trace.specs.Bounds.{VALUES}
 use Rattle.text.specs.Number.{digits, value, isNumber, cut}
 use Rattle.text.specs.Template.{HOLE, NUMBERS, Hit, hit, miss, also, begins, found, fitFrom, fitted}
-use Rattle.reader.specs.Form.{begun, storeRest, loadRest, swapRest, sync, orElse, cutRaw, cutForm, storeOf, loadOf, swapOf, fenceOf, formOf}
+use Rattle.reader.specs.Form.{begun, storeRest, loadRest, swapRest, sync, orElse, cutRaw, cutForm, storeOf, loadOf, swapOf, fenceOf, formOf, initForm, initHit, initOf, cutInit}
+use Rattle.reader.specs.declared.Init.the-variants as init
 use Rattle.reader.specs.Behind.{fenceElse, swapElse, loadElse, plainOf, exchangeOf, syncOf, firstOf, behindOf}
 use Rattle.text.specs.declared.Fit.{Fit}
 use Rattle.reader.specs.declared.Raw.{Raw}
@@ -170,3 +172,24 @@ module _ (line : List ℕ) where
           begun-found ts
           ∙ ap (λ (b : Bool). cond b (also (value 0 (digits line)) (cond (begins 58 rest) (cond (begins 32 (drop 1 rest)) (found ts (drop 1 (drop 1 rest))) miss) miss)) miss) n
           ∙ ap (also (value 0 (digits line))) (both (begins 58 rest) (begins 32 (drop 1 rest)) _ e)
+
+-- an init line
+module _ (line : List ℕ) (r : Fit) (e : r ≡ fitted initForm line) where
+  pub init-taken : r .fits ≡ true → init.Of (getD (r .numbers) 0 0) (getD (r .numbers) 1 0) ≡ cutInit (initOf line)
+  unfolding initOf fitted
+  init-taken t = go (found initForm line) e
+    where
+      go : (f : Hit) → r ≡ fitFrom 0 (replicate NUMBERS 0) f → init.Of (getD (r .numbers) 0 0) (getD (r .numbers) 1 0) ≡ cutInit (initHit f)
+      go (hit ns) q = rw (each 0 (omega arith), each 1 (omega arith)) refl
+        where
+          each : (i : ℕ) → i < NUMBERS → getD (r .numbers) i 0 ≡ cut (getD ns i 0)
+          each i b = ap (λ (r : Fit). getD (r .numbers) i 0) q ∙ number-is ns i b
+      go miss q = absurd (true≢false (sym t ∙ ap (λ (r : Fit). r .fits) q))
+
+  pub init-left : r .fits ≡ false → init.Nothing ≡ cutInit (initOf line)
+  unfolding initOf fitted
+  init-left t = go (found initForm line) e
+    where
+      go : (f : Hit) → r ≡ fitFrom 0 (replicate NUMBERS 0) f → init.Nothing ≡ cutInit (initHit f)
+      go (hit ns) q = absurd (true≢false (sym (ap (λ (r : Fit). r .fits) q) ∙ t))
+      go miss q = refl

@@ -1,9 +1,12 @@
-pub mod Chosen
 pub mod Bounded
-pub mod Steps
-pub mod Walks
-pub mod Part
+pub mod Chosen
 pub mod Rendering
+pub mod Steps
+pub mod Begins
+pub mod Walks
+pub mod Lined
+pub mod Part
 pub mod Cases
+pub mod Inits
 pub mod RoundTrip
 pub mod One

@@ -8,6 +8,8 @@ use Rattle.text.specs.Part.{laid}
 use Rattle.text.proofs.Part.{part-one}
 use Rattle.reader.proofs.forms.form.Reads as form
 use Rattle.reader.proofs.forms.form.Kinds as form-kinds
+use Rattle.reader.proofs.forms.init.Reads as init
+use Rattle.reader.proofs.forms.init.Kinds as init-kinds
 use Rattle.reader.proofs.turns.number.Reads as number
 use Rattle.reader.proofs.turns.number.Kinds as number-kinds
 use Rattle.reader.proofs.turns.in_bounds.Reads as in-bounds
@@ -20,6 +22,8 @@ use Rattle.reader.proofs.turns.checked.Reads as checked
 use Rattle.reader.proofs.turns.checked.Kinds as checked-kinds
 use Rattle.reader.proofs.turns.turned.Reads as turned
 use Rattle.reader.proofs.turns.turned.Kinds as turned-kinds
+use Rattle.reader.proofs.turns.begin.Reads as begin
+use Rattle.reader.proofs.turns.begin.Kinds as begin-kinds
 use Rattle.reader.proofs.read.Reads as read
 use Rattle.reader.proofs.read.Kinds as read-kinds
 use Rattle.reader.proofs.bad_line.Reads as bad-line
@@ -27,6 +31,9 @@ use Rattle.reader.proofs.bad_line.Kinds as bad-line-kinds
 
 pub form-settles : Settles 1 form-kinds.ps form-kinds.r form.Post
 form-settles κs a x y s t p q = p ∙ sym q
+
+pub init-settles : Settles 1 init-kinds.ps init-kinds.r init.Post
+init-settles κs a x y s t p q = p ∙ sym q
 
 pub number-settles : Settles 0 number-kinds.ps number-kinds.r number.Post
 number-settles κs a x y s t p q = p ∙ sym q
@@ -45,6 +52,9 @@ checked-settles κs a x y s t p q = p ∙ sym q
 
 pub turned-settles : Settles 1 turned-kinds.ps turned-kinds.r turned.Post
 turned-settles κs a x y s t p q = p ∙ sym q
+
+pub begin-settles : Settles 2 begin-kinds.ps begin-kinds.r begin.Post
+begin-settles κs a x y s t p q = p ∙ sym q
 
 pub read-settles : Settles 1 read-kinds.ps read-kinds.r read.Post
 read-settles κs a x y s t p q = p ∙ sym q

@@ -8,6 +8,7 @@
 --   part-bad            == its bytes are those of the line that the reader turns back; none where no line is to blame
 use mathlib.Core.Path.{_≡_, refl, sym, ap, _∙_}
 use mathlib.Core.Logic.{inl, inr}
+use mathlib.Core.Bool.{Bool, true}
 use mathlib.Core.List.{List, [], _∷_}
 use Prim.Native.Nat.{ℕ, zero, suc, _+_, _-_, _≤_, _<_}
 use native.Mathlib.Numerals.{add-one}
@@ -15,19 +16,21 @@ use native.Mathlib.Decide.{decLt}
 use native.Mathlib.Omega.{arith}
 use borrow.Author.Tests.{lt-ltb, le-ltb, le-leb, lt-leb, eq-eqb, ne-eqb}
 use lib.Dec.{ltb}
-use lib.ListN.{length, take, drop}
+use lib.ListN.{length, set, take, drop}
 use Rattle.laws.proofs.Tests.{test}
-use Rattle.trace.specs.Trace.{empty, pushed}
+use Rattle.trace.specs.Trace.{empty, started, pushed}
 use Rattle.trace.specs.declared.Op.{Op}
 use Rattle.trace.specs.declared.Trace.{Trace}
 use Rattle.text.specs.Lines.{Line, lines, lineAt, endAt, nextAt}
 use Rattle.text.proofs.Lines.{end-within, line-part, lines-on, lines-over}
-use Rattle.reader.specs.Answer.{turned}
+use Rattle.reader.specs.Answer.{turned, begins}
 use Rattle.reader.specs.Bounds.{TEXT}
-use Rattle.reader.specs.Read.{readLines, readText, badLines, badLineOf}
+use Rattle.reader.specs.Read.{none, readLines, readInits, readText, badLines, badInits, badLineOf}
+use Rattle.reader.specs.declared.Init.{Init}
+use Rattle.reader.specs.declared.Init.the-variants as init
 use Rattle.reader.specs.declared.Turn.{Turn}
 use Rattle.reader.specs.declared.Turn.the-variants.{Taken, Refused}
-use Rattle.reader.proofs.Walks.{read-taken, bad-taken, read-refused, bad-refused}
+use Rattle.reader.proofs.Walks.{read-taken, bad-taken, read-refused, bad-refused, read-begun, bad-begun, read-left, bad-left}
 use Rattle.reader.specs.declared.Reading.{Reading}
 use Rattle.reader.specs.Part.{lineIn, lineOf, passed, lineStart, lineEnd, startOf, endOf}
 
@@ -56,6 +59,17 @@ module _ (text : List ℕ) where
     | no e ↦ rw (le-ltb (endAt text at) (length text) (omega arith)) (lines-over text (endAt text at) (omega arith) ∙ sym (lines-over text (endAt text at + 1) (omega arith)))
   ])
 
+  -- the lines behind the first of those from a line's place on
+  rest-lines : (k : ℕ) (l : Line) (ls : List Line) → lines (drop (passed text k) text) ≡ l ∷ ls → lines (drop (passed text (suc k)) text) ≡ ls
+  unfolding passed
+  rest-lines k l ls e = elim (decLt (passed text k) (length text)) [
+    | no g ↦ let z : _≡_ {A = ℕ} 0 1 = cc (lines-over text (passed text k) (omega arith)) in absurd (omega arith)
+    | yes g ↦
+        let both = sym (lines-on text (passed text k) g) ∙ e in
+        let rest : lines (drop (endAt text (passed text k) + 1) text) ≡ ls = cc in
+        next-lines (passed text k) g ∙ rest
+  ]
+
   -- what a line's number tells of a part of the text: it is the line with that number, the empty part for 0
   record Tells (n : ℕ) (part : List ℕ) : Type 0 where
     none : n ≡ 0 → part ≡ []
@@ -82,18 +96,29 @@ module _ (text : List ℕ) where
           rw (read-refused t l ls reason q (k + 1), bad-refused t l ls reason q)
           record { none = λ z. absurd (omega arith); some = λ _. sym b ∙ ap (λ (n : ℕ). lineAt text (passed text n)) (let z : k ≡ k + 1 - 1 = omega arith in z) }
 
+  -- the same where init lines may come
+  walk-inits : (ls : List Line) (given : List Bool) (t : Trace) (k : ℕ) → lines (drop (passed text k) text) ≡ ls → Tells (lineIn (readInits (k + 1) given t ls .answer)) (badInits given t ls)
+  unfolding readInits badInits passed
+  walk-inits [] given t k e = record { none = λ _. refl; some = λ h. absurd (omega arith) }
+  walk-inits (l ∷ ls) given t k e = go (λ a v. walk-inits ls (set given a true) (started t a v) (k + 1) (rw add-one (rest-lines k l ls e))) (begins given l) refl
+    where
+      go : ((a v : ℕ) → Tells (lineIn (readInits (k + 1 + 1) (set given a true) (started t a v) ls .answer)) (badInits (set given a true) (started t a v) ls))
+          → (i : Init) → begins given l ≡ i → Tells (lineIn (readInits (k + 1) given t (l ∷ ls) .answer)) (badInits given t (l ∷ ls))
+      go f (init.Of a v) q = rw (read-begun t l ls given a v q (k + 1), bad-begun t l ls given a v q) (f a v)
+      go f init.Nothing q = rw (read-left t l ls given q (k + 1), bad-left t l ls given q) (walk (l ∷ ls) t k e)
+
   tells : Tells (lineOf text) (badLineOf text)
   unfolding readText badLineOf passed
   tells = elim (test (ltb TEXT (length text))) [
     | inl e ↦ rw e record { none = λ _. refl; some = λ h. absurd (omega arith) }
-    | inr e ↦ rw e (walk (lines text) empty 0 refl)
+    | inr e ↦ rw e (walk-inits (lines text) none empty 0 refl)
   ]
 
   pub line-long : TEXT < length text → lineOf text ≡ 0
   unfolding readText
   line-long h = rw (lt-ltb TEXT (length text) h)
 
-  pub line-told : length text ≤ TEXT → (r : Reading) → r ≡ readLines 1 empty (lines text) → lineIn (r .answer) ≡ lineOf text
+  pub line-told : length text ≤ TEXT → (r : Reading) → r ≡ readInits 1 none empty (lines text) → lineIn (r .answer) ≡ lineOf text
   unfolding readText
   line-told h r e = rw (le-ltb TEXT (length text) h) (ap (λ (r : Reading). lineIn (r .answer)) e)
 

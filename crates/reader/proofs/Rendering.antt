@@ -8,7 +8,7 @@
 --   op-raw                   == a record comes back from its raw one
 --   LONGEST, render-long     == how long the line of a record in bounds is at the most
 --   render-short             == so it is never too long
-use mathlib.Core.Path.{_≡_, refl, sym, ap, _∙_}
+use mathlib.Core.Path.{_≡_, refl, sym, ap, _∙_, subst}
 use mathlib.Core.Logic.{_↔_}
 use mathlib.Core.Bool.{So}
 use mathlib.Core.List.{List, [], _∷_}
@@ -27,14 +27,17 @@ use Rattle.trace.specs.declared.Op.the-variants as op
 use Rattle.trace.proofs.WellFormed.{bounded-iff}
 use Rattle.reader.specs.Bounds.{LINE}
 use Rattle.text.specs.Bounds.{FEED}
-use Rattle.text.specs.Number.{decimal}
+use Rattle.text.specs.Number.{decimal, digits, isNumber}
 use Rattle.text.specs.Template.{Hit, hit, miss, fill, found}
-use Rattle.reader.specs.Form.{storeForm, loadForm, swapForm, fenceForm, render, orElse, storeOf, loadOf, swapOf, fenceOf, formOf, rawOf, renderOp}
+use Rattle.reader.specs.Form.{storeForm, loadForm, swapForm, fenceForm, render, orElse, storeOf, loadOf, swapOf, fenceOf, formOf, rawOf, renderOp, initForm, renderInit, initHit, initOf}
+use Rattle.reader.specs.declared.Init.{Init}
+use Rattle.reader.specs.declared.Init.the-variants as init
 use Rattle.reader.specs.Answer.{opOf}
 use Rattle.reader.specs.declared.Raw.{Raw}
 use Rattle.reader.specs.declared.Raw.the-variants.{Load, Store, Swap, Fence}
 use Rattle.reader.specs.declared.Form.{Form}
 use Rattle.reader.specs.declared.Form.the-variants.{Of, Nothing}
+use Rattle.reader.proofs.Chosen.{no-thread}
 use Rattle.text.proofs.Decimal.{decimal-length}
 use Rattle.text.proofs.Template.{holes, nothing, found-fill, found-same, found-apart, fill-count, fill-length}
 
@@ -91,6 +94,39 @@ no-form line = (λ e r q. let f = form-exactly line r .1 q in let z : _≡_ {A =
 pub render-one : (r s : Raw) → render r ≡ render s → r ≡ s
 render-one r s e = let f = form-render r in let g = form-exactly (render r) s .1 e in (cc)
 
+-- ---- init lines
+pub init-only : (line : List ℕ) (a v : ℕ) → initOf line ≡ init.Of a v → line ≡ renderInit a v
+unfolding initOf renderInit row
+init-only line a v = go (found initForm line) refl
+  where
+    go : (h : Hit) → found initForm line ≡ h → initHit h ≡ init.Of a v → line ≡ fill initForm (a ∷ v ∷ [])
+    go (hit ns) q e =
+        let f = found-fill initForm line ns q in
+        let p : getD ns 0 0 ≡ a = cc in
+        let r : getD ns 1 0 ≡ v = cc in
+        f .0 ∙ ap (fill initForm) (sym (listed 2 0 ns (f .1)) ∙ rw (p, r) refl)
+    go miss q e = let z : _≡_ {A = ℕ} 0 1 = cc in absurd (omega arith)
+
+pub init-found : (a v : ℕ) → initOf (renderInit a v) ≡ init.Of a v
+unfolding initOf renderInit
+init-found a v = rw (found-same initForm (a ∷ v ∷ []) refl refl)
+
+pub init-one : (a v b w : ℕ) → renderInit a v ≡ renderInit b w → (a ≡ b) × (v ≡ w)
+init-one a v b w e =
+    let q : init.Of a v ≡ init.Of b w = sym (init-found a v) ∙ ap initOf e ∙ init-found b w in
+    (cc, cc)
+
+pub init-none : (line : List ℕ) → initOf line ≡ init.Nothing → (a v : ℕ) → line ≡ renderInit a v → ⊥
+init-none line e a v q = let f = init-found a v in let g : initOf (renderInit a v) ≡ init.Nothing = subst (λ (l : List ℕ). initOf l ≡ init.Nothing) q e in let z : _≡_ {A = ℕ} 0 1 = cc in omega arith
+
+-- a record's line begins with a digit
+pub no-init : (r : Raw) (a v : ℕ) → render r ≡ renderInit a v → ⊥
+unfolding renderInit digits isNumber fill
+no-init r a v e =
+    let q : Of r ≡ Nothing = sym (form-render r) ∙ ap formOf e ∙ no-thread (renderInit a v) refl in
+    let z : _≡_ {A = ℕ} 0 1 = cc in
+    omega arith
+
 pub op-raw : (o : Op) → opOf (rawOf o) ≡ o
 op-raw (op.Load t a r) = refl
 op-raw (op.Store t a w) = refl
@@ -106,6 +142,10 @@ render-feed (Store t a w) = omega (arith, fill-count FEED refl storeForm (t ∷ 
 render-feed (Load t a r) = omega (arith, fill-count FEED refl loadForm (t ∷ a ∷ r ∷ []))
 render-feed (Swap t a r b w) = omega (arith, fill-count FEED refl swapForm (t ∷ a ∷ r ∷ b ∷ w ∷ []))
 render-feed (Fence t) = omega (arith, fill-count FEED refl fenceForm (t ∷ []))
+
+pub init-feed : (a v : ℕ) → count FEED (renderInit a v) ≡ 0
+unfolding renderInit count
+init-feed a v = omega (arith, fill-count FEED refl initForm (a ∷ v ∷ []))
 
 -- ---- length
 
@@ -132,6 +172,14 @@ render-long (op.Store t a w) b =
 render-long (op.Swap t a r w) b =
     omega (arith, fill-length swapForm (t ∷ a ∷ r ∷ a ∷ w ∷ []) refl, thread-short (b .thread-below), address-short (b .address-below), value-short (b .read-below), value-short (b .written-below))
 render-long (op.Fence t) b = omega (arith, fill-length fenceForm (t ∷ []) refl, thread-short (b .thread-below))
+
+-- the longest init line in bounds
+abbrev pub LONGEST-INIT : ℕ
+LONGEST-INIT = 20
+
+pub init-long : (a v : ℕ) → a < ADDRESSES → v < VALUES → length (renderInit a v) ≤ LONGEST-INIT
+unfolding renderInit
+init-long a v h l = omega (arith, fill-length initForm (a ∷ v ∷ []) refl, address-short h, value-short l)
 
 pub render-short : (o : Op) → So (bounded o) → length (renderOp o) ≤ LINE
 render-short o h = omega (arith, render-long o (bounded-iff o .0 h))

@@ -1,40 +1,32 @@
--- The answers of `joined`, in the order of their numbers.
+-- What a record of good numbers gets, test by test.
 --
---   joined-first, joined-many, joined-twice, joined-new, joined-plain == each with the tests that lead to it
-use mathlib.Core.Path.{_≡_}
-use mathlib.Core.Bool.{true, false, _&&_}
-use Prim.Native.Nat.{_<_, _≤_}
-use lib.Dec.{eqb}
-use borrow.Author.Tests.{le-leb, lt-leb}
+--   joined-tests == the numbers 6, 7 and 8 in their order
+use mathlib.Core.Path.{_≡_, refl, sym, ap, _∙_}
+use mathlib.Core.Logic.{inl, inr}
+use mathlib.Core.Bool.{_&&_, cond, So}
+use lib.Dec.{eqb, leb}
+use Rattle.laws.proofs.Tests.{test}
 use Rattle.trace.specs.Bounds.{RECORDS}
 use Rattle.trace.specs.Op.{address, written, writes}
 use Rattle.trace.specs.Trace.{first}
-use Rattle.trace.specs.WellFormed.{writtenBefore}
+use Rattle.trace.specs.WellFormed.{bounded, writtenBefore}
+use Rattle.trace.specs.Fault.{faultOf}
 use Rattle.trace.specs.declared.Op.{Op}
 use Rattle.trace.specs.declared.Trace.{Trace}
-use Rattle.reader.specs.Answer.{joined}
+use Rattle.reader.specs.Answer.{joined, turnOf}
 use Rattle.reader.specs.declared.Turn.the-variants.{Taken, Refused}
 use Rattle.reader.specs.declared.Reason.the-variants.{FirstValue, TooMany, Twice}
 
-module _ (t : Trace) (o : Op) where
-  pub joined-first : (writes o && eqb (written o) (first t (address o))) ≡ true → Refused FirstValue ≡ joined t o
-  unfolding joined
-  joined-first e = rw e
-
-  module _ (other : (writes o && eqb (written o) (first t (address o))) ≡ false) where
-    pub joined-many : RECORDS ≤ t .len → Refused TooMany ≡ joined t o
-    unfolding joined
-    joined-many h = rw (other, le-leb RECORDS (t .len) h)
-
-    module _ (room : t .len < RECORDS) where
-      pub joined-twice : writes o ≡ true → writtenBefore t (t .len) (address o) (written o) ≡ true → Refused Twice ≡ joined t o
-      unfolding joined
-      joined-twice w b = rw (other, lt-leb RECORDS (t .len) room, w, b)
-
-      pub joined-new : writes o ≡ true → writtenBefore t (t .len) (address o) (written o) ≡ false → Taken o ≡ joined t o
-      unfolding joined
-      joined-new w b = rw (other, lt-leb RECORDS (t .len) room, w, b)
-
-      pub joined-plain : writes o ≡ false → Taken o ≡ joined t o
-      unfolding joined
-      joined-plain w = rw (other, lt-leb RECORDS (t .len) room, w)
+pub joined-tests : (t : Trace) (o : Op) → So (bounded o) → joined t o
+    ≡ cond (writes o && eqb (written o) (first t (address o))) (Refused FirstValue)
+    (cond (leb RECORDS (t .len)) (Refused TooMany)
+    (cond (writes o && writtenBefore t (t .len) (address o) (written o)) (Refused Twice)
+    (Taken o)))
+unfolding joined faultOf
+joined-tests t o h = rw h (elim (test (writes o && eqb (written o) (first t (address o)))) [
+  | inl a ↦ rw a refl
+  | inr a ↦ rw a (elim (test (leb RECORDS (t .len))) [
+    | inl b ↦ rw b refl
+    | inr b ↦ rw b (elim (test (writes o && writtenBefore t (t .len) (address o) (written o))) [ inl c ↦ rw c refl | inr c ↦ rw c refl ])
+  ])
+])

@@ -18,6 +18,8 @@ use Rattle.reader.specs.declared.Raw.{Raw}
 use Rattle.reader.specs.declared.Raw.the-variants.{Load, Store, Swap, Fence}
 use Rattle.reader.specs.declared.Form.{Form}
 use Rattle.reader.specs.declared.Form.the-variants.{Of, Nothing}
+use Rattle.reader.specs.declared.Init.{Init}
+use Rattle.reader.specs.declared.Init.the-variants as init
 
 -- every form begins with the thread, a colon and a space:  #:
 abbrev pub begun : List ℕ → List ℕ
@@ -91,6 +93,24 @@ cutRaw (Fence t) = Fence (cut t)
 abbrev pub cutForm : Form → Form
 cutForm (Of raw) = Of (cutRaw raw)
 cutForm Nothing = Nothing
+
+-- init: M[#] := #
+abbrev pub initForm : List ℕ
+initForm = 105 ∷ 110 ∷ 105 ∷ 116 ∷ 58 ∷ 32 ∷ storeRest
+
+unfoldable pub renderInit : ℕ → ℕ → List ℕ
+renderInit a v = fill initForm (a ∷ v ∷ [])
+
+abbrev pub initHit : Hit → Init
+initHit (hit ns) = init.Of (getD ns 0 0) (getD ns 1 0)
+initHit miss = init.Nothing
+
+unfoldable pub initOf : List ℕ → Init
+initOf line = initHit (found initForm line)
+
+abbrev pub cutInit : Init → Init
+cutInit (init.Of a v) = init.Of (cut a) (cut v)
+cutInit init.Nothing = init.Nothing
 
 -- a record as a raw one: a swap's address stands twice
 abbrev pub rawOf : Op → Raw

@@ -1,20 +1,24 @@
 // Text to trace: any text whatever gets the trace that it writes, or the number of what is wrong with it and the line.
 ghost use mathlib.Core.Path.{_≡_};
+ghost use Prim.Native.Nat.{_+_, _<_, _≤_};
+ghost use lib.ListN.{length, drop};
 ghost use Rattle.trace.specs.Trace.{empty};
 ghost use Rattle.text.specs.Lines.{lines};
 ghost use Rattle.text.specs.Part.{PartOf};
-ghost use Rattle.reader.specs.Read.{readLines, readText};
+ghost use Rattle.reader.specs.Read.{none, readLines, readInits, readText};
 ghost use Rattle.reader.specs.Part.{lineIn, lineStart, lineEnd, startOf, endOf};
 
 pub mod forms;
 pub mod turns;
 
 use text::walk::line_end;
+use trace::FIRSTS;
 use trace::Op;
 use trace::RECORDS;
 use trace::Record;
 use trace::Trace;
 use trace::empty;
+use turns::begin;
 use turns::turned;
 
 // How many bytes a text has at the most, and a line without its feed; specs/Bounds.antt has the same numbers.
@@ -52,7 +56,13 @@ pub enum Form {
     Nothing,
 }
 
-// Why a text is turned back; document 01's numbers 1 to 8, in order.
+// An init line, its numbers not yet held to their bounds, or that the line is none.
+pub enum Init {
+    Of { addr: u32, value: u32 },
+    Nothing,
+}
+
+// Why a text is turned back: the numbers 1 to 8 in order, and 17.
 pub enum Reason {
     LongText,
     LongLine,
@@ -62,6 +72,7 @@ pub enum Reason {
     FirstValue,
     TooMany,
     Twice,
+    Late,
 }
 
 // What one line gets.
@@ -89,13 +100,44 @@ struct Stand {
     end: usize,
 }
 
-// Reads line by line from the top, up to the first bad line.
-fn walked(text: &[u8]) -> Stand
-    ensures { λ r. ⌜ (r .reading ≡ readLines 1 empty (lines (now (text .entry)))) × (r .start ≡ lineStart (now (text .entry)) (lineIn (r .reading .answer))) × (r .end ≡ lineEnd (now (text .entry)) (lineIn (r .reading .answer))) ⌝ }
+// Where the init lines at the top end: the trace of their first values, the place behind them, and the number of the line there.
+struct Opening {
+    trace: Trace,
+    at: usize,
+    line: usize,
+}
+
+// Reads the init lines at the top, up to the first line that gives no first value.
+fn opened(text: &[u8]) -> Opening
+    ensures { λ r. ⌜ (r .line ≤ r .at + 1) × (0 < r .line) × (r .at < length (now (text .entry)) → r .at ≡ lineStart (now (text .entry)) (r .line)) × (readLines (r .line) (r .trace) (lines (drop (r .at) (now (text .entry)))) ≡ readInits 1 none empty (lines (now (text .entry)))) ⌝ }
 {
     let mut trace = empty();
+    let mut given = [false; FIRSTS];
     let mut at: usize = 0;
     let mut line: usize = 1;
+    while at < text.len() {
+        let end = line_end(text, at);
+        let ended = end < text.len();
+        let Init::Of { addr, value } = begin(&given, &text[at..end], ended) else {
+            return Opening { trace, at, line };
+        };
+        let i = addr as usize;
+        given[i] = true;
+        trace.firsts[i] = value as u16;
+        at = end + 1;
+        line += 1;
+    }
+    Opening { trace, at, line }
+}
+
+// Reads line by line, up to the first bad line: the init lines at the top, then the records.
+fn walked(text: &[u8]) -> Stand
+    ensures { λ r. ⌜ (r .reading ≡ readInits 1 none empty (lines (now (text .entry)))) × (r .start ≡ lineStart (now (text .entry)) (lineIn (r .reading .answer))) × (r .end ≡ lineEnd (now (text .entry)) (lineIn (r .reading .answer))) ⌝ }
+{
+    let opening = opened(text);
+    let mut trace = opening.trace;
+    let mut at = opening.at;
+    let mut line = opening.line;
     while at < text.len() {
         let end = line_end(text, at);
         let ended = end < text.len();

@@ -1,9 +1,11 @@
 -- How well formed traces grow: the empty one, one record more, the first k records. A reader goes this way, a line at a time.
 --
 --   empty-well, pushed-well == the empty trace is well formed; so is a well formed one with a record more that may follow
---   follows-agree           == whether a record may follow depends on the records before it alone
---   upTo-none, upTo-all     == the first 0 records are the empty trace; the first len are the trace itself
+--   started-well            == so is a well formed one of no records with another first value
+--   follows-agree           == whether a record may follow depends on the first values and the records before it alone
+--   upTo-none, upTo-all     == the first 0 records are the empty trace with t's first values; the first len are the trace itself
 --   upTo-len, upTo-more     == the first k records are k; with one more pushed they are the first k + 1
+--   upTo-firsts             == they begin with the same values
 --   upTo-follows            == and that one may follow
 --   upTo-well               == the first k records are well formed
 use mathlib.Core.Path.{_≡_, refl, sym, ap, _∙_}
@@ -12,17 +14,17 @@ use mathlib.Core.Bool.{So}
 use Prim.Native.Nat.{ℕ, suc, _<_, _≤_}
 use native.Mathlib.Decide.{decLt}
 use native.Mathlib.Omega.{arith}
-use lib.ListN.{length, length-replicate, getD-replicate}
-use Rattle.laws.proofs.Tests.{three, last?}
-use Rattle.trace.specs.Bounds.{RECORDS, ADDRESSES}
+use lib.ListN.{length, length-set, length-replicate, getD-replicate}
+use Rattle.laws.proofs.Tests.{eq?, three, last?}
+use Rattle.trace.specs.Bounds.{RECORDS, ADDRESSES, VALUES}
 use Rattle.trace.specs.Op.{address}
-use Rattle.trace.specs.Trace.{at, idle, empty, pushed, upTo, first}
+use Rattle.trace.specs.Trace.{at, idle, empty, started, pushed, upTo, first}
 use Rattle.trace.specs.WellFormed.{follows, wellFormed}
 use Rattle.trace.specs.Form.{Follows, Form}
 use Rattle.trace.specs.declared.Op.{Op}
 use Rattle.trace.specs.declared.Record.{Record}
 use Rattle.trace.specs.declared.Trace.{Trace}
-use Rattle.trace.proofs.Places.{same-trace, empty-rest, pushed-len, pushed-firsts, pushed-places, pushed-last, pushed-other, upTo-places, upTo-used, upTo-rest}
+use Rattle.trace.proofs.Places.{same-trace, empty-rest, started-first, started-other, pushed-len, pushed-firsts, pushed-places, pushed-last, pushed-other, upTo-places, upTo-used, upTo-rest}
 use Rattle.trace.proofs.WellFormed.{follows-iff, form-iff}
 
 pub follows-agree : (t u : Trace) (n : ℕ) (o : Op) → ((a : ℕ) → first u a ≡ first t a) → ((j : ℕ) → j < n → at u j ≡ at t j) → Follows t n o → Follows u n o
@@ -47,6 +49,26 @@ empty-form = record {
 
 pub empty-well : So (wellFormed empty)
 empty-well = form-iff empty .1 empty-form
+
+pub started-well : (t : Trace) (a v : ℕ) → t .len ≡ 0 → v < VALUES → So (wellFormed t) → So (wellFormed (started t a v))
+unfolding started
+started-well t a v none low w = form-iff (started t a v) .1 (record {
+  places = f .places;
+  fits = f .fits;
+  addresses = length-set (t .firsts) a v ∙ f .addresses;
+  begins = begins;
+  used = λ i h. absurd (omega arith);
+  rest = f .rest;
+})
+  where
+    f : Form t
+    f = form-iff t .0 w
+
+    begins : (b : ℕ) → b < ADDRESSES → first (started t a v) b < VALUES
+    begins b h = elim (eq? b a) [
+      | inl e ↦ rw (e, started-first t a v (f .addresses) (omega arith)) low
+      | inr d ↦ rw (started-other t a v b d) (f .begins b h)
+    ]
 
 module _ (t : Trace) (o : Op) (room : t .len < RECORDS) (f : Form t) (g : Follows t (t .len) o) where
   -- what stood before stands there still

@@ -4,4 +4,5 @@ pub mod WellFormed
 pub mod Meaning
 pub mod Good
 pub mod Growth
+pub mod Faults
 pub mod One

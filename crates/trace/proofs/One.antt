@@ -21,6 +21,8 @@ use Rattle.trace.proofs.empty.Reads as empty
 use Rattle.trace.proofs.empty.Kinds as empty-kinds
 use Rattle.trace.proofs.first.Reads as first
 use Rattle.trace.proofs.first.Kinds as first-kinds
+use Rattle.trace.proofs.started.Reads as started
+use Rattle.trace.proofs.started.Kinds as started-kinds
 use Rattle.trace.proofs.pushed.Reads as pushed
 use Rattle.trace.proofs.pushed.Kinds as pushed-kinds
 use Rattle.trace.proofs.form.written_before.Reads as written-before
@@ -31,6 +33,8 @@ use Rattle.trace.proofs.form.fresh.Reads as fresh
 use Rattle.trace.proofs.form.fresh.Kinds as fresh-kinds
 use Rattle.trace.proofs.form.follows.Reads as follows
 use Rattle.trace.proofs.form.follows.Kinds as follows-kinds
+use Rattle.trace.proofs.form.fault_of.Reads as fault-of
+use Rattle.trace.proofs.form.fault_of.Kinds as fault-of-kinds
 use Rattle.trace.proofs.form.well_formed.Reads as well-formed
 use Rattle.trace.proofs.form.well_formed.Kinds as well-formed-kinds
 
@@ -61,6 +65,9 @@ empty-settles κs a x y s t p q = p ∙ sym q
 pub first-settles : Settles 0 first-kinds.ps first-kinds.r first.Post
 first-settles κs a x y s t p q = p ∙ sym q
 
+pub started-settles : Settles 0 started-kinds.ps started-kinds.r started.Post
+started-settles κs a x y s t p q = p ∙ sym q
+
 pub pushed-settles : Settles 0 pushed-kinds.ps pushed-kinds.r pushed.Post
 pushed-settles κs a x y s t p q = p ∙ sym q
 
@@ -78,3 +85,6 @@ follows-settles κs a x y s t p q = p ∙ sym q
 
 pub well-formed-settles : Settles 0 well-formed-kinds.ps well-formed-kinds.r well-formed.Post
 well-formed-settles κs a x y s t p q = p ∙ sym q
+
+pub fault-of-settles : Settles 0 fault-of-kinds.ps fault-of-kinds.r fault-of.Post
+fault-of-settles κs a x y s t p q = p ∙ sym q

@@ -1,9 +1,10 @@
 -- What stands at the places of a trace.
 --
 --   at-past                                                         == past the array's end stands a load, which writes nothing
---   same-trace                                                      == traces that agree in length and at every place are one
+--   same-trace                                                      == traces that agree in length, first values and at every place are one
 --   empty-rest                                                      == every place of the empty trace is idle
---   pushed-room, pushed-len, pushed-firsts, pushed-places, pushed-last, pushed-other == what pushed gives where there is room, its length and its places
+--   pushed-room, pushed-len, pushed-firsts, pushed-places, pushed-last, pushed-other == what pushed gives where there is room, its length, first values and places
+--   started-first, started-other                                    == the first values of a trace that was given another
 --   upTo-places, upTo-used, upTo-rest                               == the places of the first k records
 use mathlib.Core.Path.{_≡_, ap, ap₂, sym, _∙_}
 use mathlib.Core.Logic.{_≢_}
@@ -13,8 +14,8 @@ use native.Mathlib.Omega.{arith}
 use borrow.Author.Tests.{lt-ltb}
 use lib.ListN.{length, take, set, replicate, length-append, length-set, length-replicate, getD-replicate, List·getD-eq-default, List·getD-append}
 use lib.Seq.{length-take-le, getD-append-add, getD-set-same, getD-set-other, getD-take, ext-getD}
-use Rattle.trace.specs.Bounds.{RECORDS}
-use Rattle.trace.specs.Trace.{at, idle, empty, pushed, upTo}
+use Rattle.trace.specs.Bounds.{RECORDS, ADDRESSES}
+use Rattle.trace.specs.Trace.{at, idle, empty, started, pushed, upTo, first}
 use Rattle.trace.specs.declared.Op.{Op}
 use Rattle.trace.specs.declared.Op.the-variants.{Load}
 use Rattle.trace.specs.declared.Record.{Record}
@@ -42,6 +43,15 @@ same-trace t u n e l m h =
 
 pub empty-rest : (i : ℕ) → i < RECORDS → at empty i ≡ idle
 empty-rest i h = ap op (getD-replicate RECORDS i (place idle) past h)
+
+module _ (t : Trace) (a v : ℕ) where
+  pub started-first : length (t .firsts) ≡ ADDRESSES → a < ADDRESSES → first (started t a v) a ≡ v
+  unfolding started first
+  started-first full h = getD-set-same (t .firsts) a v 0 (omega arith)
+
+  pub started-other : (b : ℕ) → b ≢ a → first (started t a v) b ≡ first t b
+  unfolding started first
+  started-other b d = getD-set-other (t .firsts) a b v 0 d
 
 module _ (t : Trace) (o : Op) (room : t .len < RECORDS) where
   pub pushed-room : pushed t o ≡ record { records = set (t .records) (t .len) (place o); len = t .len + 1; firsts = t .firsts }

@@ -1,11 +1,12 @@
 -- A trace as a value.
 --
---   at t i     == what stands at place i
---   idle       == what an unused place holds: a fence of thread 0
---   empty      == the trace of no records
---   pushed t o == the trace with one record more; a full trace stays as it is
---   upTo t k   == the trace of the first k records of t
---   first t a  == the value that address a begins with
+--   at t i        == what stands at place i
+--   idle          == what an unused place holds: a fence of thread 0
+--   empty         == the trace of no records whose addresses begin at 0
+--   started t a v == the trace with v as the first value of address a; past the last address it stays as it is
+--   pushed t o    == the trace with one record more; a full trace stays as it is
+--   upTo t k      == the trace of the first k records of t
+--   first t a     == the value that address a begins with
 use mathlib.Core.Bool.{cond}
 use mathlib.Core.List.{_++_}
 use Prim.Native.Nat.{ℕ, _+_, _-_}
@@ -25,6 +26,9 @@ idle = Fence 0
 
 abbrev pub empty : Trace
 empty = record { records = replicate RECORDS (record { op = idle }); len = 0; firsts = replicate ADDRESSES 0 }
+
+unfoldable pub started : Trace → ℕ → ℕ → Trace
+started t a v = record { records = t .records; len = t .len; firsts = set (t .firsts) a v }
 
 unfoldable pub pushed : Trace → Op → Trace
 pushed t o = cond (ltb (t .len) RECORDS) (record { records = set (t .records) (t .len) (record { op = o }); len = t .len + 1; firsts = t .firsts }) t

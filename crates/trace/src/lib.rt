@@ -1,7 +1,7 @@
 // What the bench records: a trace is an array of records and how many of them are used.
 ghost use mathlib.Core.Path.{_≡_};
 ghost use Rattle.trace.specs.Op.{thread, address, read, written, reads, writes, fence};
-ghost use Rattle.trace.specs.Trace.{empty, pushed, first};
+ghost use Rattle.trace.specs.Trace.{empty, started, pushed, first};
 
 pub mod form;
 
@@ -132,6 +132,15 @@ pub struct Record {
     pub op: Op,
 }
 
+// What is wrong with one record more, by document 01's numbers 4, 6, 7 and 8, in order.
+pub enum Fault {
+    Nothing,
+    PastBound,
+    FirstValue,
+    TooMany,
+    Twice,
+}
+
 // The first len places are used; the others hold a fence of thread 0, so that equal traces are equal throughout. Beside them, the value that each
 // address begins with.
 pub struct Trace {
@@ -153,7 +162,7 @@ pub fn empty() -> Trace
     }
 }
 
-// The value that an address begins with.
+// The value that an address begins with; 0 past the last address.
 pub fn first(t: Trace, addr: u8) -> u16
     ensures { λ r. ⌜ r ≡ first t addr ⌝ }
 {
@@ -162,6 +171,19 @@ pub fn first(t: Trace, addr: u8) -> u16
         return t.firsts[i];
     }
     0
+}
+
+// The trace with another first value at an address; past the last address it stays as it is.
+pub fn started(t: Trace, addr: u8, value: u16) -> Trace
+    ensures { λ r. ⌜ r ≡ started t addr value ⌝ }
+{
+    let i = addr as usize;
+    if i < FIRSTS {
+        let mut u = t;
+        u.firsts[i] = value;
+        return u;
+    }
+    t
 }
 
 // The trace with one record more; a full trace stays as it is.

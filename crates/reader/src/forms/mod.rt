@@ -5,9 +5,10 @@ ghost use Prim.Native.Nat.{_≤_};
 ghost use lib.ListN.{drop};
 ghost use Rattle.trace.specs.Bounds.{VALUES};
 ghost use Rattle.text.specs.Template.{begins};
-ghost use Rattle.reader.specs.Form.{formOf, cutForm};
+ghost use Rattle.reader.specs.Form.{formOf, cutForm, initOf, cutInit};
 ghost use Rattle.reader.specs.Behind.{plainOf, exchangeOf, syncOf, behindOf};
 use crate::Form;
+use crate::Init;
 use crate::Raw;
 use text::Number;
 use text::digits::number_at;
@@ -112,4 +113,19 @@ pub fn form(line: &[u8]) -> Form
         return behind(line, end + 2, value);
     }
     Form::Nothing
+}
+
+// The address and value that an init line names, if the line is one.
+pub fn init(line: &[u8]) -> Init
+    ensures { λ r. ⌜ r ≡ cutInit (initOf (now (line .entry))) ⌝ }
+{
+    let found = fit(b"init: M[#] := #", line, 0);
+    if found.fits {
+        let n = found.numbers;
+        return Init::Of {
+            addr: n[0],
+            value: n[1],
+        };
+    }
+    Init::Nothing
 }

@@ -1,23 +1,26 @@
 // What one line gets: the record that it writes, or the lowest number that turns it back.
 ghost use mathlib.Core.Path.{_≡_};
 ghost use mathlib.Core.Bool.{So};
-ghost use Rattle.reader.specs.Answer.{numberOf, inBounds, oneAddress, opOf, joined, checked, turned};
+ghost use Rattle.reader.specs.Answer.{numberOf, inBounds, oneAddress, opOf, joined, checked, late, unformed, turned, begins};
+ghost use Rattle.reader.specs.Form.{initOf};
 use crate::Form;
+use crate::Init;
 use crate::LINE;
 use crate::Raw;
 use crate::Reason;
 use crate::Turn;
 use crate::forms::form;
+use crate::forms::init;
 use trace::ADDRESSES;
+use trace::FIRSTS;
+use trace::Fault;
 use trace::Op;
-use trace::RECORDS;
 use trace::THREADS;
 use trace::Trace;
 use trace::VALUES;
-use trace::first;
-use trace::form::written_before;
+use trace::form::fault_of;
 
-// Document 01's number of a reason.
+// The documents' number of a reason.
 pub fn number(reason: Reason) -> u8
     ensures { λ r. ⌜ r ≡ numberOf reason ⌝ }
 {
@@ -30,6 +33,7 @@ pub fn number(reason: Reason) -> u8
         Reason::FirstValue => 6,
         Reason::TooMany => 7,
         Reason::Twice => 8,
+        Reason::Late => 17,
     }
 }
 
@@ -121,23 +125,13 @@ fn op_of(raw: Raw) -> Op
 pub fn joined(t: Trace, op: Op) -> Turn
     ensures { λ r. ⌜ r ≡ joined t op ⌝ }
 {
-    let writes = op.writes();
-    let addr = op.address();
-    let written = op.written();
-    let start = first(t, addr);
-    if writes & (written == start) {
-        return Turn::Refused(Reason::FirstValue);
+    match fault_of(t, op) {
+        Fault::Nothing => Turn::Taken(op),
+        Fault::PastBound => Turn::Refused(Reason::PastBound),
+        Fault::FirstValue => Turn::Refused(Reason::FirstValue),
+        Fault::TooMany => Turn::Refused(Reason::TooMany),
+        Fault::Twice => Turn::Refused(Reason::Twice),
     }
-    let len = t.len;
-    if RECORDS <= len {
-        return Turn::Refused(Reason::TooMany);
-    }
-    if writes {
-        if written_before(t, len, addr, written) {
-            return Turn::Refused(Reason::Twice);
-        }
-    }
-    Turn::Taken(op)
 }
 
 // A raw record behind the trace so far.
@@ -153,7 +147,28 @@ pub fn checked(t: Trace, raw: Raw) -> Turn
     Turn::Refused(Reason::PastBound)
 }
 
-// A line behind the trace so far.
+// An init line that gives no first value.
+fn late(addr: u32, value: u32) -> Turn
+    ensures { λ r. ⌜ r ≡ late addr value ⌝ }
+{
+    let addresses = ADDRESSES as u32;
+    if (addr < addresses) & (value < VALUES) {
+        return Turn::Refused(Reason::Late);
+    }
+    Turn::Refused(Reason::PastBound)
+}
+
+// A line that is no record's and gives no first value.
+fn unformed(bytes: &[u8]) -> Turn
+    ensures { λ r. ⌜ r ≡ unformed (initOf (now (bytes .entry))) ⌝ }
+{
+    match init(bytes) {
+        Init::Of { addr, value } => late(addr, value),
+        Init::Nothing => Turn::Refused(Reason::NoForm),
+    }
+}
+
+// A line behind the trace so far that gives no first value.
 pub fn turned(t: Trace, bytes: &[u8], ended: bool) -> Turn
     ensures { λ r. ⌜ r ≡ turned t (record { bytes = now (bytes .entry); ended = ended }) ⌝ }
 {
@@ -165,6 +180,29 @@ pub fn turned(t: Trace, bytes: &[u8], ended: bool) -> Turn
     }
     match form(bytes) {
         Form::Of(raw) => checked(t, raw),
-        Form::Nothing => Turn::Refused(Reason::NoForm),
+        Form::Nothing => unformed(bytes),
     }
+}
+
+// The address and first value of an init line that gives one: short, ended, in bounds, and no line above gave that address one.
+pub fn begin(given: &[bool; FIRSTS], bytes: &[u8], ended: bool) -> Init
+    ensures { λ r. ⌜ r ≡ begins (now (given .entry)) (record { bytes = now (bytes .entry); ended = ended }) ⌝ }
+{
+    if LINE < bytes.len() {
+        return Init::Nothing;
+    }
+    if !ended {
+        return Init::Nothing;
+    }
+    let Init::Of { addr, value } = init(bytes) else {
+        return Init::Nothing;
+    };
+    let addresses = ADDRESSES as u32;
+    if (addr < addresses) & (value < VALUES) {
+        let i = addr as usize;
+        if !given[i] {
+            return Init::Of { addr, value };
+        }
+    }
+    Init::Nothing
 }

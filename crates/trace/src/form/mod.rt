@@ -6,8 +6,10 @@ ghost use Rattle.laws.specs.Tests.{_⇒_, all};
 ghost use Rattle.trace.specs.Bounds.{RECORDS, VALUES};
 ghost use Rattle.trace.specs.Op.{writesTo};
 ghost use Rattle.trace.specs.Trace.{at};
+ghost use Rattle.trace.specs.Fault.{faultOf};
 ghost use Rattle.trace.specs.WellFormed.{bounded, writtenBefore, fresh, follows, isIdle, wellFormed};
 use crate::ADDRESSES;
+use crate::Fault;
 use crate::Op;
 use crate::RECORDS;
 use crate::THREADS;
@@ -92,6 +94,32 @@ pub fn follows(t: Trace, n: usize, op: Op) -> bool
         return fresh(t, n, op);
     }
     false
+}
+
+// What is wrong with one record more: the lowest number that applies.
+pub fn fault_of(t: Trace, op: Op) -> Fault
+    ensures { λ r. ⌜ r ≡ faultOf t op ⌝ }
+{
+    if !bounded(op) {
+        return Fault::PastBound;
+    }
+    let writes = op.writes();
+    let addr = op.address();
+    let written = op.written();
+    let start = first(t, addr);
+    if writes & (written == start) {
+        return Fault::FirstValue;
+    }
+    let len = t.len;
+    if RECORDS <= len {
+        return Fault::TooMany;
+    }
+    if writes {
+        if written_before(t, len, addr, written) {
+            return Fault::Twice;
+        }
+    }
+    Fault::Nothing
 }
 
 // Whether an operation is what an unused place holds.

@@ -1,97 +1,60 @@
--- `reader::turns::joined`: the tests in the order of their numbers.
-use mathlib.Core.Path.{_≡_, sym, ap, ap₂, _∙_}
-use mathlib.Core.Bool.{Bool, _&&_}
-use lib.Dec.{eqb}
-use Rattle.trace.specs.Op.{writes, written, address}
-use Rattle.trace.specs.Trace.{first}
-use Rattle.trace.specs.WellFormed.{writtenBefore}
-use Rattle.trace.specs.declared.Op.{Op}
-use Rattle.trace.specs.declared.Trace.{Trace}
-use Rattle.reader.proofs.Steps.{joined-first, joined-many, joined-twice, joined-new, joined-plain}
+-- `reader::turns::joined`: a turn for each fault.
+use mathlib.Core.Path.{sym, ap, _∙_}
+use Rattle.reader.specs.Answer.{joined, turnOf}
 use borrow.Author.Needs.{needs}
 use Rattle.reader.proofs.turns.joined.Statement.{statement}
 use Rattle.reader.proofs.turns.joined.Tie as tie
 
-writes-requires : tie.Need-writes-requires
-writes-requires c κs = search needs
+fault-of-requires : tie.Need-fault-of-requires
+fault-of-requires c κs = search needs
 
-address-requires : tie.Need-address-requires
-address-requires c κs = search needs
+enum-told : tie.Need-enum-told
+enum-told c = search needs
 
-written-requires : tie.Need-written-requires
-written-requires c κs = search needs
+enum-told-2 : tie.Need-enum-told-2
+enum-told-2 c = search needs
 
-first-requires : tie.Need-first-requires
-first-requires c κs = search needs
+enum-told-3 : tie.Need-enum-told-3
+enum-told-3 c = search needs
 
--- the test for the first value, as the definition has it
-writes-first : Trace → Op → Bool
-writes-first t o = writes o && eqb (written o) (first t (address o))
+enum-told-4 : tie.Need-enum-told-4
+enum-told-4 c = search needs
 
--- the code's test is that one
-same-test : (c : tie.After-first) → (c .before .before .before .writes .result && eqb (c .before .written .result) (c .first .result)) ≡ writes-first (c .before .before .before .before .args .t) (c .before .before .before .before .args .op)
-unfolding writes-first
-same-test c =
-    let s = c .before .before .before .before in
-    ap₂ _&&_ (c .before .before .before .writes .ensures)
-    (ap₂ eqb (c .before .written .ensures) (c .first .ensures ∙ ap (first (s .args .t)) (c .before .before .address .ensures)))
-
--- what was written before, as the definition has it
-same-before : (c : tie.After-written-before) → c .written-before .result ≡ writtenBefore (c .before .before .before .before .before .before .before .before .args .t) (c .before .before .before .before .before .before .before .before .args .t .len) (address (c .before .before .before .before .before .before .before .before .args .op)) (written (c .before .before .before .before .before .before .before .before .args .op))
-same-before c =
-    let f = c .before .before .before .before in
-    let t = f .before .before .before .before .args .t in
-    c .written-before .ensures ∙ ap₂ (writtenBefore t (t .len)) (f .before .before .address .ensures) (f .before .written .ensures)
+enum-told-5 : tie.Need-enum-told-5
+enum-told-5 c = search needs
 
 returns : tie.Need-returns
-unfolding writes-first
-returns c =
-    let f = c .before in
-    let a = f .before .before .before .before .args in
-    joined-first (a .t) (a .op) (sym (same-test f) ∙ c .if1 .taken)
+unfolding joined
+returns c = let f = c .before .before in ap (turnOf (f .before .args .op)) (sym (c .enum-told .given .1) ∙ f .fault-of .ensures)
 
 returns-2 : tie.Need-returns-2
-unfolding writes-first
-returns-2 c =
-    let f = c .before .before in
-    let a = f .before .before .before .before .args in
-    joined-many (a .t) (a .op) (sym (same-test f) ∙ c .before .if1 .left) (c .if2 .taken)
-
-written-before-requires : tie.Need-written-before-requires
-written-before-requires c κs = search needs
+unfolding joined
+returns-2 c = let f = c .before .before in ap (turnOf (f .before .args .op)) (sym (c .enum-told2 .given .1) ∙ f .fault-of .ensures)
 
 returns-3 : tie.Need-returns-3
-unfolding writes-first
-returns-3 c =
-    let f = c .before .before .before .before .before in
-    let s = f .before .before .before .before in
-    joined-twice (s .args .t) (s .args .op) (sym (same-test f) ∙ c .before .before .before .before .if1 .left) (c .before .before .before .if2 .left) (sym (f .before .before .before .writes .ensures) ∙ c .before .before .if3 .taken) (sym (same-before (c .before)) ∙ c .if4 .taken)
+unfolding joined
+returns-3 c = let f = c .before .before in ap (turnOf (f .before .args .op)) (sym (c .enum-told3 .given .1) ∙ f .fault-of .ensures)
 
 returns-4 : tie.Need-returns-4
-unfolding writes-first
-returns-4 c =
-    let f = c .before .before .before .before .before in
-    let s = f .before .before .before .before in
-    joined-new (s .args .t) (s .args .op) (sym (same-test f) ∙ c .before .before .before .before .if1 .left) (c .before .before .before .if2 .left) (sym (f .before .before .before .writes .ensures) ∙ c .before .before .if3 .taken) (sym (same-before (c .before)) ∙ c .if4 .left)
+unfolding joined
+returns-4 c = let f = c .before .before in ap (turnOf (f .before .args .op)) (sym (c .enum-told4 .given .1) ∙ f .fault-of .ensures)
 
 returns-5 : tie.Need-returns-5
-unfolding writes-first
-returns-5 c =
-    let f = c .before .before .before in
-    let s = f .before .before .before .before in
-    joined-plain (s .args .t) (s .args .op) (sym (same-test f) ∙ c .before .before .if1 .left) (c .before .if2 .left) (sym (f .before .before .before .writes .ensures) ∙ c .if3 .left)
+unfolding joined
+returns-5 c = let f = c .before .before in ap (turnOf (f .before .args .op)) (sym (c .enum-told5 .given .1) ∙ f .fault-of .ensures)
 
 pub joined-spec : {M : Type 1} → statement M
 joined-spec =
     tie.close
     (tie.spec
-    writes-requires
-    address-requires
-    written-requires
-    first-requires
+    fault-of-requires
+    enum-told
+    enum-told-2
+    enum-told-3
+    enum-told-4
+    enum-told-5
     returns
     returns-2
-    written-before-requires
     returns-3
     returns-4
     returns-5)

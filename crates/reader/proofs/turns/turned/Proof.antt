@@ -2,7 +2,7 @@
 use mathlib.Core.Path.{sym, _∙_}
 use borrow.Author.Tests.{lt-ltb, le-ltb, not-true, not-false}
 use Rattle.reader.specs.Bounds.{LINE}
-use Rattle.reader.specs.Form.{formOf}
+use Rattle.reader.specs.Form.{formOf, initOf}
 use Rattle.reader.specs.Answer.{turned}
 use Rattle.reader.proofs.Bounded.{form-checked, form-nothing}
 use borrow.Author.Needs.{needs}
@@ -29,21 +29,24 @@ checked-requires c κs = search needs
 enum-told : tie.Need-enum-told
 enum-told c = search needs
 
+unformed-requires : tie.Need-unformed-requires
+unformed-requires c κs = search needs
+
 returns-3 : tie.Need-returns-3
 unfolding turned
 returns-3 c =
     let f = c .before .before .before .before in
     let a = f .before .before .before .before .args in
     rw (le-ltb LINE _ (f .before .before .if1 .left), not-false (a .ended) (f .before .if2 .left))
-    (c .checked .ensures ∙ form-checked (a .t) (formOf (a .bytes .now)) _ (sym (c .before .before .raw .given .1) ∙ f .form .ensures))
+    (c .checked .ensures ∙ form-checked (a .t) (formOf (a .bytes .now)) (initOf (a .bytes .now)) _ (sym (c .before .before .raw .given .1) ∙ f .form .ensures))
 
 returns-4 : tie.Need-returns-4
 unfolding turned
 returns-4 c =
-    let f = c .before .before in
+    let f = c .before .before .before in
     let a = f .before .before .before .before .args in
     rw (le-ltb LINE _ (f .before .before .if1 .left), not-false (a .ended) (f .before .if2 .left))
-    (form-nothing (a .t) (formOf (a .bytes .now)) (sym (c .enum-told .given .1) ∙ f .form .ensures))
+    (c .unformed .ensures ∙ form-nothing (a .t) (formOf (a .bytes .now)) (initOf (a .bytes .now)) (sym (c .before .enum-told .given .1) ∙ f .form .ensures))
 
 pub turned-spec : {M : Type 1} → statement M
 turned-spec =
@@ -55,5 +58,6 @@ turned-spec =
     enum-known-raw
     checked-requires
     enum-told
+    unformed-requires
     returns-3
     returns-4)

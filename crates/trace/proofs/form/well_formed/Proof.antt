@@ -1,4 +1,4 @@
--- `trace::form::well_formed` meets its contract: the four parts of the definition, in turn. That the array has all its places is told by owning it. Assumes nothing.
+-- `trace::form::well_formed` meets its contract: the parts of the definition, in turn. That the arrays have all their places, and hold values, is told by owning them. Assumes nothing.
 use mathlib.Core.Path.{_≡_, sym, _∙_}
 use mathlib.Core.Bool.{true, false}
 use lib.Dec.{ltb}
