@@ -26,10 +26,10 @@ extern "C" {
 #define WHEELOTTER_DONE 0               /* the text is good; or opened, supposed, taken back */
 #define WHEELOTTER_LONG_TEXT 1          /* over 32,768 bytes */
 #define WHEELOTTER_LONG_LINE 2          /* over 80 bytes */
-#define WHEELOTTER_NO_FORM 3            /* none of the four forms, or no ending line feed */
+#define WHEELOTTER_NO_FORM 3            /* none of the forms, or no ending line feed */
 #define WHEELOTTER_PAST_BOUND 4         /* thread, address or value past its bound */
 #define WHEELOTTER_TWO_ADDRESSES 5      /* a swap's two addresses differ */
-#define WHEELOTTER_ZERO_WRITTEN 6       /* 0 is written */
+#define WHEELOTTER_FIRST_WRITTEN 6      /* the first value of its address is written */
 #define WHEELOTTER_MANY_RECORDS 7       /* record 257, counted from 1 */
 #define WHEELOTTER_WRITTEN_BEFORE 8     /* value written before at that address */
 #define WHEELOTTER_NO_MODEL 9           /* not 1 to 4 */
@@ -39,6 +39,7 @@ extern "C" {
 #define WHEELOTTER_SAME_TWICE 14        /* one record twice */
 #define WHEELOTTER_MANY_PAIRS 15        /* pair 17, counted from 1 */
 #define WHEELOTTER_NO_PAIR 16           /* take back, and no pair stands */
+#define WHEELOTTER_LATE_INIT 17         /* an init line behind a record, or a second one for its address */
 #define WHEELOTTER_NO_ROOM 21           /* the lent memory is too short, and stays as it was */
 #define WHEELOTTER_ORDER 64             /* the first valid order */
 #define WHEELOTTER_CIRCLE 65            /* the rules run in a circle */
@@ -73,7 +74,7 @@ extern "C" {
  * out is too short it stays as it is, and 0 comes back. */
 size_t wheelotter_report(const uint8_t *text, size_t text_len, uint8_t *out, size_t out_len);
 
-/* The number of what is wrong with a text, 1 to 8; 0 for a good one. */
+/* The number of what is wrong with a text, 1 to 8 or 17; 0 for a good one. */
 uint8_t wheelotter_number(const uint8_t *text, size_t text_len);
 
 /* The line that a text is turned back for, counted from 1; 0 where no line is to blame. */
@@ -89,7 +90,7 @@ size_t wheelotter_end(const uint8_t *text, size_t text_len);
  *   WHEELOTTER_RULES         WHEELOTTER_RECORDS rules, one byte each: of a circle the rule of the edge from the operation in the same place
  *                            to the next, or from the last to the first
  * Numbers of two bytes have the low byte first, here and below. Unused places are 0. Gives back
- *   1 to 8, or else WHEELOTTER_NO_MODEL   the text is turned back, or there is no such model; out stays as it was;
+ *   1 to 8 or 17, or else WHEELOTTER_NO_MODEL   the text is turned back, or there is no such model; out stays as it was;
  *   WHEELOTTER_NO_ROOM                    else out is too short, and stays as it was;
  *   WHEELOTTER_NO_SOURCE                  one operation is named, which read a value that nobody wrote;
  *   WHEELOTTER_CIRCLE                     the operations and rules of the circle shown;
@@ -98,7 +99,7 @@ size_t wheelotter_end(const uint8_t *text, size_t text_len);
 uint8_t wheelotter_verdict(const uint8_t *text, size_t text_len, uint8_t model, uint8_t *out, size_t out_len);
 
 /* Whether a list of record numbers is a valid order of the trace that a text writes, under a model; or which condition fails first. Gives back
- *   1 to 8, or else WHEELOTTER_NO_MODEL   the text is turned back, or there is no such model; out stays as it was;
+ *   1 to 8 or 17, or else WHEELOTTER_NO_MODEL   the text is turned back, or there is no such model; out stays as it was;
  *   WHEELOTTER_NO_ROOM                    else out has fewer than WHEELOTTER_JUDGEMENT bytes, and stays as it was;
  *   WHEELOTTER_VALID                      it is;
  *   WHEELOTTER_WRONG_LENGTH               it has not as many numbers as there are operations;
@@ -122,7 +123,7 @@ uint8_t wheelotter_judge(const uint8_t *text, size_t text_len, uint8_t model, co
 
 /* Opens a session on a text under a model, in the first WHEELOTTER_HEAD + text_len bytes of session; the rest stays. Hand on just these
  * bytes. Gives back
- *   1 to 8, or else WHEELOTTER_NO_MODEL, or else WHEELOTTER_NO_SOURCE (wheelotter_verdict tells whose)   no session is opened: where session
+ *   1 to 8 or 17, or else WHEELOTTER_NO_MODEL, or else WHEELOTTER_NO_SOURCE (wheelotter_verdict tells whose)   no session is opened: where session
  *                         has WHEELOTTER_HEAD bytes, these are that of the empty text under model 1, the rest stays; else all stays;
  *   WHEELOTTER_NO_ROOM    else session is too short, and stays as it was;
  *   WHEELOTTER_DONE. */

@@ -1,7 +1,7 @@
 #!/usr/bin/env python3
 """make.py: write tests/traces/NAME.txt, a text for the program, and NAME.out, what it must print.
 
-Every answer is worked out by hand from document 01; none comes from the program. How:
+Every answer is worked out by hand from documents 01 and 02; none comes from the program. How:
 - A refusal is the row of the table that the text was made for: the first bad line, and the lowest number that applies to it.
 - "no source" names the lowest load or swap whose value nobody else wrote; it ranks before a circle.
 - A circle is read off the edges that are listed beside the case: x>y(r) says that rule r forces x before y. They are all the edges of the first
@@ -228,6 +228,57 @@ refused('written-twice-by-swap', '0: M[0] := 1\n1: { M[0] == 1; M[0] := 1 }\n', 
 # the first bad line counts, not the lowest number of all
 refused('first-bad-line', '0: M[0] := 0\nx\n', 6, 1)
 # reading a value before it is written, and a value of another address written again, are good
+# ---- first values: init lines before the records, which keep their numbers; every rule that spoke of 0 speaks of the address's first value
+def begun(inits, text):
+    """Init lines 'a v', then a text."""
+    return ''.join('init: M[%s] := %s\n' % tuple(i.split(' ')) for i in inits) + text
+
+
+def opens(name, inits, records, *answers, **models):
+    told(name, records, *answers, **models)
+    text, out = cases[name]
+    cases[name] = (begun(inits, text), out)
+
+
+buffers = 'no order, circle 0 1 2 3 by 1 4 1 4', 'order 1 2 3 0'
+opens('init-no-records', ['3 7'], [], 'order')
+opens('init-all', ['%d %d' % (a, a + 100) for a in range(16)], ['0 %d==%d' % (a, a + 100) for a in range(16)], order(range(16)))
+opens('init-all-falling', ['%d %d' % (a, a + 100) for a in reversed(range(16))], ['0 %d==%d' % (a, a + 100) for a in range(16)], order(range(16)))
+# the starred traces, with first values in place of 0: the edges are the same
+opens('init-buffers', ['0 7', '1 9'], ['0 0:=1', '0 1==9', '1 1:=1', '1 0==7'], *buffers)
+opens('init-buffers-zeros', ['%d 0' % a for a in range(16)], ['0 0:=1', '0 1==0', '1 1:=1', '1 0==0'], *buffers)
+opens('init-buffers-write-zero', ['0 7', '1 9'], ['0 0:=0', '0 1==9', '1 1:=0', '1 0==7'], *buffers)
+opens('init-messages', ['0 7'], ['0 0:=0', '0 1:=1', '1 1==1', '1 0==7'], 'no order, circle 0 1 2 3 by 1 2 1 4', pso='order 1 2 3 0')
+opens('init-own-store', ['0 7'], ['0 0:=1', '0 0==7'], 'no order, circle 0 1 by 1 4', 'no order, circle 0 1 by 5 4')
+opens('init-swapped-twice', ['0 5'], ['0 0 5->1', '1 0 5->2'], 'no order, circle 0 1 by 4 4')
+# 0 is a value like another where memory begins with something else: it has a source, or none
+opens('init-zero-read', ['0 7'], ['0 0==0'], 'no order, no source 0')
+opens('init-zero-written', ['0 7'], ['0 0:=0', '1 0==0'], 'order 0 1')
+opens('init-zero-read-before', ['0 7'], ['0 0==0', '0 0:=0'], 'no order, circle 0 1 by 1 2')
+opens('init-zero-elsewhere', ['0 7'], ['0 1==0', '0 0==7'], 'order 0 1')
+opens('init-read-of-another', ['0 7'], ['0 1==7'], 'no order, no source 0')
+# 0>1(4): the load of the first value comes before the store
+opens('init-load-first', ['0 7'], ['1 0:=1', '0 0==7'], 'order 1 0')
+# what an init line earns: 2, 3, 4, 17
+refused('init-line-81', 'init: M[3] := ' + '1' * 67 + '\n', 2, 1)
+refused('init-line-80', 'init: M[3] := ' + '1' * 66 + '\n', 4, 1)
+refused('init-no-feed', 'init: M[3] := 7', 3, 1)
+refused('init-load', 'init: M[3] == 7\n', 3, 1)
+refused('init-address-16', 'init: M[16] := 7\n', 4, 1)
+refused('init-value-65536', 'init: M[3] := 7\ninit: M[4] := 65536\n', 4, 2)
+refused('init-late', '0: sync\ninit: M[3] := 7\n', 17, 2)
+refused('init-late-past-bound', '0: sync\ninit: M[16] := 7\n', 4, 2)
+refused('init-late-no-feed', '0: sync\ninit: M[3] := 7', 3, 2)
+refused('init-late-257', text_of('0 0:=%d' % (i + 1) for i in range(256)) + 'init: M[3] := 7\n', 17, 257)
+refused('init-again', begun(['3 7', '3 8'], ''), 17, 2)
+refused('init-again-zero', begun(['3 0', '4 1', '3 7'], ''), 17, 3)
+refused('init-again-past-bound', begun(['3 7', '3 65536'], ''), 4, 2)
+# 6: the first value may not be written; what was written before, 0 too, is 8
+refused('init-first-written', begun(['3 7'], '0: M[3] := 7\n'), 6, 2)
+refused('init-zero-is-first', begun(['3 0'], '0: M[3] := 0\n'), 6, 2)
+refused('init-zero-elsewhere-written', begun(['3 7'], '0: M[4] := 0\n'), 6, 2)
+refused('init-zero-twice', begun(['3 7'], '0: M[3] := 0\n1: M[3] := 0\n'), 8, 3)
+
 told('same-value-elsewhere', ['0 0:=1', '0 1:=1', '1 0==1', '1 1==1'], 'order 0 1 2 3')
 
 os.makedirs(here, exist_ok=True)

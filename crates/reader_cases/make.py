@@ -1,16 +1,17 @@
 #!/usr/bin/env python3
 """make.py: write the texts (data/), their names (args) and what the reader must say of each (stdout).
 
-Every answer below is written from document 01 by hand; none is taken from the program. Run it in this folder after a change."""
+Every answer below is written from documents 01 and 02 by hand; none is taken from the program. Run it in this folder after a change."""
 import os
 
 here = os.path.dirname(os.path.abspath(__file__))
 cases = []
 
 
-def good(name, text, *records):
+def good(name, text, *records, firsts=''):
     words = ''.join(' ' + r for r in records)
-    cases.append((name, text, f'{len(records)} records{words} <>'))
+    begins = ''.join(' first ' + f for f in firsts.split(', ') if f)
+    cases.append((name, text, f'{len(records)} records{words}{begins} <>'))
 
 
 def shown(part):
@@ -146,6 +147,86 @@ refused('twice-last', stores(255) + store(255), 8, 256, b'0: M[0] := 255')
 good('same-value-elsewhere', b'0: M[0] := 1\n0: M[1] := 1\n', 'store 0 0 1', 'store 0 1 1')
 good('read-before-written', b'0: M[0] == 1\n0: M[0] := 1\n', 'load 0 0 1', 'store 0 0 1')
 good('nobody-wrote', b'0: M[0] == 7\n', 'load 0 0 7')
+
+# first values: init lines at the top, in any order, at most one an address; they are no records
+def init(address, value):
+    return b'init: M[%d] := %d\n' % (address, value)
+
+
+def inits(n):
+    return b''.join(init(a, a + 100) for a in range(n))
+
+
+def begun(n):
+    return ', '.join(f'{a} {a + 100}' for a in range(n))
+
+
+good('init', init(3, 7), firsts='3 7')
+good('init-zero', init(3, 0))
+good('init-bounds', init(15, 65535), firsts='15 65535')
+good('init-falling', init(9, 2) + init(3, 7), firsts='3 7, 9 2')
+good('init-all', inits(16), firsts=begun(16))
+good('init-all-zero', b''.join(init(a, 0) for a in range(16)))
+good('init-record', init(3, 7) + b'0: M[3] == 7\n0: M[3] := 0\n', 'load 0 3 7', 'store 0 3 0', firsts='3 7')
+good('init-records-256', inits(16) + b''.join(b'0: M[0] := %d\n' % (i + 200) for i in range(256)), *[f'store 0 0 {i + 200}' for i in range(256)], firsts=begun(16))
+good('init-value-elsewhere', init(3, 7) + b'0: M[4] := 7\n', 'store 0 4 7', firsts='3 7')
+good('init-two-addresses-one-value', init(3, 7) + init(4, 7), firsts='3 7, 4 7')
+
+# their form is exact
+refused('init-no-feed', b'init: M[3] := 7', 3, 1, b'init: M[3] := 7')
+refused('init-no-feed-second', init(3, 7) + b'init: M[4] := 7', 3, 2, b'init: M[4] := 7')
+refused('init-load', b'init: M[3] == 7\n', 3, 1, b'init: M[3] == 7')
+refused('init-swap', b'init: { M[3] == 7; M[3] := 8 }\n', 3, 1, b'init: { M[3] == 7; M[3] := 8 }')
+refused('init-sync', b'init: sync\n', 3, 1, b'init: sync')
+refused('init-capital', b'Init: M[3] := 7\n', 3, 1, b'Init: M[3] := 7')
+refused('init-no-colon', b'init M[3] := 7\n', 3, 1, b'init M[3] := 7')
+refused('init-short', b'ini: M[3] := 7\n', 3, 1, b'ini: M[3] := 7')
+refused('init-space', b'init:  M[3] := 7\n', 3, 1, b'init:  M[3] := 7')
+refused('init-leading-zero', b'init: M[03] := 7\n', 3, 1, b'init: M[03] := 7')
+refused('init-blank-between', init(3, 7) + b'\n' + init(4, 7), 3, 2)
+
+# 2, 3 and 4 on an init line, at the top and behind a record; they come before 17
+long_init = b'init: M[3] := ' + b'9' * 66
+refused('init-line-80', long_init + b'\n', 4, 1, long_init)
+refused('init-line-81', long_init + b'9\n', 2, 1, long_init + b'9')
+refused('init-address-16', b'init: M[16] := 7\n', 4, 1, b'init: M[16] := 7')
+refused('init-value-65536', b'init: M[3] := 65536\n', 4, 1, b'init: M[3] := 65536')
+refused('init-wraps', b'init: M[4294967299] := 7\n', 4, 1, b'init: M[4294967299] := 7')
+refused('late-line-81', b'0: sync\n' + long_init + b'9\n', 2, 2, long_init + b'9')
+refused('late-no-feed', b'0: sync\ninit: M[3] := 7', 3, 2, b'init: M[3] := 7')
+refused('late-address-16', b'0: sync\ninit: M[16] := 7\n', 4, 2, b'init: M[16] := 7')
+refused('again-line-81', init(3, 7) + long_init + b'9\n', 2, 2, long_init + b'9')
+refused('again-no-feed', init(3, 7) + b'init: M[3] := 8', 3, 2, b'init: M[3] := 8')
+refused('again-value-65536', init(3, 7) + b'init: M[3] := 65536\n', 4, 2, b'init: M[3] := 65536')
+
+# 17: behind a record, a fence too, or a second one for an address, of a value like the first or of 0 too
+refused('late', b'0: M[3] := 1\n' + init(4, 7), 17, 2, b'init: M[4] := 7')
+refused('late-fence', b'0: sync\n' + init(4, 7), 17, 2, b'init: M[4] := 7')
+refused('late-behind-both', init(3, 7) + b'0: sync\n' + init(4, 7), 17, 3, b'init: M[4] := 7')
+refused('late-zero', b'0: sync\n' + init(4, 0), 17, 2, b'init: M[4] := 0')
+refused('late-257', stores(256) + init(4, 7), 17, 257, b'init: M[4] := 7')
+refused('again', init(3, 7) + init(3, 8), 17, 2, b'init: M[3] := 8')
+refused('again-alike', init(3, 7) + init(3, 7), 17, 2, b'init: M[3] := 7')
+refused('again-behind-another', init(3, 7) + init(4, 8) + init(3, 9), 17, 3, b'init: M[3] := 9')
+refused('again-behind-zero', init(3, 0) + init(3, 7), 17, 2, b'init: M[3] := 7')
+refused('again-zero', init(3, 7) + init(3, 0), 17, 2, b'init: M[3] := 0')
+refused('again-seventeenth', inits(16) + init(15, 1), 17, 17, b'init: M[15] := 1')
+refused('late-before-a-bad-line', b'0: sync\n' + init(4, 7) + b'0: syn\n', 17, 2, b'init: M[4] := 7')
+refused('bad-line-before-late', b'0: syn\n' + init(4, 7), 3, 1, b'0: syn')
+
+# 6 is the first value's: 0 may be written where memory begins with something else
+refused('six-first', init(3, 7) + b'0: M[3] := 7\n', 6, 2, b'0: M[3] := 7')
+refused('six-swap', init(3, 7) + b'0: { M[3] == 1; M[3] := 7 }\n', 6, 2, b'0: { M[3] == 1; M[3] := 7 }')
+refused('six-zero-by-init', init(3, 0) + b'0: M[3] := 0\n', 6, 2, b'0: M[3] := 0')
+refused('six-zero-elsewhere', init(3, 7) + b'0: M[4] := 0\n', 6, 2, b'0: M[4] := 0')
+good('zero-written', init(3, 7) + b'0: M[3] := 0\n', 'store 0 3 0', firsts='3 7')
+good('zero-swapped-in', init(3, 7) + b'0: { M[3] == 7; M[3] := 0 }\n', 'swap 0 3 7 0', firsts='3 7')
+refused('zero-twice', init(3, 7) + b'0: M[3] := 0\n1: M[3] := 0\n', 8, 3, b'1: M[3] := 0')
+refused('five-before-six', init(3, 7) + b'0: { M[4] == 0; M[3] := 7 }\n', 5, 2, b'0: { M[4] == 0; M[3] := 7 }')
+
+# the length of a text with init lines
+refused('init-text-32769', init(3, 7) + b'\n' * (32769 - len(init(3, 7))), 1, 0)
+refused('init-text-32768', init(3, 7) + b'\n' * (32768 - len(init(3, 7))), 3, 2)
 
 # the first bad line is the one that counts
 refused('first-of-two', b'0: M[0] := 0\n0: syn\n', 6, 1, b'0: M[0] := 0')

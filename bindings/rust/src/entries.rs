@@ -35,7 +35,7 @@ pub fn report(text: &[u8], out: &mut [u8]) -> usize {
     unsafe { linked::wheelotter_report(text.as_ptr(), text.len(), out.as_mut_ptr(), out.len()) }
 }
 
-/// The number of what is wrong with a text, 1 to 8; 0 for a good one.
+/// The number of what is wrong with a text, 1 to 8 or 17; 0 for a good one.
 pub fn number(text: &[u8]) -> u8 {
     unsafe { linked::wheelotter_number(text.as_ptr(), text.len()) }
 }

@@ -23,7 +23,7 @@ impl Answer {
     }
 }
 
-/// Why a text is turned back: the number (1 to 8 in the table), the line, counted from 1, or 0 where no line is to blame, and that line as a part of
+/// Why a text is turned back: the number (1 to 8 or 17 in the table), the line, counted from 1, or 0 where no line is to blame, and that line as a part of
 /// the text, without its line feed.
 #[derive(Clone, Copy, Debug, PartialEq, Eq)]
 pub struct Refusal<'a> {

@@ -57,14 +57,14 @@ pub enum Answer {
     LongText = 1,
     /// Over 80 bytes.
     LongLine = 2,
-    /// None of the four forms, or no ending line feed.
+    /// None of the forms, or no ending line feed.
     NoForm = 3,
     /// Thread, address or value past its bound.
     PastBound = 4,
     /// A swap's two addresses differ.
     TwoAddresses = 5,
-    /// 0 is written.
-    ZeroWritten = 6,
+    /// The first value of its address is written.
+    FirstWritten = 6,
     /// Record 257, counted from 1.
     ManyRecords = 7,
     /// Value written before at that address.
@@ -83,6 +83,8 @@ pub enum Answer {
     ManyPairs = 15,
     /// Take back, and no pair stands.
     NoPair = 16,
+    /// An init line behind a record, or a second one for its address.
+    LateInit = 17,
     /// The lent memory is too short, and stays as it was.
     NoRoom = 21,
     /// The first valid order.
@@ -113,14 +115,14 @@ pub enum Answer {
 
 /// In the order of their numbers.
 #[rustfmt::skip]
-pub(crate) const ANSWERS: [Answer; 29] = [
+pub(crate) const ANSWERS: [Answer; 30] = [
     Answer::Done,
     Answer::LongText,
     Answer::LongLine,
     Answer::NoForm,
     Answer::PastBound,
     Answer::TwoAddresses,
-    Answer::ZeroWritten,
+    Answer::FirstWritten,
     Answer::ManyRecords,
     Answer::WrittenBefore,
     Answer::NoModel,
@@ -130,6 +132,7 @@ pub(crate) const ANSWERS: [Answer; 29] = [
     Answer::SameTwice,
     Answer::ManyPairs,
     Answer::NoPair,
+    Answer::LateInit,
     Answer::NoRoom,
     Answer::Order,
     Answer::Circle,

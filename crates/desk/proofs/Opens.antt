@@ -22,7 +22,7 @@ use Rattle.text.specs.Room.{putAt}
 use Rattle.text.proofs.Put.{put-paste}
 use Rattle.trace.specs.declared.Trace.{Trace}
 use Rattle.reader.specs.Read.{readText}
-use Rattle.reader.specs.declared.Reason.the-variants.{LongText, LongLine, NoForm, PastBound, Addresses, FirstValue, TooMany, Twice}
+use Rattle.reader.specs.declared.Reason.the-variants.{LongText, LongLine, NoForm, PastBound, Addresses, FirstValue, TooMany, Twice, Late}
 use Rattle.reader.specs.declared.Answer as told
 use Rattle.reader.specs.declared.Answer.the-variants as turned
 use Rattle.reader.proofs.RoundTrip.{read-well}
@@ -107,6 +107,7 @@ module _ (text : List ℕ) (m : ℕ) where
       bad-ten (turned.Refused FirstValue n) e = omega arith
       bad-ten (turned.Refused TooMany n) e = omega arith
       bad-ten (turned.Refused Twice n) e = omega arith
+      bad-ten (turned.Refused Late n) e = omega arith
 
   module _ (b : List ℕ) where
     module _ (z : openNumber text m ≡ 0) where

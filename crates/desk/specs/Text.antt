@@ -1,6 +1,6 @@
 -- What is wrong with a text, in numbers.
 --
---   numberIn a    == document 01's number in a reader's answer; 0 for a good text
+--   numberIn a    == the documents' number in a reader's answer; 0 for a good text
 --   numberOf text == the number of a text
 use mathlib.Core.List.{List}
 use Prim.Native.Nat.{ℕ}

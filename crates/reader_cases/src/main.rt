@@ -1,4 +1,4 @@
-// Reads each text that is named as an argument and prints what the reader answers: the records, or the number, the line and the part.
+// Reads each text that is named as an argument and prints what the reader answers: the records and the first values other than 0, or the number, the line and the part.
 use libc::STDOUT_FILENO;
 use reader::Answer;
 use trace::Op;
@@ -78,6 +78,19 @@ fn say_record(op: Op) {
     }
 }
 
+// The first values other than 0.
+fn say_firsts(t: Trace) {
+    let mut i: usize = 0;
+    while i < trace::FIRSTS {
+        let value = t.firsts[i];
+        if value != 0 {
+            say_number(b" first ", long(i));
+            say_number(b" ", wide16(value));
+        }
+        i += 1;
+    }
+}
+
 // The used records; a trace that comes from the reader has no more than its places.
 fn say_records(t: Trace) {
     let len = t.len;
@@ -101,6 +114,7 @@ fn answer(text: &[u8]) {
         Answer::Good => {
             let t = r.trace;
             say_records(t);
+            say_firsts(t);
         }
         Answer::Refused { reason, line } => {
             say_number(b": refused ", wide8(reader::turns::number(reason)));

@@ -7,7 +7,7 @@ use Prim.Native.Nat.{ℕ, zero, suc, _+_, _<_, _≤_}
 use native.Mathlib.Omega.{arith}
 use lib.ListN.{getD}
 use Rattle.text.specs.Lines.{lines}
-use Rattle.reader.specs.Read.{readLines, readText}
+use Rattle.reader.specs.Read.{readInits, readText}
 use Rattle.reader.specs.declared.Answer.the-variants.{Good}
 use Rattle.reader.specs.declared.Reading.{Reading}
 use Rattle.pairs.specs.Kept.{SC, MODELS}
@@ -28,7 +28,7 @@ listed = List·Memᴰ·head refl
 
 -- the empty text is good, and its trace has no records
 read-empty : readText [] ≡ record { answer = Good; trace = traceOf [] }
-unfolding readText readLines lines traceOf places
+unfolding readText readInits lines traceOf places
 read-empty = refl
 
 -- its verdict is the same under every model

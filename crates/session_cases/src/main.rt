@@ -15,6 +15,7 @@ use session::calls::suppose;
 use session::calls::take_back;
 use text::templates::fit;
 use text::walk::line_end;
+use trace::FIRSTS;
 use trace::Op;
 use trace::RECORDS;
 use trace::Record;
@@ -121,6 +122,18 @@ fn same_op(a: Op, b: Op) -> bool {
     place & (a.read() == b.read()) & (a.written() == b.written())
 }
 
+// Whether two traces begin with the same values.
+fn same_firsts(a: Trace, b: Trace) -> bool {
+    let mut i: usize = 0;
+    while i < FIRSTS {
+        if a.firsts[i] != b.firsts[i] {
+            return false;
+        }
+        i += 1;
+    }
+    true
+}
+
 fn same_trace(a: Trace, b: Trace) -> bool {
     let mut i: usize = 0;
     while i < RECORDS {
@@ -133,7 +146,7 @@ fn same_trace(a: Trace, b: Trace) -> bool {
         }
         i += 1;
     }
-    a.len == b.len
+    (a.len == b.len) & same_firsts(a, b)
 }
 
 // Whether two sessions are equal throughout.

@@ -37,7 +37,7 @@ fn line_in(a: Answer) -> usize
     }
 }
 
-// Document 01's number of what is wrong with a text, 1 to 8; 0 for a good one.
+// The documents' number of what is wrong with a text, 1 to 8 or 17; 0 for a good one.
 #[no_mangle]
 pub extern "C" fn wheelotter_number(text: &[u8]) -> u8
     ensures { λ r. ⌜ r ≡ numberOf (now (text .entry)) ⌝ }
