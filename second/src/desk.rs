@@ -8,6 +8,7 @@
 //! | 64, 65, 66 | the verdict: order, circle, none left |
 //! | 67, 68, 69 | asked: held, not held, contradicted |
 //! | 70 to 75 | a list judged: valid, wrong length, bad number, repeat, out of turn, wrong value |
+//! | 77, 78 | cut down: nothing is wrong, or what is left |
 //!
 //! Numbers of records, and how many are told, are laid down in two bytes, the low one first.
 //!
@@ -19,6 +20,7 @@ use crate::reader::{self, Refusal};
 use crate::report;
 use crate::rules::Pair;
 use crate::session::{self, Answer, Session, Talk, MOST_PAIRS};
+use crate::smaller::{smaller, Smaller};
 use crate::trace::{Model, Trace, MODELS, MOST_RECORDS};
 use crate::verdict::{judgement, verdict, Verdict};
 use std::cell::OnceCell;
@@ -40,6 +42,8 @@ pub const BAD_NUMBER: u8 = 72;
 pub const REPEAT: u8 = 73;
 pub const OUT_OF_TURN: u8 = 74;
 pub const WRONG_VALUE: u8 = 75;
+pub const NOTHING_WRONG: u8 = 77;
+pub const SMALLER: u8 = 78;
 
 /// A verdict in bytes: how many operations it names, the operations, the rules of a circle.
 pub const VERDICT: usize = RULES_AT + MOST_RECORDS;
@@ -48,6 +52,9 @@ pub const RULES_AT: usize = OPERATIONS_AT + 2 * MOST_RECORDS;
 
 /// What a judged list comes with: the place or the record, of a pair both records; unused ones 0.
 pub const JUDGEMENT: usize = 4;
+
+/// What is left of a trace: how many records, and their old numbers.
+pub const LEFT: usize = 2 + 2 * MOST_RECORDS;
 
 pub const PAIRS_AT: usize = 2;
 pub const CONTRADICTED_AT: usize = PAIRS_AT + 4 * MOST_PAIRS;
@@ -150,6 +157,31 @@ impl<'a> Page<'a> {
             Verdict::NotKnown => return None,
         };
         lay_verdict(&mut lent[..VERDICT], &operations, rules);
+        Some(answer)
+    }
+
+    /// None, and nothing laid down, where this package does not know.
+    pub fn smaller(&self, model: u8, lent: &mut [u8]) -> Option<u8> {
+        let (trace, model) = match (&self.reading, Model::numbered(model.into())) {
+            (Err(refusal), _) => return Some(refusal.number),
+            (Ok(_), None) => return Some(NO_MODEL),
+            (Ok(trace), Some(model)) => (trace, model),
+        };
+        if lent.len() < LEFT {
+            return Some(NO_ROOM);
+        }
+        let (answer, numbers) = match smaller(trace, model, self.most_steps) {
+            Smaller::NoSource(load) => (NO_SOURCE, vec![load]),
+            Smaller::NothingWrong => (NOTHING_WRONG, vec![]),
+            Smaller::Cut(part) => (SMALLER, part.iter().map(|(old, _)| *old).collect()),
+            Smaller::NotKnown => return None,
+        };
+        let place = &mut lent[..LEFT];
+        place.fill(0);
+        put_number(place, numbers.len());
+        for (number, &old) in place[2..].chunks_mut(2).zip(&numbers) {
+            put_number(number, old);
+        }
         Some(answer)
     }
 

@@ -11,6 +11,7 @@
 //! | `rules` | the edges that the rules force, rounds, held, the circle shown |
 //! | `orders` | valid orders, the judge, the first order in dictionary order |
 //! | `verdict` | the verdict, numbers 9 and 10 |
+//! | `smaller` | a faulty trace cut down (request 9), literally |
 //! | `session` | suppose, take back, ask, numbers 9 to 16 |
 //! | `report` | the lines of an answer |
 //! | `desk` | the entries of the library, in bytes (their form is ours; what they say is the document's) |
@@ -32,6 +33,7 @@ pub mod report;
 pub mod rules;
 pub mod script;
 pub mod session;
+pub mod smaller;
 pub mod stated;
 pub mod trace;
 pub mod verdict;
