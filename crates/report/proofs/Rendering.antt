@@ -2,6 +2,7 @@
 --
 --   decimal-value == how many digits a value has at the most
 --   fill-none, fill-more == a form that is done, and one byte of it more
+--   inits-none, inits-more == init lines that are done, and one address more
 --   records-more  == one record more
 use mathlib.Core.Path.{_≡_, refl, sym, ap, ap₂, _∙_}
 use mathlib.Core.Bool.{Bool, true, false, cond}
@@ -21,7 +22,10 @@ use Rattle.text.specs.Number.{decimal}
 use Rattle.text.specs.Template.{HOLE, fill}
 use Rattle.text.proofs.Decimal.{decimal-length}
 use Rattle.reader.specs.Form.{renderOp}
-use Rattle.reader.specs.Read.{renderRecords}
+use Rattle.trace.specs.Trace.{first}
+use Rattle.trace.specs.declared.Trace.{Trace}
+use Rattle.reader.specs.Form.{renderInit}
+use Rattle.reader.specs.TextOf.{Begin, renderRecords, renderInits, initsFrom}
 use Rattle.report.specs.Bounds.{VALUE}
 
 pub decimal-value : (n : ℕ) → n < VALUES → length (decimal n) ≤ VALUE
@@ -57,6 +61,27 @@ fill-more form numbers done k n v q h e f i =
     append-assoc done (cond (eqb b HOLE) (decimal v) (b ∷ [])) (fill (drop (k + 1) form) (drop q numbers))
     ∙ ap (λ (l : List ℕ). done ++ l) (ap₂ (λ (v q : ℕ). cond (eqb b HOLE) (decimal v) (b ∷ []) ++ fill (drop (k + 1) form) (drop q numbers)) e f ∙ sym (fill-step form numbers k n h))
     ∙ i
+
+pub inits-none : (t : Trace) (a k : ℕ) → k ≡ 0 → renderInits (initsFrom t a k) ≡ []
+unfolding renderInits initsFrom
+inits-none t a k e = rw e refl
+
+-- what is written with the init line of one address more, told its value
+pub inits-more :
+    (t : Trace) (whole done : List ℕ) (a k v : ℕ) → v ≡ first t a → done ++ renderInits (initsFrom t a (suc k)) ≡ whole
+    → (done ++ cond (eqb v 0) [] (renderInit a v ++ FEED ∷ [])) ++ renderInits (initsFrom t (a + 1) k) ≡ whole
+unfolding renderInits initsFrom
+inits-more t whole done a k v e i =
+    append-assoc done (cond (eqb v 0) [] (renderInit a v ++ FEED ∷ [])) (renderInits (initsFrom t (a + 1) k))
+    ∙ ap (λ (l : List ℕ). done ++ l) (rw (e, add-one) (go (eqb (first t a) 0)))
+    ∙ i
+  where
+    rest : List Begin
+    rest = initsFrom t (suc a) k
+
+    go : (b : Bool) → cond b [] (renderInit a (first t a) ++ FEED ∷ []) ++ renderInits rest ≡ renderInits (cond b rest (record { address = a; value = first t a } ∷ rest))
+    go true = refl
+    go false = append-assoc (renderInit a (first t a)) (FEED ∷ []) (renderInits rest)
 
 -- a line of one record
 one-record : (r : Record) → renderRecords (r ∷ []) ≡ renderOp (r .op) ++ FEED ∷ []

@@ -8,11 +8,11 @@
 --   LINE   == the line of one model
 --   REPORT == the whole answer
 --   VALUE  == a value, or any other number of a record
---   FORM   == the form of a record's line
---   RECORD == a record's line with its feed
+--   FORM   == the form of a line
+--   RECORD == a line of a trace with its feed
 --   RENDER == the text of a trace
 use Prim.Native.Nat.{ℕ, _+_, _*_}
-use Rattle.trace.specs.Bounds.{RECORDS}
+use Rattle.trace.specs.Bounds.{RECORDS, ADDRESSES}
 use Rattle.pairs.specs.Kept.{MODELS}
 
 abbrev pub DIGITS : ℕ
@@ -49,4 +49,4 @@ abbrev pub RECORD : ℕ
 RECORD = 1 + VALUE * FORM
 
 abbrev pub RENDER : ℕ
-RENDER = RECORD * RECORDS
+RENDER = RECORD * (ADDRESSES + RECORDS)

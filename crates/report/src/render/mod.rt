@@ -1,34 +1,37 @@
-// The text of a trace, in a lent buffer: each record's line, as the reader reads it.
+// The text of a trace, in a lent buffer: init lines for the first values other than 0, and each record's line, as the reader reads them.
 ghost use mathlib.Core.Path.{_≡_};
 ghost use mathlib.Core.Bool.{cond};
 ghost use mathlib.Core.List.{[], _∷_, _++_};
 ghost use Prim.Native.Nat.{_+_, _*_, _≤_, _<_};
 ghost use lib.Dec.{eqb};
 ghost use lib.ListN.{length, getD, take};
-ghost use Rattle.trace.specs.Bounds.{RECORDS, VALUES};
+ghost use Rattle.trace.specs.Bounds.{RECORDS, ADDRESSES, VALUES};
 ghost use Rattle.text.specs.Bounds.{FEED};
 ghost use Rattle.text.specs.Number.{decimal};
 ghost use Rattle.text.specs.Room.{putAt, behind};
 ghost use Rattle.text.specs.Template.{HOLE, fill};
-ghost use Rattle.reader.specs.Form.{renderOp};
-ghost use Rattle.reader.specs.Read.{renderTrace};
+ghost use Rattle.reader.specs.Form.{renderInit, renderOp};
+ghost use Rattle.reader.specs.TextOf.{renderRecords, renderInits, recordsOf, initsOf, renderTrace};
 ghost use Rattle.report.specs.Bounds.{VALUE, RECORD, RENDER};
 ghost use Rattle.report.specs.Wrote.{Wrote};
 use crate::pieces::put_decimal;
 use crate::pieces::put_word;
 use text::room::put;
+use trace::ADDRESSES;
+use trace::FIRSTS;
 use trace::Op;
 use trace::RECORDS;
 use trace::Trace;
+use trace::first;
 
 // The byte of a form that a number stands for.
 const HOLE: u8 = b'#';
 
-// How many bytes a record's line has at the most: its feed, and no byte of its form gives more than a value's digits.
+// How many bytes a line has at the most: its feed, and no byte of its form gives more than a value's digits.
 const RECORD: usize = 1 + 5 * 27;
 
 // How many bytes the text of a trace has at the most.
-pub const RENDER: usize = RECORD * RECORDS;
+pub const RENDER: usize = RECORD * (FIRSTS + RECORDS);
 
 // A number of a list; 0 past its end.
 fn nth(numbers: &[u16], n: usize) -> usize
@@ -134,13 +137,40 @@ fn held(t: Trace) -> usize
     n
 }
 
-// The records' lines.
-fn put_records(t: Trace, out: &mut [u8]) -> usize
+// The init line of an address that begins with another value than 0.
+fn put_init(addr: u8, value: u16, out: &mut [u8], at: usize) -> usize
+    requires { ⌜ at + RECORD ≤ length (now out) ⌝ }
+    ensures { λ r. ⌜ Wrote (now (out .entry)) at (cond (eqb value 0) [] (renderInit addr value ++ FEED ∷ [])) (now (out .exit)) r × (r ≤ at + RECORD) ⌝ }
+{
+    if value == 0 {
+        return at;
+    }
+    let numbers = [addr as u16, value];
+    let end = put_form(b"init: M[#] := #", &numbers, out, at);
+    put_word(b"\n", out, end)
+}
+
+// The init lines, addresses rising.
+fn put_inits(t: Trace, out: &mut [u8]) -> usize
     requires { ⌜ length (now out) ≡ RENDER ⌝ }
-    ensures { λ r. ⌜ Wrote (now (out .entry)) 0 (renderTrace t) (now (out .exit)) r × (r ≤ RENDER) ⌝ }
+    ensures { λ r. ⌜ Wrote (now (out .entry)) 0 (renderInits (initsOf t)) (now (out .exit)) r × (r ≤ RECORD * ADDRESSES) ⌝ }
+{
+    let mut end: usize = 0;
+    let mut addr: u8 = 0;
+    while addr < ADDRESSES {
+        end = put_init(addr, first(t, addr), out, end);
+        addr += 1;
+    }
+    end
+}
+
+// The records' lines.
+fn put_records(t: Trace, out: &mut [u8], at: usize) -> usize
+    requires { ⌜ (length (now out) ≡ RENDER) × (at ≤ RECORD * ADDRESSES) ⌝ }
+    ensures { λ r. ⌜ Wrote (now (out .entry)) at (renderRecords (recordsOf t)) (now (out .exit)) r × (r ≤ RENDER) ⌝ }
 {
     let n = held(t);
-    let mut end: usize = 0;
+    let mut end: usize = at;
     let mut i: usize = 0;
     while i < n {
         let record = t.records[i];
@@ -157,6 +187,7 @@ pub fn render(t: Trace, out: &mut [u8]) -> usize
     ensures { λ r. ⌜ (r ≡ behind (renderTrace t) (now (out .entry)) 0) × (now (out .exit) ≡ putAt (renderTrace t) (now (out .entry)) 0) ⌝ }
 {
     let mut whole = [0u8; RENDER];
-    let n = put_records(t, &mut whole);
+    let top = put_inits(t, &mut whole);
+    let n = put_records(t, &mut whole, top);
     put(&whole[..n], out, 0)
 }
