@@ -65,12 +65,30 @@ fn on_session<T: Table>(case: &Case, simple: &Session<T>) -> bool {
         && simple.take_back().is_ok_and(|simple| same(&fewer, &simple))
 }
 
-/// Whether a session in bytes has a simple one's pairs, mark and table.
+/// Whether a session in bytes has a simple one's pairs, mark and table, and its trace.
 fn same<T: Table>(bytes: &[u8], simple: &Session<T>) -> bool {
     let n = simple.held.records();
     let held = |x: usize, y: usize| bytes[TABLE + x * (RECORDS / 8) + y / 8] >> (y % 8) & 1 == 1;
     usize::from(bytes[1]) == simple.pairs.len()
         && (bytes[MARK] == 1) == simple.contradicted
         && (0..n).all(|x| (0..n).all(|y| held(x, y) == simple.held.has(x, y)))
-        && bytes[HEAD..] == simple.text
+        && bytes[HEAD..] == packed(&simple.text)
+}
+
+/// The packed file of a text without init lines: its head, and eight bytes a record.
+fn packed(text: &[u8]) -> Vec<u8> {
+    let records = records(text);
+    let entry = |record: &Record| {
+        let (kind, address, read, written) = match *record {
+            Record::Load { address, read, .. } => (0, address, read, 0),
+            Record::Store { address, written, .. } => (1, address, 0, written),
+            Record::Swap { address, read, written, .. } => (2, address, read, written),
+            Record::Fence { .. } => (3, 0, 0, 0),
+        };
+        let two = |value: usize| [value as u8, (value >> 8) as u8];
+        [&[kind, record.thread() as u8, address as u8, 0][..], &two(read), &two(written)].concat()
+    };
+    let count = records.len();
+    let head = [b'P', b'Y', b'R', 1, 0, 0, count as u8, (count >> 8) as u8];
+    records.iter().fold(head.to_vec(), |file, record| [file, entry(record)].concat())
 }

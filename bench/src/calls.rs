@@ -20,13 +20,14 @@ pub struct Call {
 
 /// The whole answer has no counterpart, since the plain search would have to end under every model. Nor has where a bad line starts and ends.
 #[rustfmt::skip]
-pub static CALLS: [Call; 11] = [
+pub static CALLS: [Call; 12] = [
     Call { name: "report", session: false, library: |case, lent| keep(entries::report(&case.text, &mut lent.out)), simple: None },
     Call { name: "number", session: false, library: |case, _| keep(entries::number(&case.text)), simple: Some([read, read]) },
     Call { name: "line", session: false, library: |case, _| keep(entries::line(&case.text)), simple: Some([read, read]) },
     Call { name: "start", session: false, library: |case, _| keep(entries::start(&case.text)), simple: None },
     Call { name: "end", session: false, library: |case, _| keep(entries::end(&case.text)), simple: None },
     Call { name: "verdict", session: false, library: told_by_library, simple: Some([told::<Bools>, told::<Words>]) },
+    Call { name: "limited", session: false, library: limited_by_library, simple: None },
     Call { name: "judge", session: false, library: judged_by_library, simple: Some([judged::<Bools>, judged::<Words>]) },
     Call { name: "open", session: false, library: opened_by_library, simple: Some([opened::<Bools>, opened::<Words>]) },
     Call { name: "suppose", session: true, library: supposed_by_library, simple: Some([supposed::<Bools>, supposed::<Words>]) },
@@ -53,6 +54,11 @@ fn keep<T>(back: T) {
 
 fn told_by_library(case: &Case, lent: &mut Lent) {
     keep(entries::verdict(&case.text, case.model as u8, &mut lent.out));
+}
+
+/// Within a million steps; a simple counterpart without a memory would take seconds.
+fn limited_by_library(case: &Case, lent: &mut Lent) {
+    keep(entries::limited(&case.text, case.model as u8, LIMIT, &mut lent.out));
 }
 
 fn judged_by_library(case: &Case, lent: &mut Lent) {

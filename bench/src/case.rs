@@ -5,7 +5,7 @@ use crate::draw::text_of;
 use crate::library::Lent;
 use simple::session::Session;
 use simple::{Bools, Model, Record, Words};
-use wheelotter::{entries, Answer, HEAD, OPERATIONS, PAIRS};
+use wheelotter::{entries, Answer, COUNT, ENTRIES, FIRST, FIRSTS, HEAD, OPERATIONS, PAIRS, RECORD, SESSION};
 
 pub struct Case {
     pub text: Vec<u8>,
@@ -44,10 +44,11 @@ impl Case {
 
     /// A session of the library, opened on the text, with all pairs supposed.
     fn supposing(&self) -> Vec<u8> {
-        let mut session = vec![0; HEAD + self.text.len()];
+        let mut session = vec![0; SESSION];
         if entries::open(&self.text, self.model as u8, &mut session) != Answer::Done as u8 {
             return Vec::new();
         }
+        session.truncate(HEAD + file_length(&session[HEAD..]));
         for &(x, y) in &self.supposed {
             assert!(entries::suppose(&mut session, x, y) == Answer::Done as u8, "a pair of two operations can be supposed");
         }
@@ -70,4 +71,10 @@ fn two(chance: &mut Chance, list: &[u16], following: bool) -> (usize, usize) {
     let j = if other < i { other } else { other + 1 };
     let (i, j) = if following { (i.min(j), i.max(j)) } else { (i, j) };
     (usize::from(list[i]), usize::from(list[j]))
+}
+
+/// How long a packed file says it is: a session's bytes end with it.
+fn file_length(file: &[u8]) -> usize {
+    let records = u16::from_le_bytes([file[COUNT], file[COUNT + 1]]);
+    ENTRIES + FIRST * usize::from(file[FIRSTS]) + RECORD * usize::from(records)
 }

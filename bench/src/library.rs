@@ -2,7 +2,7 @@
 
 use crate::case::Case;
 use simple::models::{Model, MODELS};
-use wheelotter::{entries, HEAD};
+use wheelotter::{entries, SESSION};
 
 /// More than any answer takes.
 const ROOM: usize = 1 << 14;
@@ -18,10 +18,12 @@ impl Lent {
         Lent { out: vec![0; ROOM], session: Vec::new() }
     }
 
-    /// The session as it stands before a call on a case, which may change it.
+    /// The session as it stands before a call on a case, which may change it; where there is none, room for any.
     pub fn ready_for(&mut self, case: &Case) {
         self.session.clone_from(&case.session);
-        self.session.resize(HEAD + case.text.len(), 0);
+        if case.session.is_empty() {
+            self.session.resize(SESSION, 0);
+        }
     }
 }
 
