@@ -27,7 +27,7 @@ use Rattle.rows.proofs.Pair.{put-iff, put-left, put-long}
 use Rattle.rows.proofs.Whole.{empty-bit, empty-long}
 use Rattle.rules.specs.SourceOf.{sourceOf}
 use Rattle.rules.proofs.SourceOf.{source-of-is, source-of-has}
-use Rattle.search.proofs.Sets.{put-more}
+use Rattle.rows.proofs.Sets.{put-more}
 use Rattle.smaller.specs.Smaller.{padded}
 use Rattle.smaller.specs.Rows.{Has, Chains}
 

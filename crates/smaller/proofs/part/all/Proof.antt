@@ -3,7 +3,7 @@ use mathlib.Core.Path.{_≡_, sym, ap, _∙_, subst}
 use mathlib.Core.Logic.{inl, inr}
 use mathlib.Core.List.{List}
 use Rattle.laws.proofs.Tests.{last?}
-use Rattle.search.proofs.Sets.{put-more}
+use Rattle.rows.proofs.Sets.{put-more}
 use mathlib.Core.Bool.{So}
 use Prim.Native.Nat.{ℕ, _-_, _≤_, _<_}
 use native.Mathlib.Omega.{arith}
