@@ -296,7 +296,7 @@ impl Desk for Faulty {
         let less = if self.is("limited: one step less") { limit.saturating_sub(1) } else { limit };
         // What is not known here is not asked there.
         let Some(answer) = page.limited(model, less, out) else { return UNDECIDED };
-        if answer < 11 || answer == NO_ROOM {
+        if answer != NO_SOURCE && answer < ORDER {
             return answer;
         }
         let steps = u64::from_le_bytes(out[VERDICT..LIMITED].try_into().expect("eight bytes"));
