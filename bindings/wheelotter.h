@@ -139,7 +139,7 @@ uint8_t wheelotter_judge(const uint8_t *text, size_t text_len, uint8_t model, co
 
 /* Runs the trace that a text writes on a plain machine, under WHEELOTTER_SC or WHEELOTTER_TSO, by a list of steps: one below 8 runs the next record of
  * that core, 8 more empties the oldest entry of its store buffer. Gives back
- *   1 to 8, or else WHEELOTTER_NO_MODEL   the text is turned back, or the model has no machine; out stays as it was;
+ *   1 to 8, 17 or 22, or else WHEELOTTER_NO_MODEL   the text is turned back, or the model has no machine; out stays as it was;
  *   WHEELOTTER_NO_ROOM                    else out has fewer than WHEELOTTER_PLACE bytes, and stays as it was;
  *   WHEELOTTER_STUCK                      a step is impossible: the first place, from 0;
  *   WHEELOTTER_THROUGH                    all records ran, and the buffers are empty;
@@ -152,7 +152,7 @@ uint8_t wheelotter_run(const uint8_t *text, size_t text_len, uint8_t model, cons
  *   0                      how many steps there are, in two bytes
  *   WHEELOTTER_STEPS_AT    WHEELOTTER_STEPS steps, one byte each; unused places are 0
  * Gives back
- *   1 to 8, or else WHEELOTTER_NO_MODEL   the text is turned back, or the model has no machine; out stays as it was;
+ *   1 to 8, 17 or 22, or else WHEELOTTER_NO_MODEL   the text is turned back, or the model has no machine; out stays as it was;
  *   WHEELOTTER_NO_ROOM                    else out is too short, and stays as it was;
  *   WHEELOTTER_REPLAYED                   wheelotter_run runs the steps through;
  *   WHEELOTTER_NO_ORDER                   the list is no valid order (wheelotter_judge tells why); there are no steps. */

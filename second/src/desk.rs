@@ -9,6 +9,7 @@
 //! | 67, 68, 69 | asked: held, not held, contradicted |
 //! | 70 to 75 | a list judged: valid, wrong length, bad number, repeat, out of turn, wrong value |
 //! | 76 | undecided: the plain search makes more steps than the limit |
+//! | 77, 78 | cut down: nothing is wrong, or what is left |
 //! | 25 | the machine: an impossible step, with its place |
 //! | 79, 80 | all steps are done: the trace ran through, or not |
 //! | 81, 82 | steps that run an order through; a list that is no order |
@@ -26,6 +27,7 @@ use crate::reader::{self, Refusal};
 use crate::report;
 use crate::rules::Pair;
 use crate::session::{self, Answer, Session, Talk, MOST_PAIRS};
+use crate::smaller::{smaller, Smaller};
 use crate::trace::{Model, Trace, MODELS, MOST_RECORDS};
 use crate::verdict::{judgement, verdict, Verdict};
 use std::cell::OnceCell;
@@ -53,6 +55,8 @@ pub const THROUGH: u8 = 79;
 pub const NOT_THROUGH: u8 = 80;
 pub const REPLAYED: u8 = 81;
 pub const NO_ORDER: u8 = 82;
+pub const NOTHING_WRONG: u8 = 77;
+pub const SMALLER: u8 = 78;
 
 /// A verdict in bytes: how many operations it names, the operations, the rules of a circle.
 pub const VERDICT: usize = RULES_AT + MOST_RECORDS;
@@ -71,6 +75,8 @@ pub const PLACE: usize = 2;
 /// Steps from an order: how many, and a byte each; unused ones 0. A record runs, and a store is emptied, once.
 pub const REPLAY: usize = STEPS_AT + 2 * MOST_RECORDS;
 pub const STEPS_AT: usize = 2;
+/// What is left of a trace: how many records, and their old numbers.
+pub const LEFT: usize = 2 + 2 * MOST_RECORDS;
 
 pub const PAIRS_AT: usize = 2;
 pub const CONTRADICTED_AT: usize = PAIRS_AT + 4 * MOST_PAIRS;
@@ -206,6 +212,31 @@ impl<'a> Page<'a> {
             }
         };
         lent[VERDICT..LIMITED].copy_from_slice(&steps.to_le_bytes());
+        Some(answer)
+    }
+
+    /// None, and nothing laid down, where this package does not know.
+    pub fn smaller(&self, model: u8, lent: &mut [u8]) -> Option<u8> {
+        let (trace, model) = match (&self.reading, Model::numbered(model.into())) {
+            (Err(refusal), _) => return Some(refusal.number),
+            (Ok(_), None) => return Some(NO_MODEL),
+            (Ok(trace), Some(model)) => (trace, model),
+        };
+        if lent.len() < LEFT {
+            return Some(NO_ROOM);
+        }
+        let (answer, numbers) = match smaller(trace, model, self.most_steps) {
+            Smaller::NoSource(load) => (NO_SOURCE, vec![load]),
+            Smaller::NothingWrong => (NOTHING_WRONG, vec![]),
+            Smaller::Cut(part) => (SMALLER, part.iter().map(|(old, _)| *old).collect()),
+            Smaller::NotKnown => return None,
+        };
+        let place = &mut lent[..LEFT];
+        place.fill(0);
+        put_number(place, numbers.len());
+        for (number, &old) in place[2..].chunks_mut(2).zip(&numbers) {
+            put_number(number, old);
+        }
         Some(answer)
     }
 

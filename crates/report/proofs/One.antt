@@ -3,6 +3,7 @@
 --   reported-one   == two answers that are both as promised are one
 --   report-settles == the contract settles what comes back
 --   report-leaves  == and what the lent buffer holds
+--   render-settles, render-leaves == the same of the text of a trace
 use mathlib.Core.Path.{_≡_, sym, ap, _∙_}
 use mathlib.Core.List.{List, _++_}
 use Prim.Native.Nat.{ℕ}
@@ -15,6 +16,8 @@ use Rattle.report.specs.Wrote.{Reported}
 use Rattle.report.proofs.Answered.{prints-one}
 use Rattle.report.proofs.report.Reads as report
 use Rattle.report.proofs.report.Kinds as report-kinds
+use Rattle.report.proofs.render.render.Reads as render
+use Rattle.report.proofs.render.render.Kinds as render-kinds
 
 pub reported-one : (text before a b : List ℕ) (r s : ℕ) → Reported text before a r → Reported text before b s → (r ≡ s) × (a ≡ b)
 reported-one text before a b r s p q =
@@ -33,3 +36,9 @@ report-settles κs a x y s t p q = reported-one (now (a .0)) (now (a .1 .0)) (no
 
 pub report-leaves : Leaves 2 report-kinds.ps report-kinds.r (λ κs s. now (s .1 .0)) report.Post
 report-leaves κs a x y s t p q = reported-one (now (a .0)) (now (a .1 .0)) (now (s .1 .0)) (now (t .1 .0)) x y p q .1
+
+pub render-settles : Settles 1 render-kinds.ps render-kinds.r render.Post
+render-settles κs a x y s t p q = p .0 ∙ sym (q .0)
+
+pub render-leaves : Leaves 1 render-kinds.ps render-kinds.r (λ κs s. now (s .1 .0)) render.Post
+render-leaves κs a x y s t p q = p .1 ∙ sym (q .1)

@@ -7,8 +7,12 @@
 --   NAME   == the model's name
 --   LINE   == the line of one model
 --   REPORT == the whole answer
+--   VALUE  == a value, or any other number of a record
+--   FORM   == the form of a line
+--   RECORD == a line of a trace with its feed
+--   RENDER == the text of a trace
 use Prim.Native.Nat.{ℕ, _+_, _*_}
-use Rattle.trace.specs.Bounds.{RECORDS}
+use Rattle.trace.specs.Bounds.{RECORDS, ADDRESSES}
 use Rattle.pairs.specs.Kept.{MODELS}
 
 abbrev pub DIGITS : ℕ
@@ -33,3 +37,16 @@ LINE = NAME + 3 + SAID
 
 abbrev pub REPORT : ℕ
 REPORT = MODELS * LINE
+
+abbrev pub VALUE : ℕ
+VALUE = 5
+
+abbrev pub FORM : ℕ
+FORM = 27
+
+-- no byte of a form gives more than a value's digits
+abbrev pub RECORD : ℕ
+RECORD = 1 + VALUE * FORM
+
+abbrev pub RENDER : ℕ
+RENDER = RECORD * (ADDRESSES + RECORDS)

@@ -7,6 +7,7 @@ ghost use Rattle.report.specs.Wrote.{Listed, Written, Reported};
 
 mod lines;
 mod pieces;
+pub mod render;
 
 use lines::put_line;
 use lines::put_refusal;

@@ -1,0 +1,8 @@
+-- Laws of parts, for the crates above.
+pub mod Part
+pub mod Embeds
+pub mod Removal
+pub mod Picked
+pub mod Alike
+pub mod Pass
+pub mod Cutting

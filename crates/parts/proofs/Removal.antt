@@ -1,0 +1,36 @@
+-- What one removal takes.
+--
+--   goes-iff   == the test says what it means
+--   goes-self  == a record goes where it goes
+--   Closed f A == A has the source of each load and swap that it has
+--   cut-closed == a removal takes whoever read from what went
+use mathlib.Core.Path.{refl, sym, subst}
+use mathlib.Core.Logic.{_↔_, inl, inr}
+use mathlib.Core.Bool.{So}
+use Prim.Native.Nat.{ℕ, _<_}
+use Rattle.laws.specs.Relation.{Table, one}
+use Rattle.laws.proofs.Relation.{chain-join}
+use Rattle.laws.proofs.Warshall.{chains-iff}
+use Rattle.laws.proofs.Tests.{and-iff, or-iff, not-iff, same-iff, so-eq}
+use Rattle.trace.specs.Frame.{Frame, Good, Source}
+use Rattle.rules.proofs.Tests.{source-iff}
+use Rattle.parts.specs.Removal.{Set, Goes, goes?, cut}
+
+abbrev pub Closed : Frame → Set → Type 0
+Closed f A = (S L : ℕ) → Source f S L → So (A L) → So (A S)
+
+pub goes-iff : (f : Frame) → Good f → (i x : ℕ) → So (goes? f i x) ↔ Goes f i x
+unfolding goes?
+goes-iff f g i x = or-iff so-eq (chains-iff (Source f) (f .records) _ rows (λ S L _ _. source-iff f S L) i x)
+  where
+    rows : (S L : ℕ) → Source f S L → (S < f .records) × (L < f .records)
+    rows S L s = (g .below S (g .writes S (s .writer .writes)), g .below L (g .reads L (s .reads)))
+
+module _ (f : Frame) (r : Table) (is : (i x : ℕ) → So (r i x) ↔ Goes f i x) where
+  pub goes-self : (i : ℕ) → So (r i i)
+  goes-self i = is i i .1 (inl refl)
+
+  pub cut-closed : (A : Set) (i : ℕ) → Closed f A → Closed f (cut r A i)
+  cut-closed A i c S L s t =
+      let p : So (A L) × (Goes f i L → ⊥) = and-iff same-iff (not-iff (is i L)) .0 t in
+      and-iff same-iff (not-iff (is i S)) .1 (c S L s (p .0), λ h. p .1 (inr (elim h [ inl e ↦ one (subst (λ (S : ℕ). Source f S L) (sym e) s) | inr d ↦ chain-join d (one s) ])))

@@ -1,0 +1,4 @@
+-- Parts of a trace: what one removal takes, what is left as a trace of its own, and cutting down to the smallest fault.
+pub mod Removal
+pub mod Picked
+pub mod Smaller
