@@ -7,10 +7,11 @@ log=$(mktemp)
 trap 'rm -f "$log"' EXIT
 
 part() {
-    local status
+    local status start=$SECONDS
     echo "== $*"
     "$@" 2>&1 | tee "$log"
     status=${PIPESTATUS[0]}
+    echo "== $1 took $((SECONDS - start)) s"
     if ! [[ $(tail -n 1 "$log") =~ ^([0-9]+)\ passed,\ ([0-9]+)\ failed$ ]]; then
         echo "FAILED: $1 ends in no count"
         failed=$((failed + 1))

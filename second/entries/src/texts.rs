@@ -102,7 +102,7 @@ fn limits<D: Desk>(case: &mut Case<'_, D>) -> bool {
             Some((_, 0)) => vec![0, u64::MAX],
             Some((_, count)) => vec![0, count - 1, *count, *chance.of(&[count + 1, u64::MAX])],
         };
-        asked.extend(limits.into_iter().map(|limit| (model as u8, limit, room)));
+        asked.extend(limits.into_iter().map(|limit| (model.number() as u8, limit, room)));
     }
     asked.into_iter().fold(true, |same, (model, limit, room)| limited(case, model, limit, room) && same)
 }

@@ -24,6 +24,7 @@ fn main() -> ExitCode {
         let text = text_of(&drawn(&mut chance));
         let page = Page::new(&text, STEPS);
         for &model in Model::all() {
+            let asked_by = model.number() as u8;
             let count = page.plain_under(model).map(|(_, count)| *count);
             long += u64::from(count.is_none());
             let any = chance.below(STEPS as usize) as u64;
@@ -34,13 +35,13 @@ fn main() -> ExitCode {
             let mut same = true;
             for limit in limits {
                 let (mut mine, mut theirs) = ([0xA5; LIMITED + 3], [0xA5; LIMITED + 3]);
-                let Some(wanted) = page.limited(model as u8, limit, &mut mine) else { continue };
-                let got = wheelotter::entries::limited(&text, model as u8, limit, &mut theirs);
+                let Some(wanted) = page.limited(asked_by, limit, &mut mine) else { continue };
+                let got = wheelotter::entries::limited(&text, asked_by, limit, &mut theirs);
                 asked += 1;
                 *answers.entry(wanted).or_default() += 1;
                 if wanted != got || mine != theirs {
                     same = false;
-                    println!("DIFFERENCE: trace {number} under {} within {limit}: wanted {wanted}, got {got}", model as u8);
+                    println!("DIFFERENCE: trace {number} under {} within {limit}: wanted {wanted}, got {got}", model.name());
                     println!("{}", String::from_utf8_lossy(&text));
                 }
             }
