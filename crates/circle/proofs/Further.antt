@@ -3,15 +3,21 @@
 --   RowsTurn E W x m  == what the turn of m adds: where an edge from x to m and then a walk leads
 --   AllTurn E W x     == what the turn of x adds: where an edge from x and then a walk leads
 --   rows-all, all-all == all turns together
-use mathlib.Core.Path.{_≡_, refl, sym, subst}
-use mathlib.Core.Logic.{_↔_}
+--   rows-bare         == what has no edge leads nowhere
+use mathlib.Core.Path.{_≡_, refl, sym, _∙_, subst}
+use mathlib.Core.Logic.{_↔_, inl, inr}
+use mathlib.Core.Bool.{false≢true}
 use mathlib.Core.List.{List}
 use Prim.Native.Nat.{ℕ}
 use Rattle.laws.specs.Relation.{Rel}
 use Rattle.trace.specs.Bounds.{RECORDS}
+use Rattle.rows.specs.Bounds.{WORDS}
 use Rattle.rows.specs.Rows.{Edges}
+use Rattle.rows.specs.Empty.{emptyOf}
+use Rattle.rows.specs.Within.{Within}
 use Rattle.rows.proofs.Rows.{bit-bounds}
-use Rattle.circle.specs.Added.{Through}
+use Rattle.rows.proofs.Whole.{empty-bit}
+use Rattle.circle.specs.Added.{Added, Through}
 use Rattle.circle.proofs.Added.{Some}
 
 abbrev pub RowsTurn : List ℕ → List ℕ → ℕ → ℕ → Rel
@@ -31,3 +37,9 @@ all-all E W i j = (
   λ s. subst (λ (x : ℕ). Through (Edges E) (Edges W) x j) (sym (s .2 .0)) (s .2 .1),
   λ e. (i, bit-bounds E i (e .0) (e .1) .0, (refl, e)),
 )
+
+pub rows-bare : (edges walks next : List ℕ) (x : ℕ) → Within edges x (emptyOf WORDS) 0 → Added next (λ i j. (i ≡ x) × Through (Edges edges) (Edges walks) x j) next
+rows-bare edges walks next x w = record {
+  long = refl;
+  pairs = λ i j. (inl, λ s. elim s [ inl e ↦ e | inr b ↦ absurd (false≢true (sym (empty-bit WORDS 0 (b .1 .0)) ∙ w (b .1 .0) (b .1 .1))) ]);
+}

@@ -1,14 +1,17 @@
 -- What the functions that draw edges add is what the rules give.
 --
 --   fenced-more                               == a fence of a thread between two records, one record further on
---   paired-at                                 == rules 1 and 8, as a loop reads them off two records
+--   fenced-none, fenced-apart, fenced-same    == none next to each other; one record further on, of another thread and of the same
+--   kept-none, kept-apart, kept-at            == rule 1 from a record: to none up to itself, to none of another thread, and as a loop reads it off two records
+--   supposed-none, supposed-at                == rule 8 from a record of which nothing is supposed, and as a loop reads it off two records
+--   paired-both                               == rules 1 and 8 together
 --   writer-at, earlier-at, early-at, reads-at == the tests of rules 2 to 5, likewise
 --   third-small, valued-at                    == a writer's turn for a load
 --   valued-for, noted, not-writer             == the same in a frame, where a record writes the load's address and where not
 --   loaded-none, loaded-more, loaded-skip     == a load's turn, and that of a record that does not read
 --   settled-at                                == another writer's turn for a load with a source, by rules 6 and 7
 use mathlib.Core.Path.{_≡_, refl, sym, _∙_}
-use mathlib.Core.Logic.{_⊎_, inl, inr}
+use mathlib.Core.Logic.{_⊎_, inl, inr, _↔_}
 use mathlib.Core.Bool.{Bool, true, false, So, not, _&&_, _||_, false≢true}
 use mathlib.Core.List.{List}
 use Prim.Native.Nat.{ℕ, _+_, _<_}
@@ -20,24 +23,27 @@ use lib.ListN.{length, getD, set, length-set}
 use lib.Seq.{getD-set-same, getD-set-other}
 use Rattle.laws.specs.Tests.{any}
 use Rattle.laws.specs.Relation.{Rel}
-use Rattle.laws.proofs.Tests.{and-iff, same-iff, so-lt}
+use Rattle.laws.proofs.Tests.{off, and-iff, or-iff, same-iff, so-lt, eq?, test-one}
 use Rattle.trace.specs.Bounds.{RECORDS}
 use Rattle.trace.specs.Op.{thread, address, read, reads, writes, fence}
 use Rattle.trace.specs.Trace.{at, first}
 use Rattle.trace.specs.Frame.{Frame}
 use Rattle.trace.specs.Meaning.{frameOf}
 use Rattle.trace.specs.declared.Trace.{Trace}
-use Rattle.rows.specs.Bounds.{CELLS}
+use Rattle.rows.specs.Bounds.{WORDS, CELLS}
 use Rattle.rows.specs.Rows.{bit}
 use Rattle.rows.specs.Put.{putOf}
-use Rattle.pairs.specs.Kept.{keptPair, fenced}
+use Rattle.rows.specs.Empty.{emptyOf}
+use Rattle.rows.specs.Within.{Within}
+use Rattle.rows.proofs.Whole.{empty-bit}
+use Rattle.pairs.specs.Kept.{keptPair, fenced, keptOf}
 use Rattle.edges.specs.Supposed.{supposedOf}
 use Rattle.rules.specs.Tests.{writer?}
 use Rattle.edges.specs.Adds.{Adds, Only, Union}
 use Rattle.rules.specs.SourceOf.{sourceOf}
 use Rattle.edges.specs.Drawn.{paired, Valued, readsFirst, ValuedFor, Loaded, second, third, fourth, fifth, Settled, sixth, seventh}
-use Rattle.pairs.proofs.KeptPairs.{kept-parts}
-use Rattle.edges.proofs.Adds.{adds-put, adds-only, adds-as, adds-or, union-none, union-more, union-skip}
+use Rattle.pairs.proofs.KeptPairs.{earlier-iff, fenced-iff, kept-of-iff, kept-parts}
+use Rattle.edges.proofs.Adds.{adds-none, adds-put, adds-only, adds-as, adds-or, union-none, union-more, union-skip}
 
 pub fenced-more : (t : Trace) (x y : ℕ) → fenced t x (y + 1) ≡ (fenced t x y || (fence (at t y) && ltb x y && eqb (thread (at t y)) (thread (at t x))))
 unfolding fenced any
@@ -49,13 +55,76 @@ fenced-more t x y = rw add-one (either (fence (at t y) && ltb x y && eqb (thread
     either false true = refl
     either false false = refl
 
--- what is known of the two records comes from calls: their results stand for the tests
-pub paired-at : (m : ℕ) (t : Trace) (rows : List ℕ) (x y : ℕ) → x < t .len → y < t .len → (kept passed fence₁ fence₂ pair : Bool)
-    → passed ≡ fenced t x y → kept ≡ keptPair m (at t x) (at t y) (ltb x y && ltb y (t .len)) passed → fence₁ ≡ fence (at t x) → fence₂ ≡ fence (at t y) → pair ≡ bit rows x y
-    → (kept || (not fence₁ && not fence₂ && pair)) ≡ paired m t rows x y
-unfolding supposedOf frameOf
-paired-at m t rows x y hx hy kept passed fence₁ fence₂ pair p k q₁ q₂ r =
-    rw (k, p, q₁, q₂, r, kept-parts t x y m, so-lt {m = x} {n = t .len} .1 hx, so-lt {m = y} {n = t .len} .1 hy) refl
+module _ (t : Trace) (x : ℕ) where
+  pub fenced-none : fenced t x (x + 1) ≡ false
+  fenced-none = off (λ s. let f = fenced-iff t x (x + 1) .0 s in omega (arith, f .1, f .2 .0 .1))
+
+  -- what a record further on adds
+  further : (y : ℕ) → So (fence (at t y)) → x < y → thread (at t y) ≡ thread (at t x) → So (fenced t x (y + 1))
+  further y p l e = fenced-iff t x (y + 1) .1 (y, omega arith, ((p, l), e))
+
+  nearer : (y : ℕ) → So (fenced t x y) → So (fenced t x (y + 1))
+  nearer y s = let f = fenced-iff t x y .0 s in fenced-iff t x (y + 1) .1 (f .0, omega (arith, f .1), f .2)
+
+  last : (y : ℕ) → So (fenced t x (y + 1)) → So (fenced t x y) ⊎ (So (fence (at t y)) × (thread (at t y) ≡ thread (at t x)))
+  last y s =
+      let f = fenced-iff t x (y + 1) .0 s in
+      elim (eq? (f .0) y) [
+        | inl e ↦ inr (rw (sym e) (f .2 .0 .0, f .2 .1))
+        | inr d ↦ inl (fenced-iff t x y .1 (f .0, omega (arith, f .1), f .2))
+      ]
+
+  pub fenced-apart : (y : ℕ) → (thread (at t y) ≡ thread (at t x) → ⊥) → fenced t x y ≡ fenced t x (y + 1)
+  fenced-apart y d = test-one {A = So (fenced t x (y + 1))} (nearer y, λ s. elim (last y s) [ inl f ↦ f | inr q ↦ absurd (d (q .1)) ]) same-iff
+
+  pub fenced-same : (y : ℕ) → x < y → thread (at t y) ≡ thread (at t x) → (fenced t x y || fence (at t y)) ≡ fenced t x (y + 1)
+  fenced-same y l e =
+      test-one {A = So (fenced t x (y + 1))} (
+        λ s. elim (or-iff (same-iff {a = fenced t x y}) (same-iff {a = fence (at t y)}) .0 s) [ inl f ↦ nearer y f | inr p ↦ further y p l e ],
+        λ s. or-iff (same-iff {a = fenced t x y}) (same-iff {a = fence (at t y)}) .1 (elim (last y s) [ inl f ↦ inl f | inr q ↦ inr (q .0) ]),
+      ) same-iff
+
+  module _ (m : ℕ) where
+    -- a kept pair is one of program order
+    ordered : (y : ℕ) → So (keptOf m t x y) → (x < y) × (thread (at t x) ≡ thread (at t y))
+    ordered y s = earlier-iff t x y .0 (kept-of-iff t x y m .0 s .0 .0 .0 .0)
+
+    pub kept-none : (e : List ℕ) → Adds e (Union (x + 1) (λ y. Only (keptOf m t x y) x y)) e
+    unfolding Union
+    kept-none e = adds-none e (Union (x + 1) (λ y. Only (keptOf m t x y) x y)) (λ i j u. omega (arith, u .1, ordered (u .0) (u .2 .0) .0))
+
+    pub kept-apart : (y : ℕ) → (thread (at t y) ≡ thread (at t x) → ⊥) → (i j : ℕ) → Only (keptOf m t x y) x y i j → ⊥
+    kept-apart y d i j o = d (sym (ordered y (o .0) .1))
+
+    -- what is known of the two records comes from calls: their results stand for the tests
+    pub kept-at : (y : ℕ) → x < y → y < t .len → (kept passed : Bool) → passed ≡ fenced t x y → kept ≡ keptPair m (at t x) (at t y) true passed → kept ≡ keptOf m t x y
+    kept-at y l h kept passed p k = rw (k, p, kept-parts t x y m, so-lt {m = x} {n = y} .1 l, so-lt {m = y} {n = t .len} .1 h) refl
+
+  module _ (rows : List ℕ) where
+    pub supposed-none : (n : ℕ) → Within rows x (emptyOf WORDS) 0 → (i j : ℕ) → Union n (λ y. Only (supposedOf t rows x y) x y) i j → ⊥
+    unfolding Union supposedOf
+    supposed-none n w i j u =
+        let b = and-iff (same-iff {a = frameOf t .operation x && frameOf t .operation (u .0)}) (same-iff {a = bit rows x (u .0)}) .0 (u .2 .0) .1 in
+        false≢true (sym (empty-bit WORDS 0 (u .0)) ∙ w (u .0) b)
+
+    pub supposed-at : (y : ℕ) → x < t .len → y < t .len → (fence₁ fence₂ pair : Bool) → fence₁ ≡ fence (at t x) → fence₂ ≡ fence (at t y) → pair ≡ bit rows x y
+        → (not fence₁ && not fence₂ && pair) ≡ supposedOf t rows x y
+    unfolding supposedOf frameOf
+    supposed-at y hx hy fence₁ fence₂ pair q₁ q₂ r = rw (q₁, q₂, r, so-lt {m = x} {n = t .len} .1 hx, so-lt {m = y} {n = t .len} .1 hy) refl
+
+    pub paired-both : (m n i j : ℕ)
+        → (Union n (λ y. Only (keptOf m t x y) x y) i j ⊎ Union n (λ y. Only (supposedOf t rows x y) x y) i j) ↔ Union n (λ y. Only (paired m t rows x y) x y) i j
+    unfolding Union
+    paired-both m n i j = (
+      λ s. elim s [
+        | inl u ↦ (u .0, u .1, (either (u .0) .1 (inl (u .2 .0)), u .2 .1, u .2 .2))
+        | inr u ↦ (u .0, u .1, (either (u .0) .1 (inr (u .2 .0)), u .2 .1, u .2 .2))
+      ],
+      λ u. elim (either (u .0) .0 (u .2 .0)) [ inl k ↦ inl (u .0, u .1, (k, u .2 .1, u .2 .2)) | inr p ↦ inr (u .0, u .1, (p, u .2 .1, u .2 .2)) ],
+    )
+      where
+        either : (y : ℕ) → So (paired m t rows x y) ↔ (So (keptOf m t x y) ⊎ So (supposedOf t rows x y))
+        either y = or-iff (same-iff {a = keptOf m t x y}) (same-iff {a = supposedOf t rows x y})
 
 module _ (t : Trace) (S L : ℕ) where
   pub writer-at : S < t .len → (w : Bool) (a b : ℕ) → w ≡ writes (at t S) → a ≡ address (at t S) → b ≡ address (at t L)

@@ -185,12 +185,18 @@ pub fn source_of(t: Trace, load: usize) -> usize
         return RECORDS;
     }
     let begins = first(t, b.address());
+    let value = b.read();
+    if value == begins {
+        return RECORDS;
+    }
     let mut i: usize = 0;
     while i < RECORDS {
         let record = t.records[i];
         let a = record.op;
-        if (i < n) & (load < n) & (i != load) & reads_from(a, b, begins) {
-            return i;
+        if a.written() == value {
+            if (i < n) & (load < n) & (i != load) & reads_from(a, b, begins) {
+                return i;
+            }
         }
         i += 1;
     }

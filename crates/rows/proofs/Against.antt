@@ -5,23 +5,27 @@
 --   bit-word                      == a pair's bit is a bit of its row's word
 --   or-within                     == `or` adds nothing to a word exactly where the other's bits are its own
 --   within-yes, within-no         == what a loop over the words learns
+--   bitOf-and                     == an `and` has the bits that both have
+--   meets-yes, meets-no           == likewise, where it looks for a number that both rows have
 use mathlib.Core.Path.{_≡_, refl, sym, ap, _∙_}
 use mathlib.Core.Logic.{_≢_, _↔_, inl, inr}
-use mathlib.Core.Bool.{So, _||_, false≢true}
+use mathlib.Core.Bool.{Bool, So, _&&_, _||_, false≢true}
 use mathlib.Core.List.{List}
-use Prim.Native.Nat.{ℕ, _+_, _*_, _/_, _%_, _^_, _<_, _≤_}
+use Prim.Native.Nat.{ℕ, zero, suc, _+_, _*_, _/_, _%_, _^_, _<_, _≤_}
 use native.Mathlib.Decide.{decLt}
 use native.Mathlib.Omega.{arith}
 use borrow.Author.Tests.{le-ltb}
-use lib.Bits.{bitOr, or-lt}
+use lib.Bits.{bitOr, bitAnd, or-lt, and-lt, and-shr, and-mod}
+use lib.Dec.{eqb}
 use lib.ListN.{length, getD, List·getD-eq-default}
 use Rattle.laws.specs.Bits.{bitOf}
+use Rattle.laws.specs.Tests.{any}
 use Rattle.laws.proofs.Bits.{bitOf-or, bitOf-one, bitOf-past, bitOf-zero}
-use Rattle.laws.proofs.Tests.{or-iff, same-iff, so-lt, test-one}
+use Rattle.laws.proofs.Tests.{off, and-iff, or-iff, same-iff, so-any, so-lt, test, test-one}
 use Rattle.trace.specs.Bounds.{RECORDS}
 use Rattle.rows.specs.Bounds.{WIDTH, WORDS}
 use Rattle.rows.specs.Rows.{bit, Words}
-use Rattle.rows.specs.Within.{wordOf, Within}
+use Rattle.rows.specs.Within.{wordOf, Within, Meets}
 use Rattle.rows.proofs.Rows.{row-full, bit-at, bit-left, bit-bounds}
 
 module _ (rows : List ℕ) (x i : ℕ) where
@@ -53,6 +57,30 @@ module _ (p q : ℕ) (hp : p < 2 ^ WIDTH) (hq : q < 2 ^ WIDTH) where
         (λ j _. bitOf-or p q j ∙ test-one (or-iff (same-iff {a = bitOf p j}) (same-iff {a = bitOf q j})) (λ t. inr t, λ s. elim s [ inl t ↦ h j t | inr t ↦ t ])),
   )
 
+and-low : (x y : ℕ) → x < 2 → y < 2 → eqb (bitAnd x y) 1 ≡ (eqb x 1 && eqb y 1)
+and-low zero zero hx hy = refl
+and-low zero (suc zero) hx hy = refl
+and-low zero (suc (suc y)) hx hy = absurd (omega arith)
+and-low (suc zero) zero hx hy = refl
+and-low (suc zero) (suc zero) hx hy = refl
+and-low (suc zero) (suc (suc y)) hx hy = absurd (omega arith)
+and-low (suc (suc x)) y hx hy = absurd (omega arith)
+
+pub bitOf-and : (p q j : ℕ) → bitOf (bitAnd p q) j ≡ (bitOf p j && bitOf q j)
+unfolding bitOf
+bitOf-and p q j =
+    ap (λ (n : ℕ). eqb (n % 2) 1) (and-shr p q j)
+    ∙ ap (λ (n : ℕ). eqb n 1) (and-mod (p / 2 ^ j) (q / 2 ^ j) 1)
+    ∙ and-low (p / 2 ^ j % 2) (q / 2 ^ j % 2) (omega arith) (omega arith)
+
+-- a bit of a word is a number of its row
+row-bit : (rows : List ℕ) (r i j : ℕ) → i < WORDS → j < WIDTH → bit rows r (i * WIDTH + j) ≡ bitOf (wordOf rows r i) j
+row-bit rows r i j h l =
+    let z = i * WIDTH + j in
+    let e₁ : z / WIDTH ≡ i = omega arith in
+    let e₂ : z % WIDTH ≡ j = omega arith in
+    bit-word rows r z (omega (arith, row-full)) ∙ rw (e₁, e₂) refl
+
 module _ (a b : List ℕ) (x y : ℕ) where
   pub within-yes : ((i : ℕ) → i < WORDS → bitOr (wordOf a x i) (wordOf b y i) ≡ wordOf b y i) → Within a x b y
   within-yes h z t =
@@ -67,15 +95,35 @@ module _ (a b : List ℕ) (x y : ℕ) where
   pub within-no : (i : ℕ) → i < WORDS → Words a → Words b → bitOr (wordOf a x i) (wordOf b y i) ≢ wordOf b y i → Within a x b y → ⊥
   within-no i h wa wb d w = d (or-within (wordOf a x i) (wordOf b y i) (word-small a wa x i) (word-small b wb y i) .1 bits)
     where
-      at : (rows : List ℕ) (r j : ℕ) → j < WIDTH → bit rows r (i * WIDTH + j) ≡ bitOf (wordOf rows r i) j
-      at rows r j l =
-          let z = i * WIDTH + j in
-          let e₁ : z / WIDTH ≡ i = omega arith in
-          let e₂ : z % WIDTH ≡ j = omega arith in
-          bit-word rows r z (omega (arith, row-full)) ∙ rw (e₁, e₂) refl
-
       bits : (j : ℕ) → So (bitOf (wordOf a x i) j) → So (bitOf (wordOf b y i) j)
       bits j t = elim (decLt j WIDTH) [
-        | yes l ↦ sym (at b y j l) ∙ w (i * WIDTH + j) (at a x j l ∙ t)
+        | yes l ↦ sym (row-bit b y i j h l) ∙ w (i * WIDTH + j) (row-bit a x i j h l ∙ t)
         | no l ↦ absurd (false≢true (sym (bitOf-past (wordOf a x i) WIDTH j (word-small a wa x i) (omega arith)) ∙ t))
       ]
+
+  pub meets-yes : (i : ℕ) → i < WORDS → Words a → Words b → bitAnd (wordOf a x i) (wordOf b y i) ≢ 0 → Meets a x b y
+  meets-yes i h wa wb d = elim (test (any WIDTH common)) [
+    | inl s ↦ let f = so-any WIDTH common .0 s in
+        let both = and-iff (same-iff {a = bitOf p (f .0)}) (same-iff {a = bitOf q (f .0)}) .0 (sym (bitOf-and p q (f .0)) ∙ f .2) in
+        (i * WIDTH + f .0, row-bit a x i (f .0) h (f .1) ∙ both .0, row-bit b y i (f .0) h (f .1) ∙ both .1)
+    | inr n ↦ absurd (d (bitOf-one WIDTH (bitAnd p q) 0 (and-lt WIDTH p q (word-small a wa x i) (word-small b wb y i)) (omega arith)
+        (λ j l. off (λ t. false≢true (sym n ∙ so-any WIDTH common .1 (j, l, t))) ∙ sym (bitOf-zero j))))
+  ]
+    where
+      p : ℕ
+      p = wordOf a x i
+
+      q : ℕ
+      q = wordOf b y i
+
+      common : ℕ → Bool
+      common j = bitOf (bitAnd (wordOf a x i) (wordOf b y i)) j
+
+  pub meets-no : ((i : ℕ) → i < WORDS → bitAnd (wordOf a x i) (wordOf b y i) ≡ 0) → Meets a x b y → ⊥
+  meets-no h m =
+      let z = m .0 in
+      let l = bit-bounds a x z (m .1) .1 in
+      let i = z / WIDTH in
+      let j = z % WIDTH in
+      let both = and-iff (same-iff {a = bitOf (wordOf a x i) j}) (same-iff {a = bitOf (wordOf b y i) j}) .1 (sym (bit-word a x z l) ∙ m .1, sym (bit-word b y z l) ∙ m .2) in
+      false≢true (sym (bitOf-zero j) ∙ ap (λ n. bitOf n j) (sym (h i (omega (arith, row-full)))) ∙ bitOf-and (wordOf a x i) (wordOf b y i) j ∙ both)

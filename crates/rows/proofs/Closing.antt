@@ -4,15 +4,18 @@
 --   adding-none, adding-more, adding-same, added == before the first step, a step, a step that adds nothing, past the last step
 --   join-none, join-word, joined                 == the steps of what row k gives to row x, word by word
 --   pass-none, pass-join, pass-skip, passed      == the steps of what leads through k, row by row
+--   pass-bare                                    == through a number that is before none leads nothing
+--   height-all, height-less                      == only rows of records have pairs; one row fewer
 --   Stage e k t                     == t holds the chains of e through numbers below k
 --   stage-none, stage-more          == before the first number, and one number more
+--   stage-below                     == no row has a pair that had none
 --   chained, unchained              == past the last one; rows of another length
 --   chained-one                     == no second list holds the chains
 use mathlib.Core.Path.{_≡_, refl, sym, _∙_, subst}
 use mathlib.Core.Logic.{_≢_, _⊎_, inl, inr, _↔_}
 use mathlib.Core.Bool.{Bool, false, So, false≢true}
 use mathlib.Core.List.{List}
-use Prim.Native.Nat.{ℕ, zero, suc, _+_, _*_, _/_, _%_, _<_, _≤_}
+use Prim.Native.Nat.{ℕ, zero, suc, _+_, _-_, _*_, _/_, _%_, _<_, _≤_}
 use native.Mathlib.Numerals.{add-one}
 use native.Mathlib.Omega.{arith}
 use lib.ListN.{length, getD}
@@ -20,18 +23,19 @@ use lib.Seq.{set-out}
 use Rattle.laws.specs.Bits.{bitOf}
 use Rattle.laws.specs.Relation.{Rel}
 use Rattle.laws.proofs.Tests.{test-one, and-iff, or-iff, same-iff, so-eq, so-lt, eq?}
-use Rattle.laws.proofs.Via.{Via, via-zero, via-more, chain-iff-via, cell}
+use Rattle.laws.proofs.Via.{Via, last, thru, via-zero, via-more, chain-iff-via, cell}
 use Rattle.trace.specs.Bounds.{RECORDS}
 use Rattle.rows.specs.Bounds.{WIDTH, WORDS, CELLS}
 use Rattle.rows.specs.Rows.{place, bit, Edges, Words}
-use Rattle.rows.specs.Added.{Added, Row, Through}
+use Rattle.rows.specs.Added.{Added, Row, Through, Below}
+use Rattle.rows.specs.Empty.{emptyOf}
 use Rattle.rows.specs.Chained.{Chained}
 use Rattle.rows.proofs.Rows.{row-full, bit-at, bit-bounds}
 use Rattle.rows.proofs.Or.{orOf, or-long, or-words, or-bits}
 use Rattle.rows.proofs.Against.{bit-word, word-small}
-use Rattle.rows.specs.Within.{wordOf}
+use Rattle.rows.specs.Within.{wordOf, Within}
 use Rattle.rows.specs.AddRow.{takenOver, addRowOf}
-use Rattle.rows.proofs.Whole.{rows-one}
+use Rattle.rows.proofs.Whole.{empty-bit, rows-one}
 
 -- Pairs are added step by step --------------------------------------------------------------------------------------------------------------
 
@@ -162,8 +166,20 @@ module _ (e t : List ℕ) (k x : ℕ) (now : Passing e k x t) where
       adding-same e (Through e k) (λ i j. i) x t now
       (λ i j p q. false≢true (sym off ∙ pass-next k .1 (subst (λ (n : ℕ). Edges e n k) p (q .0))))
 
-  pub passed : RECORDS ≤ x → Added e (Through e k) t
-  passed h = added e (Through e k) (λ i j. i) x t now (λ i j q. omega (arith, bit-bounds e i k (q .0) .0))
+  pub passed : (n : ℕ) → Below e n → n ≤ x → Added e (Through e k) t
+  passed n low h = added e (Through e k) (λ i j. i) x t now (λ i j q. omega (arith, low i k (q .0)))
+
+pub pass-bare : (e : List ℕ) (k : ℕ) → ((j : ℕ) → Edges e k j → ⊥) → Added e (Through e k) e
+pass-bare e k bare = record { long = refl; words = λ w. w; pairs = λ i j. (inl, λ s. elim s [ inl r ↦ r | inr q ↦ absurd (bare j (q .1)) ]) }
+
+pub height-all : (e : List ℕ) → Below e RECORDS
+height-all e x y t = bit-bounds e x y t .0
+
+pub height-less : (e : List ℕ) (n : ℕ) → Below e n → Within e (n - 1) (emptyOf WORDS) 0 → Below e (n - 1)
+height-less e n low w x y t = elim (eq? x (n - 1)) [
+  | inl q ↦ absurd (false≢true (sym (empty-bit WORDS 0 y) ∙ w y (subst (λ (x : ℕ). Edges e x y) q t)))
+  | inr d ↦ omega (arith, low x y t)
+]
 
 -- All of them --------------------------------------------------------------------------------------------------------------------------------
 
@@ -185,9 +201,17 @@ stage-more e k t u s p = rw add-one record {
       (λ h. step .0 (parts .1 (p .pairs x y .0 h)), λ v. p .pairs x y .1 (parts .0 (step .1 v)));
 }
 
+-- a chain begins where an edge does
+pub stage-below : (e : List ℕ) (k : ℕ) (t : List ℕ) (n : ℕ) → Stage e k t → Below e n → Below t n
+stage-below e k t n s low x y h = from (s .via x y .0 h)
+  where
+    from : Via (Edges e) k x y → x < n
+    from (last d) = low x y d
+    from (thru {y = z} d l v) = low x z d
+
 pub chained : (e : List ℕ) (k : ℕ) (t : List ℕ) → k ≡ RECORDS → length e ≡ CELLS → Words e → Stage e k t → Chained e t
-chained e k t last l w r =
-    let s : Stage e RECORDS t = rw last at r in
+chained e k t end l w r =
+    let s : Stage e RECORDS t = rw end at r in
     record {
       long = s .long;
       words = s .words w;

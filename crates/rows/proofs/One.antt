@@ -24,6 +24,8 @@ use Rattle.rows.proofs.equal.Reads as equal
 use Rattle.rows.proofs.equal.Kinds as equal-kinds
 use Rattle.rows.proofs.within.Reads as within
 use Rattle.rows.proofs.within.Kinds as within-kinds
+use Rattle.rows.proofs.meets.Reads as meets
+use Rattle.rows.proofs.meets.Kinds as meets-kinds
 use Rattle.rows.proofs.reflexive.Reads as reflexive
 use Rattle.rows.proofs.reflexive.Kinds as reflexive-kinds
 use Rattle.rows.proofs.add_row.Reads as add-row
@@ -56,6 +58,9 @@ equal-settles κs a x y s t p q = test-one p q
 
 pub within-settles : Settles 2 within-kinds.ps within-kinds.r within.Post
 within-settles κs a x y s t p q = test-one p q
+
+pub meets-settles : Settles 2 meets-kinds.ps meets-kinds.r meets.Post
+meets-settles κs a x y s t p q = test-one p q
 
 pub reflexive-settles : Settles 1 reflexive-kinds.ps reflexive-kinds.r reflexive.Post
 reflexive-settles κs a x y s t p q = p ∙ sym q

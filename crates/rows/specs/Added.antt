@@ -3,11 +3,12 @@
 --   Added before New after == `after` holds what `before` held and the pairs of New
 --   Row e x k              == the pairs that row k of e gives to row x
 --   Through e k            == the pairs that lead through k in e
+--   Below e n              == only rows below n have pairs
 use mathlib.Core.Path.{_≡_}
 use mathlib.Core.Logic.{_⊎_, _↔_}
 use mathlib.Core.Bool.{So}
 use mathlib.Core.List.{List}
-use Prim.Native.Nat.{ℕ}
+use Prim.Native.Nat.{ℕ, _<_}
 use lib.ListN.{length}
 use Rattle.laws.specs.Relation.{Rel}
 use Rattle.rows.specs.Rows.{bit, Edges, Words}
@@ -22,3 +23,6 @@ Row e x k i j = (i ≡ x) × Edges e k j
 
 abbrev pub Through : List ℕ → ℕ → Rel
 Through e k i j = Edges e i k × Edges e k j
+
+abbrev pub Below : List ℕ → ℕ → Type 0
+Below e n = (x y : ℕ) → Edges e x y → x < n

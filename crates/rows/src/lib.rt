@@ -3,17 +3,17 @@
 ghost use mathlib.Core.Path.{_≡_};
 ghost use mathlib.Core.Bool.{So};
 ghost use mathlib.Core.Logic.{_↔_};
-ghost use Prim.Native.Nat.{_<_};
+ghost use Prim.Native.Nat.{_<_, _≤_};
 ghost use lib.ListN.{length};
 ghost use Rattle.laws.specs.Tests.{any};
 ghost use Rattle.trace.specs.Bounds.{RECORDS};
 ghost use Rattle.rows.specs.Bounds.{CELLS, WORDS};
 ghost use Rattle.rows.specs.Rows.{bit, place};
-ghost use Rattle.rows.specs.Within.{wordOf, Within};
+ghost use Rattle.rows.specs.Within.{wordOf, Within, Meets};
 ghost use Rattle.rows.specs.Empty.{emptyOf};
 ghost use Rattle.rows.specs.Put.{markOf, putOf, putIf};
 ghost use Rattle.rows.specs.Copy.{copyOf};
-ghost use Rattle.rows.specs.Added.{Added, Row, Through};
+ghost use Rattle.rows.specs.Added.{Added, Row, Through, Below};
 ghost use Rattle.rows.specs.Chained.{Chained};
 ghost use Rattle.rows.specs.AddRow.{addRowOf};
 ghost use Rattle.rows.specs.DropRow.{dropRowOf};
@@ -160,6 +160,22 @@ pub fn within(a: &[u64], x: usize, b: &[u64], y: usize) -> bool
     true
 }
 
+// Whether some number is in a pair with x in one relation and with y in another, a word at a time.
+pub fn meets(a: &[u64], x: usize, b: &[u64], y: usize) -> bool
+    ensures { λ r. ⌜ So r ↔ Meets (now (a .entry)) x (now (b .entry)) y ⌝ }
+{
+    let mut i: usize = 0;
+    while i < WORDS {
+        let p = word(a, x, i);
+        let q = word(b, y, i);
+        if p & q != 0 {
+            return true;
+        }
+        i += 1;
+    }
+    false
+}
+
 // Whether some number is in a pair with itself.
 pub fn reflexive(rows: &[u64]) -> bool
     ensures { λ r. ⌜ r ≡ any RECORDS (λ x. bit (now (rows .entry)) x x) ⌝ }
@@ -189,13 +205,31 @@ fn join(rows: &mut [u64], x: usize, k: usize)
     }
 }
 
-// Adds every pair that leads through k.
-fn pass(rows: &mut [u64], k: usize)
-    requires { ⌜ (k < RECORDS) × (length (now rows) ≡ CELLS) ⌝ }
+// How many rows there are up to the last one that has a pair.
+fn height(rows: &[u64]) -> usize
+    ensures { λ r. ⌜ (r ≤ RECORDS) × Below (now (rows .entry)) r ⌝ }
+{
+    let mut n: usize = trace::RECORDS;
+    while 0 < n {
+        let x = n - 1;
+        if !within(rows, x, &[0u64; WORDS], 0) {
+            return n;
+        }
+        n = x;
+    }
+    0
+}
+
+// Adds every pair that leads through k, told that only the first n rows have pairs; through a number that is before none leads nothing.
+fn pass(rows: &mut [u64], k: usize, n: usize)
+    requires { ⌜ (k < RECORDS) × (n ≤ RECORDS) × (length (now rows) ≡ CELLS) × Below (now rows) n ⌝ }
     ensures { λ r. ⌜ Added (now (rows .entry)) (Through (now (rows .entry)) k) (now (rows .exit)) ⌝ }
 {
+    if within(rows, k, &[0u64; WORDS], 0) {
+        return;
+    }
     let mut x: usize = 0;
-    while x < trace::RECORDS {
+    while x < n {
         if has(rows, x, k) {
             join(rows, x, k);
         }
@@ -210,9 +244,10 @@ pub fn chains(rows: &mut [u64])
     if rows.len() != CELLS {
         return;
     }
+    let n = height(rows);
     let mut k: usize = 0;
     while k < trace::RECORDS {
-        pass(rows, k);
+        pass(rows, k, n);
         k += 1;
     }
 }

@@ -5,14 +5,15 @@
 --   grown-chains                     == the chains of what is ranked
 --   settled                          == rules 6 and 7 for one writer
 --   Follows O before led             == in rankings with O, led ranks no more than before
---   follows-copy, follows-more, follows-none == at the first round; after one round more; with a circle there is no such ranking
+--   partly-none, partly-then, partly-row     == nothing; one thing after another; a row without what is placed
+--   follows-part, follows-more, follows-none == at the first round; after one round more; with a circle there is no such ranking
 --   refuted-none                     == where there is no ranking, no valid order goes on
-use mathlib.Core.Path.{_≡_, refl, sym, _∙_, subst}
+use mathlib.Core.Path.{_≡_, refl, sym, ap, _∙_, subst}
 use mathlib.Core.Logic.{_≢_, _⊎_, inl, inr}
 use mathlib.Core.Bool.{Bool, true, false, So, not, _&&_, _||_, false≢true}
 use mathlib.Core.List.{List, _++_}
 use mathlib.Core.Option.{none}
-use Prim.Native.Nat.{ℕ, _<_, _≤_}
+use Prim.Native.Nat.{ℕ, _+_, _*_, _<_, _≤_}
 use native.Mathlib.Decide.{decLt}
 use native.Mathlib.Omega.{arith}
 use lib.ListN.{length, getD}
@@ -20,27 +21,31 @@ use Rattle.laws.specs.Places.{pos, count, Before}
 use Rattle.laws.specs.Relation.{Table, Chain, one, more}
 use Rattle.laws.specs.Dict.{Answer}
 use Rattle.laws.specs.Tests.{any}
-use Rattle.laws.proofs.Tests.{off, so-not, and-iff, or-iff, same-iff, eq?}
+use Rattle.laws.proofs.Tests.{off, so-not, and-iff, or-iff, same-iff}
 use Rattle.laws.proofs.Places.{pos-lt}
 use Rattle.laws.proofs.Prefixes.{pos-in, pos-out}
 use Rattle.trace.specs.Bounds.{RECORDS}
 use Rattle.trace.specs.Frame.{Frame, Writer, Source}
 use Rattle.trace.specs.Order.{Valid}
-use Rattle.rows.specs.Bounds.{CELLS}
-use Rattle.rows.specs.Rows.{bit, Edges}
+use Rattle.rows.specs.Bounds.{WORDS, CELLS}
+use Rattle.rows.specs.Rows.{bit, Edges, Words}
 use Rattle.rows.specs.Empty.{emptyOf}
-use Rattle.rows.specs.Copy.{copyOf}
+use Rattle.rows.specs.Added.{Added}
+use Rattle.rows.specs.AddRow.{addRowOf}
+use Rattle.rows.specs.DropRow.{dropRowOf}
 use Rattle.rows.specs.Put.{putIf, putOf}
 use Rattle.rows.specs.Chained.{Chained}
 use Rattle.rows.proofs.Rows.{self-iff}
-use Rattle.rows.proofs.Whole.{empty-long, empty-bit, copy-same, copy-other}
+use Rattle.rows.proofs.Closing.{row-added}
+use Rattle.rows.proofs.Dropping.{drop-long, row-dropped}
+use Rattle.rows.proofs.Whole.{empty-long, empty-bit}
 use Rattle.rows.proofs.Pair.{put-iff, put-long, put-left, put-right}
 use Rattle.rules.specs.Rules.{nothing, rule6, rule7}
 use Rattle.rules.proofs.Sound.{gives-sound}
 use Rattle.rules.proofs.SourceOf.{source-of-is}
 use Rattle.search.specs.Laid.{Tables, Laid}
 use Rattle.rows.specs.Sets.{Holds}
-use Rattle.search.specs.Refuting.{Ranked, Obeys, Settling, Ranking, Grown, Refuted}
+use Rattle.search.specs.Refuting.{Ranked, Obeys, Settling, Ranking, Grown, Partly, Refuted}
 use Rattle.search.proofs.Chances.{lacks}
 
 pub grown-none : (O : (ℕ → ℕ) → Type 0) (a : List ℕ) → Grown O a a
@@ -99,17 +104,40 @@ module _ (placed : List ℕ) (S L z : ℕ) (a b c : List ℕ) (l : length a ≡ 
       second : Grown (λ pos. Obeys placed S L z pos × Ranked a pos) b (putIf b (late || (p && not q)) z L)
       second = grown-if _ b (late || (p && not q)) L z (first .long ∙ l) (λ pos o r t. later pos (o .0) (o .1) (or-iff (same-iff {a = late}) (and-iff (same-iff {a = p}) so-not) .0 t))
 
+pub partly-none : (before a : List ℕ) → Partly before a a
+partly-none before a = record { long = refl; pairs = λ x y t. inl t }
+
+pub partly-then : (before : List ℕ) {a b c : List ℕ} → Partly before a b → Partly before b c → Partly before a c
+partly-then before p q = record { long = q .long ∙ p .long; pairs = λ x y t. elim (q .pairs x y t) [ inl u ↦ p .pairs x y u | inr u ↦ inr u ] }
+
+pub partly-row : (before placed : List ℕ) → Words before → (y : ℕ) → y < RECORDS → (a b c : List ℕ) → length a ≡ CELLS → b ≡ addRowOf before y a y → c ≡ dropRowOf placed 0 b y → Partly before a c
+partly-row before placed words y hy a b c l e d = record {
+  long = ap length d ∙ drop-long placed 0 b y hy room ∙ long;
+  pairs = λ i j t.
+      let u : So (bit b i j) = row-dropped placed 0 b y hy room i j .0 (subst (λ (r : List ℕ). So (bit r i j)) d t) .0 in
+      elim (added .pairs i j .0 (subst (λ (r : List ℕ). So (bit r i j)) e u)) [ inl v ↦ inl v | inr (q, v) ↦ inr (subst (λ (n : ℕ). So (bit before n j)) (sym q) v) ];
+}
+  where
+    added : Added a (λ i j. (i ≡ y) × Edges before y j) (addRowOf before y a y)
+    added = row-added before words y a y hy (omega (arith, hy, l))
+
+    long : length b ≡ length a
+    long = ap length e ∙ added .long
+
+    room : y * WORDS + WORDS ≤ length b
+    room = omega (arith, long, hy, l)
+
 -- The rounds: rows that rank no more than a guide makes them
 pub record Follows (O : (ℕ → ℕ) → Type 0) (before led : List ℕ) : Type 0 where
   pub long : length led ≡ CELLS
   pub ranks : (pos : ℕ → ℕ) → O pos → Ranked before pos → Ranked led pos
 
 module _ (O : (ℕ → ℕ) → Type 0) (before : List ℕ) where
-  pub follows-copy : (led : List ℕ) → led ≡ copyOf before (emptyOf CELLS) → Follows O before led
-  follows-copy led e = elim (eq? (length before) (length (emptyOf CELLS))) [
-    | inl s ↦ rw (e ∙ copy-same before (emptyOf CELLS) s) (record { long = s ∙ empty-long CELLS; ranks = λ pos o r. r })
-    | inr d ↦ rw (e ∙ copy-other before (emptyOf CELLS) d) (record { long = empty-long CELLS; ranks = λ pos o r x y t. absurd (false≢true (sym (empty-bit CELLS y x) ∙ t)) })
-  ]
+  pub follows-part : (led : List ℕ) → Partly before (emptyOf CELLS) led → Follows O before led
+  follows-part led p = record {
+    long = p .long ∙ empty-long CELLS;
+    ranks = λ pos o r x y t. elim (p .pairs y x t) [ inl e ↦ absurd (false≢true (sym (empty-bit CELLS y x) ∙ e)) | inr b ↦ r x y b ];
+  }
 
   pub follows-more : {a b : List ℕ} → Follows O before a → Grown O a b → Follows O before b
   follows-more p q = record { long = q .long ∙ p .long; ranks = λ pos o r. q .ranks pos o (p .ranks pos o r) }

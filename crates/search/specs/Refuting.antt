@@ -4,9 +4,10 @@
 --   Obeys placed S L z pos == what a ranking owes to a load L, its source S and another writer z: the placed below the others, rules 6 and 7
 --   Settling, Ranking     == the same for all such writers, and for all loads below n that have a source
 --   Grown O a b           == the rows b rank nothing that a did not, in rankings with O
+--   Partly before a b     == the rows b have what a has, some of `before` and no more
 --   Refuted ..            == there is no ranking at all
 use mathlib.Core.Path.{_≡_}
-use mathlib.Core.Logic.{_≢_}
+use mathlib.Core.Logic.{_≢_, _⊎_}
 use mathlib.Core.Bool.{false, So}
 use mathlib.Core.List.{List}
 use Prim.Native.Nat.{ℕ, _<_}
@@ -31,6 +32,10 @@ Ranking n writers sources placed pos = (L : ℕ) → L < n → getD sources L 0 
 pub record Grown (O : (ℕ → ℕ) → Type 0) (a b : List ℕ) : Type 0 where
   pub long : length b ≡ length a
   pub ranks : (pos : ℕ → ℕ) → O pos → Ranked a pos → Ranked b pos
+
+pub record Partly (before a b : List ℕ) : Type 0 where
+  pub long : length b ≡ length a
+  pub pairs : (x y : ℕ) → So (bit b x y) → So (bit a x y) ⊎ So (bit before x y)
 
 abbrev pub Refuted : ℕ → List ℕ → List ℕ → List ℕ → List ℕ → Type 0
 Refuted n before writers sources placed = (pos : ℕ → ℕ) → Ranking n writers sources placed pos → Ranked before pos → ⊥

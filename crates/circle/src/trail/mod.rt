@@ -19,11 +19,14 @@ fn add_row(walks: &[u64], m: usize, next: &mut [u64], x: usize)
     rows::add_row(walks, m, next, x);
 }
 
-// Adds to row x of `next` where an edge from x and then a walk leads.
+// Adds to row x of `next` where an edge from x and then a walk leads: nowhere, if x has no edge.
 fn add_rows(edges: &[u64], walks: &[u64], next: &mut [u64], x: usize)
     requires { ⌜ (x < RECORDS) × (length (now next) ≡ CELLS) ⌝ }
     ensures { λ r. ⌜ Added (now (next .entry)) (λ i j. (i ≡ x) × Through (Edges (now (edges .entry))) (Edges (now (walks .entry))) x j) (now (next .exit)) ⌝ }
 {
+    if rows::within(edges, x, &[0u64; rows::WORDS], 0) {
+        return;
+    }
     let mut m: usize = 0;
     while m < trace::RECORDS {
         if rows::test(edges, x, m) {
@@ -102,7 +105,7 @@ fn back(edges: &[u64], reach: &mut [u64], j: usize)
 {
     let mut x: usize = 0;
     while x < trace::RECORDS {
-        if step_to(edges, reach, x, j) < trace::RECORDS {
+        if rows::meets(edges, x, reach, j) {
             rows::put(reach, j + 1, x);
         }
         x += 1;

@@ -40,23 +40,45 @@ pub struct Round {
     pub chains: [u64; rows::CELLS],
 }
 
-// Draws rules 1 and 8 from record x.
-fn draw_pairs_from(t: Trace, model: u8, supposed: &[u64], x: usize, edges: &mut [u64])
+// Draws rule 1 from record x: only to later records of its own thread, past the fences of that thread.
+fn draw_kept_from(t: Trace, model: u8, x: usize, edges: &mut [u64])
     requires { ⌜ (x < t .len) × (t .len ≤ RECORDS) × (length (now edges) ≡ CELLS) ⌝ }
-    ensures { λ r. ⌜ Adds (now (edges .entry)) (Union (t .len) (λ y. Only (paired model t (now (supposed .entry)) x y) x y)) (now (edges .exit)) ⌝ }
+    ensures { λ r. ⌜ Adds (now (edges .entry)) (Union (t .len) (λ y. Only (keptOf model t x y) x y)) (now (edges .exit)) ⌝ }
 {
     let n = t.len;
     let record = t.records[x];
     let a = record.op;
     let mut passed = false;
+    let mut y: usize = x + 1;
+    while y < n {
+        let record = t.records[y];
+        let b = record.op;
+        if b.thread() == a.thread() {
+            let kept = kept_pair(model, a, b, true, passed);
+            rows::put_if(edges, kept, x, y);
+            passed = passed | b.fence();
+        }
+        y += 1;
+    }
+}
+
+// Draws rule 8 from record x; where nothing is supposed of x there is nothing to look at.
+fn draw_supposed_from(t: Trace, supposed: &[u64], x: usize, edges: &mut [u64])
+    requires { ⌜ (x < t .len) × (t .len ≤ RECORDS) × (length (now edges) ≡ CELLS) ⌝ }
+    ensures { λ r. ⌜ Adds (now (edges .entry)) (Union (t .len) (λ y. Only (supposedOf t (now (supposed .entry)) x y) x y)) (now (edges .exit)) ⌝ }
+{
+    if rows::within(supposed, x, &[0u64; rows::WORDS], 0) {
+        return;
+    }
+    let n = t.len;
+    let record = t.records[x];
+    let a = record.op;
     let mut y: usize = 0;
     while y < n {
         let record = t.records[y];
         let b = record.op;
-        let kept = kept_pair(model, a, b, (x < y) & (y < n), passed);
         let pair = !a.fence() & !b.fence() & rows::test(supposed, x, y);
-        rows::put_if(edges, kept | pair, x, y);
-        passed = passed | (b.fence() & (x < y) & (b.thread() == a.thread()));
+        rows::put_if(edges, pair, x, y);
         y += 1;
     }
 }
@@ -69,7 +91,8 @@ fn draw_pairs(t: Trace, model: u8, supposed: &[u64], edges: &mut [u64])
     let n = t.len;
     let mut x: usize = 0;
     while x < n {
-        draw_pairs_from(t, model, supposed, x, edges);
+        draw_kept_from(t, model, x, edges);
+        draw_supposed_from(t, supposed, x, edges);
         x += 1;
     }
 }

@@ -86,12 +86,12 @@ pub fn first_order(t: Trace, model: u8) -> Order
     if !(well_formed(t) & modelled(model)) {
         return nothing();
     }
-    if !sourced(t) {
-        return nothing();
-    }
     let supposed = [0u64; rows::CELLS];
     let forced = forced(t, model, &supposed);
     if forced.contradicted {
+        return nothing();
+    }
+    if !sourced(t) {
         return nothing();
     }
     let held = forced.held;

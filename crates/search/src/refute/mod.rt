@@ -2,10 +2,11 @@
 // where no circle is found nothing is promised: how often it is asked, and how many rounds it goes, is a matter of time alone.
 ghost use mathlib.Core.Path.{_≡_};
 ghost use mathlib.Core.Bool.{So};
-ghost use Prim.Native.Nat.{_≤_};
+ghost use Prim.Native.Nat.{_<_, _≤_};
 ghost use lib.ListN.{length};
+ghost use Rattle.trace.specs.Bounds.{RECORDS};
 ghost use Rattle.rows.specs.Bounds.{CELLS};
-ghost use Rattle.search.specs.Refuting.{Grown, Obeys, Settling, Ranking, Refuted};
+ghost use Rattle.search.specs.Refuting.{Grown, Obeys, Settling, Ranking, Partly, Refuted};
 use trace::RECORDS;
 
 // Draws what z, a writer of a load's address other than the load's source, gives by rules 6 and 7: row y takes what is before y.
@@ -56,6 +57,29 @@ fn settle(n: usize, writers: &[u64], sources: &[usize], placed: &[u64], led: &mu
     }
 }
 
+// Adds to row y what is before y and not placed.
+fn leave_row(before: &[u64], placed: &[u64], y: usize, led: &mut [u64])
+    requires { ⌜ (y < RECORDS) × (length (now led) ≡ CELLS) ⌝ }
+    ensures { λ r. ⌜ Partly (now (before .entry)) (now (led .entry)) (now (led .exit)) ⌝ }
+{
+    rows::add_row(before, y, led, y);
+    rows::drop_row(placed, 0, led, y);
+}
+
+// Adds what is before each number that is not placed, but for what is placed: that comes before all the others anyway, so no circle leads through it.
+fn leave(before: &[u64], placed: &[u64], led: &mut [u64])
+    requires { ⌜ length (now led) ≡ CELLS ⌝ }
+    ensures { λ r. ⌜ Partly (now (before .entry)) (now (led .entry)) (now (led .exit)) ⌝ }
+{
+    let mut y: usize = 0;
+    while y < RECORDS {
+        if !rows::test(placed, 0, y) {
+            leave_row(before, placed, y, led);
+        }
+        y += 1;
+    }
+}
+
 // Whether no list with this set can go on to a valid order, as far as the rules show it.
 pub(crate) fn refuted(
     n: usize,
@@ -69,7 +93,7 @@ pub(crate) fn refuted(
 {
     let mut led = [0u64; rows::CELLS];
     let mut was = [0u64; rows::CELLS];
-    rows::copy(before, &mut led);
+    leave(before, placed, &mut led);
     let mut round: usize = 0;
     while round < n {
         rows::copy(&led, &mut was);

@@ -1,14 +1,13 @@
 -- `trail::back`: row j + 1 has what below x has an edge to something of row j.
-use mathlib.Core.Path.{_≡_, _∙_}
+use mathlib.Core.Path.{_≡_, sym, _∙_}
 use mathlib.Core.Logic.{_↔_, ⊎-elim}
-use mathlib.Core.Bool.{So}
+use mathlib.Core.Bool.{So, false≢true}
 use Prim.Native.Nat.{ℕ, _+_, _≤_, _-_}
 use native.Mathlib.Omega.{arith}
 use borrow.Author.Needs.{needs}
 use Rattle.trace.specs.Bounds.{RECORDS}
 use Rattle.rows.specs.Put.{putOf}
 use Rattle.rows.specs.Rows.{bit, Edges}
-use Rattle.rows.proofs.Rows.{bit-bounds}
 use Rattle.circle.specs.Added.{Added}
 use Rattle.circle.proofs.Added.{Some, added-one, added-same, added-when, added-none, added-turn, added-skip}
 use Rattle.circle.proofs.Reach.{BackTurn, back-all, back-row}
@@ -24,8 +23,8 @@ abbrev μ-loop : tie.MeasureT-loop
 loop-holds : tie.Need-loop-holds Inv-loop μ-loop
 loop-holds c = let a = c .before .before .args in (omega arith, added-none (a .reach .now) (BackTurn (Edges (a .edges .now)) (Edges (a .reach .now)) (a .j)))
 
-step-to-requires : tie.Need-step-to-requires Inv-loop μ-loop
-step-to-requires c κs = search needs
+meets-requires : tie.Need-meets-requires Inv-loop μ-loop
+meets-requires c κs = search needs
 
 add-put : tie.Need-add-put Inv-loop μ-loop
 add-put c = search needs
@@ -48,13 +47,13 @@ loop-again c =
     let E = Edges (a .edges .now) in
     let B = BackTurn E (Edges (a .reach .now)) (a .j) in
     let row : (m : ℕ) → So (bit (l .loop .reach) (a .j) m) ↔ Edges (a .reach .now) (a .j) m = λ m. back-row E (a .reach .now) (l .loop .reach) (a .j) (l .loop .x) m now in
-    let low = c .before .step-to .ensures in (
+    let met = c .before .meets .ensures in (
       omega arith,
       ⊎-elim
           (λ w.
           let e : c .if1 .reach ≡ putOf (l .loop .reach) (a .j + 1) (l .loop .x) = w .5 ∙ w .2 .ensures in
-          let y = low .found (w .0 .taken) in
-          let has : (m : ℕ) × E (l .loop .x) m × Edges (a .reach .now) (a .j) m = (c .before .step-to .result, y .0, row (c .before .step-to .result) .0 (y .1)) in
+          let y = met .0 (w .0 .taken) in
+          let has : (m : ℕ) × E (l .loop .x) m × Edges (a .reach .now) (a .j) m = (y .0, y .1, row (y .0) .0 (y .2)) in
           rw e
           (added-turn (a .reach .now) B (l .loop .x) (l .loop .reach) _ now
           (added-when (l .loop .reach) _ _ _ has
@@ -65,7 +64,7 @@ loop-again c =
           (added-skip (a .reach .now) B (l .loop .x) (l .loop .reach) now
           (λ i y b.
           let (m, d, t) = b .1 in
-          omega (arith, w .0 .left, low .least m (d, row m .1 t), bit-bounds (a .edges .now) (l .loop .x) m d .1))))
+          false≢true (sym (w .0 .left) ∙ met .1 (m, d, row m .1 t)))))
           (c .if1 .came),
     )
 
@@ -87,7 +86,7 @@ back-spec =
     Inv-loop
     μ-loop
     loop-holds
-    step-to-requires
+    meets-requires
     add-put
     put-requires
     add-x

@@ -4,7 +4,8 @@ use Prim.Native.Nat.{_≤_, _-_}
 use native.Mathlib.Omega.{arith}
 use Rattle.edges.specs.Adds.{Adds, Only, Union}
 use Rattle.edges.specs.Drawn.{paired}
-use Rattle.edges.proofs.Adds.{union-none, union-more}
+use Rattle.edges.proofs.Adds.{adds-then, union-none, union-more}
+use Rattle.edges.proofs.Drawn.{paired-both}
 use borrow.Author.Needs.{needs}
 use Rattle.edges.proofs.force.draw_pairs.Statement.{statement}
 use Rattle.edges.proofs.force.draw_pairs.Tie as tie
@@ -18,10 +19,16 @@ abbrev μ-loop : tie.MeasureT-loop
 loop-holds : tie.Need-loop-holds Inv-loop μ-loop
 loop-holds c = (omega arith, union-none _ (c .before .before .args .edges .now))
 
-draw-pairs-from-requires : tie.Need-draw-pairs-from-requires Inv-loop μ-loop
-draw-pairs-from-requires c κs =
+draw-kept-from-requires : tie.Need-draw-kept-from-requires Inv-loop μ-loop
+draw-kept-from-requires c κs =
     let l = c .before .before in
     (search needs, search needs, l .loop .inv .1 .long ∙ l .before .before .before .pre .1)
+
+draw-supposed-from-requires : tie.Need-draw-supposed-from-requires Inv-loop μ-loop
+draw-supposed-from-requires c κs =
+    let p = c .before .before .before in
+    let l = p .before .before .before in
+    (search needs, search needs, p .draw-kept-from .ensures .long ∙ l .loop .inv .1 .long ∙ l .before .before .before .pre .1)
 
 add-x : tie.Need-add-x Inv-loop μ-loop
 add-x c = search needs
@@ -31,9 +38,13 @@ loop-less c = search needs
 
 loop-again : tie.Need-loop-again Inv-loop μ-loop
 loop-again c =
-    let p = c .before .before in
+    let q = c .before .before in
+    let p = q .before .before .before .before in
     let l = p .before .before .before in
-    (omega arith, union-more _ (l .loop .x) (l .loop .inv .1) (p .draw-pairs-from .ensures))
+    let a = l .before .before .before .args in (
+      omega arith,
+      union-more _ (l .loop .x) (l .loop .inv .1) (adds-then _ (p .draw-kept-from .ensures) (q .draw-supposed-from .ensures) (paired-both (a .t) (l .loop .x) (a .supposed .now) (a .model) (a .t .len))),
+    )
 
 same-length : tie.Need-same-length Inv-loop μ-loop
 same-length c = c .before .loop .inv .1 .long
@@ -51,7 +62,8 @@ draw-pairs-spec =
     Inv-loop
     μ-loop
     loop-holds
-    draw-pairs-from-requires
+    draw-kept-from-requires
+    draw-supposed-from-requires
     add-x
     loop-less
     loop-again

@@ -1,4 +1,4 @@
--- `search::first::first_order`: where nothing is to be answered, a source is missing or the edges contradict each other, there is no order.
+-- `search::first::first_order`: where nothing is to be answered, the edges contradict each other or a source is missing, there is no order.
 use mathlib.Core.Path.{refl, sym, ap₂, _∙_, subst}
 use mathlib.Core.Bool.{Bool, So, _&&_, false≢true}
 use borrow.Author.Needs.{needs}
@@ -32,33 +32,33 @@ returns c = let s = c .before .before .before .before in
     let e = ap₂ _&&_ (c .before .before .before .well-formed .ensures) (c .before .before .modelled .ensures) in
     first-none (s .args .t) (s .args .model) (c .nothing .result) (c .nothing .ensures) (λ a. absurd (false≢true (sym (not-true _ (c .before .if1 .taken)) ∙ e ∙ a)))
 
-sourced-requires : tie.Need-sourced-requires
-sourced-requires c κs = let s = c .before .before .before in
-    let a : So (answered (s .args .model) (s .args .t)) = sym (ap₂ _&&_ (c .before .before .well-formed .ensures) (c .before .modelled .ensures)) ∙ not-false _ (c .if1 .left) in
-    and-iff (same-iff {a = wellFormed (s .args .t)}) (same-iff {a = modelled (s .args .model)}) .0 a .0
-
-nothing-requires-2 : tie.Need-nothing-requires-2
-nothing-requires-2 c κs = search needs
-
-returns-2 : tie.Need-returns-2
-returns-2 c = let s = c .before .before .before .before .before .before in
-    let f = frameOf (s .args .t) in
-    first-none (s .args .t) (s .args .model) (c .nothing2 .result) (c .nothing2 .ensures)
-    (λ _ xs v. false≢true (sym (not-true _ (c .before .if2 .taken)) ∙ c .before .before .sourced .ensures .1 (λ L m. missing-none f (keptOf (s .args .model) (s .args .t)) L m xs v)))
-
 slice-aggregate-forced : tie.Need-slice-aggregate-forced
 slice-aggregate-forced c = search needs
 
 forced-requires : tie.Need-forced-requires
 forced-requires c κs = search needs
 
+nothing-requires-2 : tie.Need-nothing-requires-2
+nothing-requires-2 c κs = search needs
+
+returns-2 : tie.Need-returns-2
+returns-2 c = let s = c .before .before .before .before .before .before .before in
+    first-none (s .args .t) (s .args .model) (c .nothing2 .result) (c .nothing2 .ensures)
+    (λ a. refuted-none (s .args .t) (s .args .model) a (c .before .before .forced .result) (c .before .before .forced .ensures) (c .before .if2 .taken))
+
+sourced-requires : tie.Need-sourced-requires
+sourced-requires c κs = let s = c .before .before .before .before .before .before in
+    let a : So (answered (s .args .model) (s .args .t)) = sym (ap₂ _&&_ (c .before .before .before .before .before .well-formed .ensures) (c .before .before .before .before .modelled .ensures)) ∙ not-false _ (c .before .before .before .if1 .left) in
+    and-iff (same-iff {a = wellFormed (s .args .t)}) (same-iff {a = modelled (s .args .model)}) .0 a .0
+
 nothing-requires-3 : tie.Need-nothing-requires-3
 nothing-requires-3 c κs = search needs
 
 returns-3 : tie.Need-returns-3
 returns-3 c = let s = c .before .before .before .before .before .before .before .before .before in
+    let f = frameOf (s .args .t) in
     first-none (s .args .t) (s .args .model) (c .nothing3 .result) (c .nothing3 .ensures)
-    (λ a. refuted-none (s .args .t) (s .args .model) a (c .before .before .forced .result) (c .before .before .forced .ensures) (c .before .if3 .taken))
+    (λ _ xs v. false≢true (sym (not-true _ (c .before .if3 .taken)) ∙ c .before .before .sourced .ensures .1 (λ L m. missing-none f (keptOf (s .args .model) (s .args .t)) L m xs v)))
 
 slice-aggregate-lay-operations : tie.Need-slice-aggregate-lay-operations
 slice-aggregate-lay-operations c = search needs
@@ -90,10 +90,10 @@ returns-4 c = let s = c .before .before .before .before .before .before .before 
     let m = s .args .model in
     let a : So (answered m t) = sym (ap₂ _&&_ (c .before .before .before .before .before .before .before .before .before .before .before .before .before .before .before .before .before .well-formed .ensures) (c .before .before .before .before .before .before .before .before .before .before .before .before .before .before .before .before .modelled .ensures)) ∙ not-false _ (c .before .before .before .before .before .before .before .before .before .before .before .before .before .before .before .if1 .left) in
     let w = and-iff (same-iff {a = wellFormed t}) (same-iff {a = modelled m}) .0 a .0 in
-    let g = held-guided t m a (c .before .before .before .before .before .before .before .before .before .before .before .forced .result) (c .before .before .before .before .before .before .before .before .before .before .before .forced .ensures) (c .before .before .before .before .before .before .before .before .before .before .if3 .left) in
+    let g = held-guided t m a (c .before .before .before .before .before .before .before .before .before .before .before .before .before .forced .result) (c .before .before .before .before .before .before .before .before .before .before .before .before .before .forced .ensures) (c .before .before .before .before .before .before .before .before .before .before .before .before .if2 .left) in
     let r = c .before .before .look .ensures in
     let best = subst (λ (b : Bool). Least (Valid (frameOf t) (keptOf m t)) (follows b 0 (c .before .before .before .before .before .before .before .lay-operations .result) (c .before .before .look .last .1 .1 .1 .1 .0))) (c .if4 .taken)
-    (r .right (keptOf m t) g (c .before .before .before .before .before .before .before .before .before .before .before .before .before .before .sourced .ensures .0 (not-false _ (c .before .before .before .before .before .before .before .before .before .before .before .before .before .if2 .left)))) in
+    (r .right (keptOf m t) g (c .before .before .before .before .before .before .before .before .before .before .before .sourced .ensures .0 (not-false _ (c .before .before .before .before .before .before .before .before .before .before .if3 .left)))) in
     first-some t m _ a refl (counted-fits t w _ _ (c .before .before .before .before .before .before .before .lay-operations .ensures)) (c .before .before .look .kept .1 .1 .1 .1 .0) (λ i h. r .rest i h ∙ empty-rest i) best
 
 nothing-requires-4 : tie.Need-nothing-requires-4
@@ -105,9 +105,9 @@ returns-5 c = let s = c .before .before .before .before .before .before .before 
     let m = s .args .model in
     first-none t m (c .nothing4 .result) (c .nothing4 .ensures)
     (λ a.
-    let g = held-guided t m a (c .before .before .before .before .before .before .before .before .before .before .before .before .forced .result) (c .before .before .before .before .before .before .before .before .before .before .before .before .forced .ensures) (c .before .before .before .before .before .before .before .before .before .before .before .if3 .left) in
+    let g = held-guided t m a (c .before .before .before .before .before .before .before .before .before .before .before .before .before .before .forced .result) (c .before .before .before .before .before .before .before .before .before .before .before .before .before .before .forced .ensures) (c .before .before .before .before .before .before .before .before .before .before .before .before .before .if2 .left) in
     subst (λ (b : Bool). Least (Valid (frameOf t) (keptOf m t)) (follows b 0 (c .before .before .before .before .before .before .before .before .lay-operations .result) (c .before .before .before .look .last .1 .1 .1 .1 .0))) (c .before .if4 .left)
-    (c .before .before .before .look .ensures .right (keptOf m t) g (c .before .before .before .before .before .before .before .before .before .before .before .before .before .before .before .sourced .ensures .0 (not-false _ (c .before .before .before .before .before .before .before .before .before .before .before .before .before .before .if2 .left)))))
+    (c .before .before .before .look .ensures .right (keptOf m t) g (c .before .before .before .before .before .before .before .before .before .before .before .before .sourced .ensures .0 (not-false _ (c .before .before .before .before .before .before .before .before .before .before .before .if3 .left)))))
 
 pub first-order-spec : {M : Type 1} → statement M
 first-order-spec =
@@ -117,11 +117,11 @@ first-order-spec =
     modelled-requires
     nothing-requires
     returns
-    sourced-requires
-    nothing-requires-2
-    returns-2
     slice-aggregate-forced
     forced-requires
+    nothing-requires-2
+    returns-2
+    sourced-requires
     nothing-requires-3
     returns-3
     slice-aggregate-lay-operations

@@ -1,5 +1,5 @@
 -- `search::refute::refuted`: what a round draws ranks no more than what is held; a circle ends it.
-use mathlib.Core.Path.{_≡_, sym, _∙_}
+use mathlib.Core.Path.{_≡_, refl, sym, _∙_}
 use mathlib.Core.Bool.{false≢true}
 use Prim.Native.Nat.{_-_}
 use native.Mathlib.Omega.{arith}
@@ -8,7 +8,7 @@ use lib.ListN.{length}
 use Rattle.rows.specs.Bounds.{CELLS}
 use Rattle.rows.proofs.Whole.{empty-long}
 use Rattle.search.specs.Refuting.{Ranking}
-use Rattle.search.proofs.Refuting.{Follows, follows-copy, follows-more, follows-none, grown-chains}
+use Rattle.search.proofs.Refuting.{Follows, follows-part, follows-more, follows-none, grown-chains}
 use Rattle.search.proofs.refute.refuted.Statement.{statement}
 use Rattle.search.proofs.refute.refuted.Tie as tie
 
@@ -18,23 +18,23 @@ Inv-loop n before writers sources placed led₀ was₀ round₀ led was round = 
 abbrev μ-loop : tie.MeasureT-loop
 μ-loop n before writers sources placed led₀ was₀ round₀ led was round = n - round
 
-slice-aggregate-copy : tie.Need-slice-aggregate-copy Inv-loop μ-loop
-slice-aggregate-copy c = search needs
+slice-aggregate-leave : tie.Need-slice-aggregate-leave Inv-loop μ-loop
+slice-aggregate-leave c = search needs
 
-copy-requires : tie.Need-copy-requires Inv-loop μ-loop
-copy-requires c κs = search needs
+leave-requires : tie.Need-leave-requires Inv-loop μ-loop
+leave-requires c κs = refl
 
 loop-holds : tie.Need-loop-holds Inv-loop μ-loop
-loop-holds c = (follows-copy _ _ _ (c .before .copy .ensures), empty-long CELLS)
+loop-holds c = (follows-part _ _ _ (c .before .leave .ensures), empty-long CELLS)
+
+slice-aggregate-copy : tie.Need-slice-aggregate-copy Inv-loop μ-loop
+slice-aggregate-copy c = search needs
 
 slice-aggregate-copy-2 : tie.Need-slice-aggregate-copy-2 Inv-loop μ-loop
 slice-aggregate-copy-2 c = search needs
 
-slice-aggregate-copy-3 : tie.Need-slice-aggregate-copy-3 Inv-loop μ-loop
-slice-aggregate-copy-3 c = search needs
-
-copy-requires-2 : tie.Need-copy-requires-2 Inv-loop μ-loop
-copy-requires-2 c κs = search needs
+copy-requires : tie.Need-copy-requires Inv-loop μ-loop
+copy-requires c κs = search needs
 
 slice-aggregate-settle : tie.Need-slice-aggregate-settle Inv-loop μ-loop
 slice-aggregate-settle c = search needs
@@ -85,7 +85,7 @@ loop-again c = let h = c .before .before .before .before in
     let g = h .before .before .before .before .before .before .before in
     let l = g .before .before .before .before .before .before .before in
     let f = follows-more _ _ (l .loop .inv .0) (g .settle .ensures) in
-    (follows-more _ _ f (grown-chains _ _ _ (f .long) (h .chains .ensures)), g .before .before .before .copy2 .kept .1 .0 ∙ l .loop .inv .1)
+    (follows-more _ _ f (grown-chains _ _ _ (f .long) (h .chains .ensures)), g .before .before .before .copy .kept .1 .0 ∙ l .loop .inv .1)
 
 returns-3 : tie.Need-returns-3 Inv-loop μ-loop
 returns-3 c = λ t. absurd (false≢true t)
@@ -96,12 +96,12 @@ refuted-spec =
     (tie.spec
     Inv-loop
     μ-loop
-    slice-aggregate-copy
-    copy-requires
+    slice-aggregate-leave
+    leave-requires
     loop-holds
+    slice-aggregate-copy
     slice-aggregate-copy-2
-    slice-aggregate-copy-3
-    copy-requires-2
+    copy-requires
     slice-aggregate-settle
     settle-requires
     slice-aggregate-equal
