@@ -1,0 +1,41 @@
+//! The pages say what otter does.
+
+use super::{fresh, root, shell};
+use std::fs;
+
+/// The meaning of every number with which a text is turned back stands in a row of docs/GUIDE.md with that number.
+#[test]
+fn meanings_are_the_guides() {
+    let guide = fs::read_to_string(root().join("docs/GUIDE.md")).unwrap();
+    let said = shell("otter check -q --json tests/traces | grep '\"number\"' | sed 's/.*\"number\":\\([0-9]*\\),.*\"meaning\":\"\\([^\"]*\\)\".*/\\1 \\2/' | sort -u", &root());
+    let mut numbers = 0;
+    for line in said.out.lines() {
+        let (number, meaning) = line.split_once(' ').unwrap();
+        let row = guide.lines().any(|row| row.starts_with(&format!("| {number} |")) && row.contains(meaning));
+        assert!(row, "no row of docs/GUIDE.md says {line}");
+        numbers += 1;
+    }
+    assert_eq!(numbers, 10, "{}", said.out);
+}
+
+/// The recipe of docs/NIGHT.md, with two workers on this machine: the block behind the sentence that says so.
+#[test]
+fn the_recipe_of_the_night_works() {
+    let page = fs::read_to_string(root().join("docs/NIGHT.md")).unwrap();
+    let behind = &page[page.find("## Over several machines").unwrap()..];
+    let recipe: String = behind
+        .lines()
+        .skip_while(|line| !line.starts_with("    "))
+        .take_while(|line| line.starts_with("    "))
+        .map(|line| format!("{}\n", line.trim_start()))
+        .collect();
+    assert!(recipe.contains("parallel") && recipe.contains("MACHINES=2/:"), "{recipe}");
+    let directory = fresh("recipe");
+    super::night::generated(&directory.join("night"), 40, 3);
+    let said = shell(&recipe, &directory);
+    let alone = shell("otter check -q --json night", &directory);
+    assert_eq!(said.status, alone.status, "{}", said.err);
+    let night = fs::read_to_string(directory.join("night.json")).unwrap();
+    assert_eq!(night.lines().last(), alone.out.lines().last());
+    assert!(fs::read_to_string(directory.join("night.html")).unwrap().contains("A night of 40 traces"));
+}
