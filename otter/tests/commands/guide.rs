@@ -39,3 +39,16 @@ fn the_recipe_of_the_night_works() {
     assert_eq!(night.lines().last(), alone.out.lines().last());
     assert!(fs::read_to_string(directory.join("night.html")).unwrap().contains("A night of 40 traces"));
 }
+
+/// Where the packages are missing and apt-get brings nothing, a line says which, and nothing is written.
+#[test]
+fn missing_packages_are_told() {
+    let directory = fresh("packages");
+    let words = "mkdir bin; for tool in dpkg-query apt-get; do printf '#!/bin/sh\\necho no network >&2\\nexit 100\\n' > bin/$tool; chmod +x bin/$tool; done";
+    assert_eq!(shell(words, &directory).status, 0);
+    let script = root().join("otter/packages");
+    let said = shell(&format!("PATH=$PWD/bin:$PATH {} cargo.toml; echo = $?; ls", script.display()), &directory);
+    assert_eq!(said.out, "= 1\nbin\n");
+    let last = said.err.lines().last().unwrap_or_default();
+    assert!(last.starts_with("otter/packages: not installed, and apt-get does not bring them: librust-clap-dev "), "{last}");
+}
