@@ -11,8 +11,8 @@ use wheelotter::Verdict;
 
 /// Say in sentences why a trace has no order under a model
 ///
-/// Each edge of the circle is worded by its rule and the records that it joins. Rules 6 and 7 rest on chains of other edges, which a verdict does not carry;
-/// they are named as such, and not worked out here.
+/// Each edge of the circle is worded by its rule and the records that it joins. Rules 6 and 7 rest on chains of other edges, which a verdict does
+/// not carry; they are named as such, and not worked out here.
 #[derive(clap::Args)]
 #[command(after_help = status::HELP)]
 pub struct Options {

@@ -11,8 +11,9 @@ use wheelotter::RECORDS;
 
 /// Bring in a trace of another form: the text on standard output, and a map back
 ///
-/// Axe's form is that of source document 003: stamps and comments are dropped, <..> and {..} are both a swap. Cores, addresses and values stay where they fit, and
-/// are numbered through by first appearance where they do not; 0 stays 0. What cannot be brought in is said by line, and nothing is written.
+/// Axe's form is that of source document 003: stamps and comments are dropped, <..> and {..} are both a swap. Cores, addresses and values stay
+/// where they fit, and are numbered through by first appearance where they do not; 0 stays 0. What cannot be brought in is said by line, and
+/// nothing is written.
 ///
 /// Without the stamps WMO keeps fewer pairs than Axe's: a fault found here is one there, but what is good under WMO here may be a fault there.
 #[derive(clap::Args)]

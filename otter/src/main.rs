@@ -1,5 +1,6 @@
-//! otter: a night of traces at the bench. Every verdict, order, circle, session and step comes from the proved library; otter finds files, spreads the work
-//! over the cores, counts, draws and words, and judges nothing itself. docs/NIGHT.md leads through a night, docs/GUIDE.md explains the answers.
+//! otter: a night of traces at the bench. Every verdict, order, circle, session and step comes from the proved library; otter finds files, spreads
+//! the work over the cores, counts, draws and words, and judges nothing itself. docs/NIGHT.md leads through a night, docs/GUIDE.md explains the
+//! answers.
 
 mod check;
 mod explain;

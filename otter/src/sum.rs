@@ -7,8 +7,8 @@ use std::path::PathBuf;
 
 /// Add up the parts of a night: the lines of traces that are not kept, then one summary
 ///
-/// A part without its last line is of a run that did not end, and is refused; so is one whose lines are not as many as it counts, or that is about other models.
-/// Lines of kept traces may all be left out, as by check --faults and by sum itself.
+/// A part without its last line is of a run that did not end, and is refused; so is one whose lines are not as many as it counts, or that is about
+/// other models. Lines of kept traces may all be left out, as by check --faults and by sum itself.
 #[derive(clap::Args)]
 pub struct Options {
     /// What check --json wrote

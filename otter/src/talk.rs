@@ -13,8 +13,8 @@ use wheelotter::{Answer, Asked, Session, HEAD, MARK, STANDING};
 
 /// Talk about a trace: suppose that one record came before another, ask what then follows, take it back
 ///
-/// At a terminal there is a prompt, the arrows bring earlier lines back, and Tab completes words. From a pipe each answer stands behind its line, and the status is
-/// 2 where one was turned back.
+/// At a terminal there is a prompt, the arrows bring earlier lines back, and Tab completes words. From a pipe each answer stands behind its line,
+/// and the status is 2 where one was turned back.
 #[derive(clap::Args)]
 #[command(after_help = HELP)]
 pub struct Options {

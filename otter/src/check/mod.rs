@@ -42,7 +42,8 @@ pub struct Options {
     /// Faults alike (same test program, same verdicts by the same records and rules) as one line behind the others: how many, and the first of them
     #[arg(short, long)]
     group: bool,
-    /// Compare with a night stored by --json: a line for each trace that became worse or better, is new or is gone; the status is 0 where none is worse
+    /// Compare with a night stored by --json: a line for each trace that became worse or better, is new or is gone; the status is 0 where none is
+    /// worse
     #[arg(long, value_name = "NIGHT", conflicts_with_all = ["long", "group", "faults", "json"])]
     expect: Option<PathBuf>,
     /// Faults are results: status 0 for them too (GNU parallel, Slurm and make take any other for a failed job)

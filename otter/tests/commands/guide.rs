@@ -52,3 +52,35 @@ fn missing_packages_are_told() {
     let last = said.err.lines().last().unwrap_or_default();
     assert!(last.starts_with("otter/packages: not installed, and apt-get does not bring them: librust-clap-dev "), "{last}");
 }
+
+/// What README.md shows is what otter says: a command, an empty line, and its whole output.
+#[test]
+fn readme_shows_real_output() {
+    let page = fs::read_to_string(root().join("README.md")).unwrap();
+    let lines: Vec<&str> = page.lines().collect();
+    let mut shown = 0;
+    for (i, line) in lines.iter().enumerate() {
+        let Some(words) = line.strip_prefix("    target/otter ") else { continue };
+        if words.contains("--svg") {
+            continue;
+        }
+        let block: Vec<String> = lines[i + 2..].iter().map_while(|line| line.strip_prefix("    ")).map(super::stored::timeless).collect();
+        let said = shell(&format!("otter {words} 2>&1"), &root());
+        let now: Vec<String> = said.out.lines().map(super::stored::timeless).collect();
+        assert_eq!(block, now);
+        shown += 1;
+    }
+    assert_eq!(shown, 2);
+}
+
+/// The words of the picture in README.md are those of a fresh one.
+#[test]
+fn the_picture_is_up_to_date() {
+    let words = |svg: &str| -> Vec<String> {
+        svg.lines().filter(|line| line.starts_with("<text")).map(|line| line[line.find('>').unwrap()..].to_string()).collect()
+    };
+    let stored = words(&fs::read_to_string(root().join("docs/otter.svg")).unwrap());
+    let fresh = words(&shell("otter show examples/store-buffers.txt --model sc", &root()).out);
+    assert!(stored.len() > 10);
+    assert_eq!(stored, fresh);
+}

@@ -1,4 +1,5 @@
-//! otter as people start it, against the built library: whole outputs on stored traces, a generated night, files that cannot be read, a run that was killed.
+//! otter as people start it, against the built library: whole outputs on stored traces, a generated night, files that cannot be read, a run that
+//! was killed.
 
 mod guide;
 mod night;

@@ -1,11 +1,11 @@
-//! Whole outputs. In tests/stored a line `$ WORDS` is a command; below it stands what it writes: its answers, what it says on standard error behind `! `, and its
-//! status behind `= `. Seconds and speeds are left out. STORE=1 writes them afresh, to be read before they are kept.
+//! Whole outputs. In tests/stored a line `$ WORDS` is a command; below it stands what it writes: its answers, what it says on standard error behind
+//! `! `, and its status behind `= `. Seconds and speeds are left out. STORE=1 writes them afresh, to be read before they are kept.
 
 use super::{root, shell, Said};
 use std::fs;
 
 /// How long something took is another each time.
-fn timeless(line: &str) -> String {
+pub fn timeless(line: &str) -> String {
     match (line.find("; "), line.ends_with(" a second")) {
         (Some(place), true) => format!("{}; so many seconds", &line[..place]),
         _ => line.to_string(),
