@@ -58,7 +58,7 @@ impl Spread {
         if self.quiet || !io::stderr().is_terminal() {
             return ProgressBar::hidden();
         }
-        let style = ProgressStyle::with_template("{bar:30} {pos}/{len}, {per_sec}, {eta} left").expect("a good template");
+        let style = ProgressStyle::with_template("{bar:30} {pos}/{len}, {eta} left").expect("a good template");
         ProgressBar::with_draw_target(Some(length as u64), ProgressDrawTarget::stderr()).with_style(style)
     }
 }
