@@ -8,7 +8,7 @@ use std::process::{Command, Stdio};
 /// Points from a column's head to its first row, from row to row, between two columns, and for a letter of the records' font.
 const HEAD: usize = 38;
 const ROW: usize = 54;
-const GAP: usize = 90;
+const GAP: usize = 64;
 const LETTER: f64 = 6.7;
 
 /// The rules in a few words, and the colours of their edges.
@@ -42,7 +42,7 @@ impl Picture<'_> {
             quoted(&title)
         );
         let _ = writeln!(out, "  node [shape=box, style=\"rounded,filled\", fillcolor=white, fontname=\"monospace\", fontsize=11, fixedsize=true, height=0.36];");
-        let _ = writeln!(out, "  edge [fontname=\"sans-serif\", fontsize=12, labeldistance=1.6, labelangle=30];");
+        let _ = writeln!(out, "  edge [fontname=\"sans-serif\", fontsize=12, labeldistance=2];");
         let shown = self.shown();
         let width = shown.iter().map(|i| self.label(*i).len()).max().unwrap_or(6) as f64 * LETTER + 16.0;
         for (column, core) in self.cores(&shown).into_iter().enumerate() {
@@ -50,7 +50,10 @@ impl Picture<'_> {
         }
         for (x, y, rule) in self.story.edges() {
             let colour = RULES[usize::from(rule)].1;
-            let _ = writeln!(out, "  r{x} -> r{y} [taillabel=\"{rule}\", color=\"{colour}\", fontcolor=\"{colour}\", penwidth=2];");
+            // The number stands where no box is: an edge down its own column has one on its outer side.
+            let down = self.story.records[x].core == self.story.records[y].core && x < y;
+            let look = format!("color=\"{colour}\", fontcolor=\"{colour}\", penwidth=2, labelangle={}", if down { -35 } else { 35 });
+            let _ = writeln!(out, "  r{x} -> r{y} [taillabel=\"{rule}\", {look}];");
         }
         self.legend(&mut out, &shown, width);
         out + "}\n"
