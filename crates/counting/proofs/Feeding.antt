@@ -48,6 +48,6 @@ fed-of fed rivals placed served y words l = record { long = drop-long placed 0 b
         let (u, v) = is c .0 t in
         row-dropped placed 0 b 0 (omega arith) (omega (arith, lb)) 0 c .1 (
           row-added fed words y a 0 (omega arith) (omega (arith, la)) .pairs 0 c .1
-          (elim u [ inl r ↦ inr (refl, r) | inr r ↦ inl (row-dropped rivals y served 0 (omega arith) (omega (arith, l)) 0 c .1 (r .0, λ k. r .1 (k .1))) ]),
+              (elim u [ inl r ↦ inr (refl, r) | inr r ↦ inl (row-dropped rivals y served 0 (omega arith) (omega (arith, l)) 0 c .1 (r .0, λ k. r .1 (k .1))) ]),
           λ k. v (k .1),
         )

@@ -73,8 +73,7 @@ module _ (f : Frame) (K : Table) (T : Tables) (laid : Laid f K T) (few : T .n �
         waits-for W l t e q =
             let w = waits-iff f p c W .0 (waiting-iff c W h .0 t) .0 .0 in
             let g = laid .good in
-            let (o, u) : So (bit (T .own) c W) × (So (bit placed 0 W) → ⊥) = and-iff (same-iff {a = bit (T .own) c W}) (not-iff (same-iff {a = bit placed 0 W})) .0 t in
-            (
+            let (o, u) : So (bit (T .own) c W) × (So (bit placed 0 W) → ⊥) = and-iff (same-iff {a = bit (T .own) c W}) (not-iff (same-iff {a = bit placed 0 W})) .0 t in (
               λ r. elim r [
                 | inl (i, _) ↦ absurd (u (i W o))
                 | inr (_, v) ↦ laid .fed W c l .0 (subst (λ (S : ℕ). So (bit (T .fed) S c)) e v) .value ∙ sym q
@@ -82,7 +81,7 @@ module _ (f : Frame) (K : Table) (T : Tables) (laid : Laid f K T) (few : T .n �
               λ r. inr (
                 λ i. u (i W o),
                 subst (λ (S : ℕ). So (bit (T .fed) S c)) (sym e) (laid .fed W c l .1
-                (record { writer = w; reads = reads; value = r ∙ q; later = λ z. g .fresh W (w .writes) (sym (r ∙ q) ∙ z ∙ ap (f .first) (sym (w .same))) })),
+                    (record { writer = w; reads = reads; value = r ∙ q; later = λ z. g .fresh W (w .writes) (sym (r ∙ q) ∙ z ∙ ap (f .first) (sym (w .same))) })),
               ),
             )
 

@@ -98,8 +98,8 @@ module _ (T : Tables) (list : List ℕ) (k : ℕ) (placed served : List ℕ) (le
         kept = refl;
         right = λ f K laid s m. (
           let z = ap (λ (r : ℕ × Option (List ℕ)). r .0) (same f K laid ∙ told h l e e′ f K m p s (omega (arith, taken))) in
-          let o : left < getD counts h 0 = elim (decLt left (getD counts h 0)) [ yes w ↦ w | no w ↦ absurd (false≢true (sym q ∙ so-le {m = getD counts h 0} {n = left} .1 (omega arith))) ] in
-          omega (arith, z, o),
+              let o : left < getD counts h 0 = elim (decLt left (getD counts h 0)) [ yes w ↦ w | no w ↦ absurd (false≢true (sym q ∙ so-le {m = getD counts h 0} {n = left} .1 (omega arith))) ] in
+              omega (arith, z, o),
           m,
         );
         within = tt;
@@ -118,12 +118,14 @@ module _ (T : Tables) (list : List ℕ) (k : ℕ) (placed served : List ℕ) (le
       right = λ f K laid s m.
           let (w, m′) = now .looped f K laid s m in
           let e = ap (λ (d : ℕ). plain f K d p) places-left ∙ looped-end f K (T .total - suc k) p used y w (omega (arith, laid .records)) in
-          let r = remember f (laid .good) K (bit placed 0) (bit served 0) (laid .orderly) p s used (sym (same f K laid) ∙ e) in
-          (e, λ i g. elim (eq? i h) [
-            | inl q ↦ subst (λ (i : ℕ). Remembered f K (bit (slotOf sets″ i) 0) (bit (slotOf serves″ i) 0) (getD (set counts′ h used) i 0)) (sym q)
-                (rw (a .here, b .here, getD-set-same counts′ h used 0 (omega (arith, now .numbers, room .numbers))) r)
-            | inr n ↦ rw (a .other i n, b .other i n, getD-set-other counts′ h i used 0 n) (m′ i g)
-          ]);
+          let r = remember f (laid .good) K (bit placed 0) (bit served 0) (laid .orderly) p s used (sym (same f K laid) ∙ e) in (
+            e,
+            λ i g. elim (eq? i h) [
+              | inl q ↦ subst (λ (i : ℕ). Remembered f K (bit (slotOf sets″ i) 0) (bit (slotOf serves″ i) 0) (getD (set counts′ h used) i 0)) (sym q)
+                  (rw (a .here, b .here, getD-set-same counts′ h used 0 (omega (arith, now .numbers, room .numbers))) r)
+              | inr n ↦ rw (a .other i n, b .other i n, getD-set-other counts′ h i used 0 n) (m′ i g)
+            ],
+          );
       within = now .budget;
     }
 
@@ -144,9 +146,11 @@ module _ (T : Tables) (list : List ℕ) (k : ℕ) (placed served : List ℕ) (le
         slots = now .slots;
         slots′ = now .slots′;
         numbers = now .numbers;
-        looped = λ f K laid s m. let (w, m′) = now .looped f K laid s m in
-            (rw add-one (looped-skip f K (T .total - suc k) p used y w (at-hand f K laid)
-            (off (λ t. n (next-of f K T laid (room .records) p placed served s y more .1 (next-iff f (laid .good) K (laid .orderly) p y .0 t))))), m′);
+        looped = λ f K laid s m. let (w, m′) = now .looped f K laid s m in (
+          rw add-one (looped-skip f K (T .total - suc k) p used y w (at-hand f K laid)
+              (off (λ t. n (next-of f K T laid (room .records) p placed served s y more .1 (next-iff f (laid .good) K (laid .orderly) p y .0 t))))),
+          m′,
+        );
       }
 
       module _ (next : Nexts (T .n) (T .operations) (T .reads) (T .partners) (T .own) (T .fed) placed served y) where
@@ -177,9 +181,11 @@ module _ (T : Tables) (list : List ℕ) (k : ℕ) (placed served : List ℕ) (le
               let n = next-of f K T laid (room .records) p placed served s y more .0 next in
               let c = child f K T laid (room .records) p placed served s y more n with after grown fed in
               let b = below .right f K laid (subst (λ (l : List ℕ). Stands f K l (bit with 0) (bit after 0)) (sym start) c) (now .looped f K laid s m .1) in
-              let e : T .total - (k + 1) ≡ T .total - suc k = omega arith in
-              (subst (λ (l : List ℕ). Brings (plain f K (T .total - suc k) l) (drop (k + 1) (take (T .total) list″)) (left - used - 1) r) start
-              (subst (λ (d : ℕ). Brings (plain f K d (take (k + 1) (set list′ k y))) (drop (k + 1) (take (T .total) list″)) (left - used - 1) r) e (b .0)), b .1)
+              let e : T .total - (k + 1) ≡ T .total - suc k = omega arith in (
+                subst (λ (l : List ℕ). Brings (plain f K (T .total - suc k) l) (drop (k + 1) (take (T .total) list″)) (left - used - 1) r) start
+                    (subst (λ (d : ℕ). Brings (plain f K d (take (k + 1) (set list′ k y))) (drop (k + 1) (take (T .total) list″)) (left - used - 1) r) e (b .0)),
+                b .1,
+              )
 
           pub counts-order : (c : ℕ) → r ≡ Order c → Counts T list k placed served left sets serves counts list″ sets″ serves″ counts″ (Order (used + 1 + c))
           counts-order c e = record {
@@ -188,9 +194,11 @@ module _ (T : Tables) (list : List ℕ) (k : ℕ) (placed served : List ℕ) (le
                 let (b, m′) = answer f K laid s m in
                 let a = subst (λ (r : Walked). Brings (plain f K (T .total - suc k) (p ++ (y ∷ []))) (drop (k + 1) (take (T .total) list″)) (left - used - 1) r) e b in
                 let w = looped-found f K (T .total - suc k) p used y (now .looped f K laid s m .0) (at-hand f K laid) (may f K laid s next) c (drop (k + 1) (take (T .total) list″)) a in
-                let z : used + suc c ≡ used + 1 + c = omega arith in
-                (ap (λ (d : ℕ). plain f K d p) places-left ∙ w
-                ∙ ap₂ (λ (n : ℕ) (l : List ℕ). (n, some l)) z (sym (tail p list″ k y taken is (T .total) space (omega (arith, listed, now .listed, room .places)))), m′);
+                let z : used + suc c ≡ used + 1 + c = omega arith in (
+                  ap (λ (d : ℕ). plain f K d p) places-left ∙ w
+                      ∙ ap₂ (λ (n : ℕ) (l : List ℕ). (n, some l)) z (sym (tail p list″ k y taken is (T .total) space (omega (arith, listed, now .listed, room .places)))),
+                  m′,
+                );
             within = let h : c ≤ left - used - 1 = subst (Fits (left - used - 1)) e (below .within) in omega arith;
           }
 

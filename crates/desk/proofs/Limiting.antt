@@ -84,8 +84,8 @@ limited-good text m l before z k h r t =
       s,
       ap (λ (r : Limit). limitNumber (r .outcome)) e ∙ number-at a,
       ap (λ (r : Limit). (laidOut (spelled (shown r)) ++ eight (r .steps)) ++ drop LIMITED before) e
-      ∙ ap (λ (bytes : List ℕ). (bytes ++ eight (laid a .steps)) ++ drop LIMITED before) (bytes-at a)
-      ∙ ap (λ (n : ℕ). (bytesOf (verdictIn a) ++ eight n) ++ drop LIMITED before) (count-at a),
+          ∙ ap (λ (bytes : List ℕ). (bytes ++ eight (laid a .steps)) ++ drop LIMITED before) (bytes-at a)
+          ∙ ap (λ (n : ℕ). (bytesOf (verdictIn a) ++ eight n) ++ drop LIMITED before) (count-at a),
     )
 
 pub limited-one : (text : List ℕ) (m l : ℕ) (before a b : List ℕ) (r s : ℕ) → Answered text m l before a r → Answered text m l before b s → (r ≡ s) × (a ≡ b)

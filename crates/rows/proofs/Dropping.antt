@@ -102,11 +102,13 @@ module _ (from : List ℕ) (m : ℕ) (e : List ℕ) (x : ℕ) (hx : x < RECORDS)
       forth a y s =
           let b = bit-bounds u a y s in
           let r = is a y (b .0) (b .1) .0 s in
-          let p = now .pairs a y .0 (r .0) in
-          (p .0, λ g. elim (eq? (y / WIDTH) i) [
-            | inl d ↦ r .1 (omega (arith, g .0 .0, d), sym (given y (b .1) d) ∙ g .0 .1)
-            | inr d ↦ p .1 (g .0, omega (arith, g .1))
-          ])
+          let p = now .pairs a y .0 (r .0) in (
+            p .0,
+            λ g. elim (eq? (y / WIDTH) i) [
+              | inl d ↦ r .1 (omega (arith, g .0 .0, d), sym (given y (b .1) d) ∙ g .0 .1)
+              | inr d ↦ p .1 (g .0, omega (arith, g .1))
+            ],
+          )
 
       back : (a y : ℕ) → Edges e a y × (Lost (suc i) a y → ⊥) → So (bit u a y)
       back a y (h, n) =

@@ -4,7 +4,6 @@ ghost use Rattle.trace.specs.Op.{thread, address, read, written, reads, 
 ghost use Rattle.trace.specs.Trace.{empty, started, pushed, first};
 
 pub mod cores;
-
 pub mod form;
 
 // The bounds of document 01, in this one place; specs/Bounds.antt has the same numbers for the definitions.

@@ -98,7 +98,16 @@ pub fn plain_search(t: Trace, model: u8, limit: u64) -> Counted
     let mut served = [0u64; rows::WORDS];
     let total = lay_sets(t, &mut operations, &mut reads, &mut served);
     let mut list = [0u16; RECORDS];
-    let walked = look(t, model, &operations, &reads, &served, total, limit, &mut list);
+    let walked = look(
+        t,
+        model,
+        &operations,
+        &reads,
+        &served,
+        total,
+        limit,
+        &mut list,
+    );
     match walked {
         Walked::Order(_) => Counted {
             walked,
