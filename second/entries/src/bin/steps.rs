@@ -34,13 +34,13 @@ fn main() -> ExitCode {
             let mut same = true;
             for limit in limits {
                 let (mut mine, mut theirs) = ([0xA5; LIMITED + 3], [0xA5; LIMITED + 3]);
-                let Some(wanted) = page.limited(model as u8, limit, &mut mine) else { continue };
-                let got = wheelotter::entries::limited(&text, model as u8, limit, &mut theirs);
+                let Some(wanted) = page.limited(model.number() as u8, limit, &mut mine) else { continue };
+                let got = wheelotter::entries::limited(&text, model.number() as u8, limit, &mut theirs);
                 asked += 1;
                 *answers.entry(wanted).or_default() += 1;
                 if wanted != got || mine != theirs {
                     same = false;
-                    println!("DIFFERENCE: trace {number} under {} within {limit}: wanted {wanted}, got {got}", model as u8);
+                    println!("DIFFERENCE: trace {number} under {} within {limit}: wanted {wanted}, got {got}", model.number() as u8);
                     println!("{}", String::from_utf8_lossy(&text));
                 }
             }
