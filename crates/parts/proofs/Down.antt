@@ -74,7 +74,7 @@ module _ (n : ℕ) (G : Rel) (Fault : Set → Type 0) where
         left = cut r A j;
         removed = cut-removed G r is A j;
         fault = mono (u .left) (cut r A j) (keeps (s .left) (u .left) j (u .removed) (keeps A (s .left) i (s .removed) c)) (keeps A (cut r A j) j (cut-removed G r is A j) c)
-        (λ x t. let p = u .removed x .0 t in cut-removed G r is A j x .1 (s .removed x .0 (p .0) .0, p .1)) (u .fault);
+            (λ x t. let p = u .removed x .0 t in cut-removed G r is A j x .1 (s .removed x .0 (p .0) .0, p .1)) (u .fault);
       })
     ]
 

@@ -51,8 +51,8 @@ returns c = let s = c .before .before .before .before .before .before .before .b
       p .kept,
       p .left,
       ap₂ (λ (u : Trace) (l : List ℕ). record { answer = Cut; trace = u; olds = l })
-      (c .before .before .picked .ensures ∙ picked-alike _ (p .kept) t (t .len) (p .same))
-      (c .olds .ensures ∙ ap padded (olds-alike _ (p .kept) (t .len) (p .same))),
+          (c .before .before .picked .ensures ∙ picked-alike _ (p .kept) t (t .len) (p .same))
+          (c .olds .ensures ∙ ap padded (olds-alike _ (p .kept) (t .len) (p .same))),
     )
 
 pub cut-away-spec : {M : Type 1} → statement M
