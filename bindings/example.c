@@ -1,5 +1,5 @@
 /* Reads a trace from standard input. Prints the answer to it, what is wrong with it and where, the verdict in numbers under each model, whether
- * 1 2 3 0 is an order, what the machine does under SC and TSO, and a short talk with a session under TSO. */
+ * 1 2 3 0 is an order, what is left of it where it is faulty, what the machine does under SC and TSO, and a short talk with a session under TSO. */
 #include "wheelotter.h"
 
 #include <stdio.h>
@@ -117,6 +117,30 @@ static void print_limited(uint8_t model) {
     printf("model %u within 20 steps: %s %u\n", model, answer == WHEELOTTER_UNDECIDED ? "undecided after" : "decided, steps", (unsigned)steps);
 }
 
+/* What is left of a faulty trace. */
+static void print_smaller(uint8_t model) {
+    static uint8_t out[WHEELOTTER_SMALLER];
+    uint8_t answer = wheelotter_smaller(text, text_len, model, out, sizeof out);
+    printf("model %u cut down: ", model);
+    switch (answer) {
+    case WHEELOTTER_CUT:
+        printf("left");
+        for (size_t i = 0; i < number(out); i++) {
+            printf(" %u", number(out + WHEELOTTER_OLDS + 2 * i));
+        }
+        printf(", %u bytes of text\n", number(out + 2));
+        break;
+    case WHEELOTTER_NO_SOURCE:
+        printf("no source %u\n", number(out));
+        break;
+    case WHEELOTTER_NOTHING_WRONG:
+        printf("nothing wrong\n");
+        break;
+    default:
+        printf("refused %u\n", answer);
+    }
+}
+
 static const char *word(uint8_t answer) {
     switch (answer) {
     case WHEELOTTER_DONE:
@@ -165,6 +189,7 @@ int main(void) {
     for (uint8_t model = 1; model <= WHEELOTTER_MODELS; model++) {
         print_verdict(model);
         print_limited(model);
+        print_smaller(model);
     }
     print_machine(WHEELOTTER_SC);
     print_machine(WHEELOTTER_TSO);

@@ -55,6 +55,8 @@ extern "C" {
 #define WHEELOTTER_OUT_OF_TURN 74       /* a kept pair stands the wrong way round */
 #define WHEELOTTER_WRONG_VALUE 75       /* a record would read another value */
 #define WHEELOTTER_UNDECIDED 76         /* the plain search makes more steps than the limit */
+#define WHEELOTTER_NOTHING_WRONG 77     /* a trace that is to be cut down has an order */
+#define WHEELOTTER_CUT 78               /* it was cut down */
 #define WHEELOTTER_STUCK 25             /* a step is impossible */
 #define WHEELOTTER_THROUGH 79           /* all records ran, and the buffers are empty */
 #define WHEELOTTER_NOT_THROUGH 80       /* all steps are done, and records are left or entries wait */
@@ -87,6 +89,9 @@ extern "C" {
 #define WHEELOTTER_STEPS 512            /* a list of possible steps has at most so many */
 #define WHEELOTTER_STEPS_AT 2           /* where the steps of an order begin */
 #define WHEELOTTER_REPLAY 514           /* the steps of an order in bytes have so many */
+#define WHEELOTTER_OLDS 4               /* where the old numbers begin in what is left of a trace */
+#define WHEELOTTER_LEFT 516             /* where the text begins in what is left of a trace */
+#define WHEELOTTER_SMALLER 37508        /* what is left of a trace has at most so many bytes */
 
 /* Functions. */
 
@@ -157,6 +162,21 @@ uint8_t wheelotter_run(const uint8_t *text, size_t text_len, uint8_t model, cons
  *   WHEELOTTER_REPLAYED                   wheelotter_run runs the steps through;
  *   WHEELOTTER_NO_ORDER                   the list is no valid order (wheelotter_judge tells why); there are no steps. */
 uint8_t wheelotter_steps(const uint8_t *text, size_t text_len, uint8_t model, const uint16_t *order, size_t order_len, uint8_t *out, size_t out_len);
+
+/* Cuts the trace that a text writes down, where its verdict under a model is a circle or that none is left, and writes what is left to the front of
+ * out, the rest stays; WHEELOTTER_SMALLER bytes are always enough:
+ *   0                      how many records are left, in two bytes
+ *   2                      how many bytes their text has, in two bytes
+ *   WHEELOTTER_OLDS        WHEELOTTER_RECORDS old numbers, two bytes each: the first is the number that record 0 of what is left had; unused
+ *                          places are 0
+ *   WHEELOTTER_LEFT        the text of what is left: its init lines and its records, threads as they were (it may lack one)
+ * Gives back
+ *   1 to 8, 17 or 22, or else WHEELOTTER_NO_MODEL   the text is turned back, or there is no such model; out stays as it was;
+ *   WHEELOTTER_NO_ROOM                    else out has fewer bytes than the answer, and stays as it was;
+ *   WHEELOTTER_NO_SOURCE                  a record read a value that nobody wrote; its number stands in the first two bytes, all else is 0;
+ *   WHEELOTTER_NOTHING_WRONG              the trace has an order; no record is left, all is 0;
+ *   WHEELOTTER_CUT                        what is left has no order, and no single removal from it leaves a trace without one. */
+uint8_t wheelotter_smaller(const uint8_t *text, size_t text_len, uint8_t model, uint8_t *out, size_t out_len);
 
 /* A session in bytes, WHEELOTTER_HEAD and as many more as its trace's packed file has:
  *   0                      the model

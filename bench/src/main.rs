@@ -4,6 +4,7 @@
 //!                                                   prints tables, and writes the figures into a file
 //!     bench short [SEED]                            only whether the verdicts agree
 //!     bench worst TRACES [SEED [FAMILY]]            the most placements and the longest time in each family, or in one
+//!     bench cuts TRACES [SEED]                      the time of cutting a faulty trace down
 //!     bench entries TRACES [SEED]                   the time of every entry, over so many traces of each family and model
 //!     bench stack TRACES [SEED]                     the same for its stack
 
@@ -12,6 +13,7 @@ mod calls;
 mod case;
 mod chance;
 mod clock;
+mod cuts;
 mod draw;
 mod entries;
 mod library;
@@ -29,9 +31,10 @@ fn main() -> std::io::Result<()> {
         Some("short") if !measure::short(number(1, 1)) => std::process::exit(1),
         Some("short") => {}
         Some("worst") => worst::worst(number(1, 1000), number(2, 1), words.get(3).map(String::as_str)),
+        Some("cuts") => cuts::cuts(number(1, 100), number(2, 1)),
         Some("entries") => entries::entries(number(1, 100), number(2, 1)),
         Some("stack") => stack::stack(number(1, 100), number(2, 1)),
-        _ => eprintln!("usage: bench measure TRACES SECONDS FIGURES [SEED] | short [SEED] | worst TRACES [SEED [FAMILY]] | entries|stack TRACES [SEED]"),
+        _ => eprintln!("usage: bench measure TRACES SECONDS FIGURES [SEED] | short [SEED] | worst TRACES [SEED [FAMILY]] | cuts|entries|stack TRACES [SEED]"),
     }
     Ok(())
 }

@@ -9,7 +9,7 @@
 //! | 67, 68, 69 | asked: held, not held, contradicted |
 //! | 70 to 75 | a list judged: valid, wrong length, bad number, repeat, out of turn, wrong value |
 //! | 76 | undecided: the plain search makes more steps than the limit |
-//! | 77, 78 | cut down: nothing is wrong, or what is left |
+//! | 77, 78 | to be cut down: nothing is wrong, or what is left |
 //! | 25 | the machine: an impossible step, with its place |
 //! | 79, 80 | all steps are done: the trace ran through, or not |
 //! | 81, 82 | steps that run an order through; a list that is no order |
@@ -28,7 +28,7 @@ use crate::report;
 use crate::rules::Pair;
 use crate::session::{self, Answer, Session, Talk, MOST_PAIRS};
 use crate::smaller::{smaller, Smaller};
-use crate::trace::{Model, Trace, MODELS, MOST_RECORDS};
+use crate::trace::{text_of, Model, Trace, MODELS, MOST_RECORDS};
 use crate::verdict::{judgement, verdict, Verdict};
 use std::cell::OnceCell;
 
@@ -56,7 +56,7 @@ pub const NOT_THROUGH: u8 = 80;
 pub const REPLAYED: u8 = 81;
 pub const NO_ORDER: u8 = 82;
 pub const NOTHING_WRONG: u8 = 77;
-pub const SMALLER: u8 = 78;
+pub const CUT: u8 = 78;
 
 /// A verdict in bytes: how many operations it names, the operations, the rules of a circle.
 pub const VERDICT: usize = RULES_AT + MOST_RECORDS;
@@ -75,8 +75,11 @@ pub const PLACE: usize = 2;
 /// Steps from an order: how many, and a byte each; unused ones 0. A record runs, and a store is emptied, once.
 pub const REPLAY: usize = STEPS_AT + 2 * MOST_RECORDS;
 pub const STEPS_AT: usize = 2;
-/// What is left of a trace: how many records, and their old numbers.
-pub const LEFT: usize = 2 + 2 * MOST_RECORDS;
+
+/// What is left of a trace: how many records, how many bytes their text has, their old numbers, unused ones 0; then the text. Beside a missing source
+/// the record that lacks it stands first.
+pub const LEFT: usize = OLDS_AT + 2 * MOST_RECORDS;
+pub const OLDS_AT: usize = 4;
 
 pub const PAIRS_AT: usize = 2;
 pub const CONTRADICTED_AT: usize = PAIRS_AT + 4 * MOST_PAIRS;
@@ -222,22 +225,13 @@ impl<'a> Page<'a> {
             (Ok(_), None) => return Some(NO_MODEL),
             (Ok(trace), Some(model)) => (trace, model),
         };
-        if lent.len() < LEFT {
-            return Some(NO_ROOM);
-        }
-        let (answer, numbers) = match smaller(trace, model, self.most_steps) {
-            Smaller::NoSource(load) => (NO_SOURCE, vec![load]),
-            Smaller::NothingWrong => (NOTHING_WRONG, vec![]),
-            Smaller::Cut(part) => (SMALLER, part.iter().map(|(old, _)| *old).collect()),
+        let (answer, front, olds, text) = match smaller(trace, model, self.most_steps) {
+            Smaller::NoSource(load) => (NO_SOURCE, load, vec![], vec![]),
+            Smaller::NothingWrong => (NOTHING_WRONG, 0, vec![], vec![]),
+            Smaller::Cut(part) => (CUT, part.records.len(), part.olds(), text_of(&part.trace())),
             Smaller::NotKnown => return None,
         };
-        let place = &mut lent[..LEFT];
-        place.fill(0);
-        put_number(place, numbers.len());
-        for (number, &old) in place[2..].chunks_mut(2).zip(&numbers) {
-            put_number(number, old);
-        }
-        Some(answer)
+        Some(if lay_left(lent, front, &olds, &text) { answer } else { NO_ROOM })
     }
 
     pub fn judge(&self, model: u8, list: &[u16]) -> bool {
@@ -353,6 +347,19 @@ pub fn lay_verdict(place: &mut [u8], operations: &[usize], rules: &[u8]) {
         put_number(operation, x);
     }
     place[RULES_AT..][..rules.len()].copy_from_slice(rules);
+}
+
+/// What is left of a trace, where there is room for it.
+pub fn lay_left(lent: &mut [u8], front: usize, olds: &[usize], text: &[u8]) -> bool {
+    let Some(place) = lent.get_mut(..LEFT + text.len()) else { return false };
+    place[..LEFT].fill(0);
+    put_number(place, front);
+    put_number(&mut place[2..], text.len());
+    for (number, &old) in place[OLDS_AT..LEFT].chunks_mut(2).zip(olds) {
+        put_number(number, old);
+    }
+    place[LEFT..].copy_from_slice(text);
+    true
 }
 
 // ---- sessions ----

@@ -2,11 +2,31 @@
 
 use crate::orders::{first_order, First};
 use crate::rules;
-use crate::trace::{Model, Record, Trace};
+use crate::trace::{Firsts, Model, Record, Trace};
 use crate::verdict::lowest_without_source;
 
-/// What is left, each record with its old number.
-pub type Part = Vec<(usize, Record)>;
+/// What is left, each record with its old number; memory begins as it did.
+#[derive(Clone, Debug, PartialEq, Eq)]
+pub struct Part {
+    pub firsts: Firsts,
+    pub records: Vec<(usize, Record)>,
+}
+
+impl Part {
+    pub fn whole(trace: &Trace) -> Part {
+        Part { firsts: trace.firsts, records: trace.records().iter().copied().enumerate().collect() }
+    }
+
+    /// What is left as a trace of its own.
+    pub fn trace(&self) -> Trace {
+        let records: Vec<Record> = self.records.iter().map(|(_, record)| *record).collect();
+        Trace::with(self.firsts, &records)
+    }
+
+    pub fn olds(&self) -> Vec<usize> {
+        self.records.iter().map(|(old, _)| *old).collect()
+    }
+}
 
 #[derive(Clone, Debug, PartialEq, Eq)]
 pub enum Smaller {
@@ -21,7 +41,7 @@ pub fn smaller(trace: &Trace, model: Model, most_steps: u64) -> Smaller {
     if let Some(load) = lowest_without_source(trace) {
         return Smaller::NoSource(load);
     }
-    let mut part: Part = trace.records().iter().copied().enumerate().collect();
+    let mut part = Part::whole(trace);
     match faulty(&part, model, most_steps) {
         None => return Smaller::NotKnown,
         Some(false) => return Smaller::NothingWrong,
@@ -38,7 +58,7 @@ pub fn smaller(trace: &Trace, model: Model, most_steps: u64) -> Smaller {
 
 /// What the lowest record leaves whose removal keeps the fault, if there is one.
 fn lowest_that_may_go(part: &Part, model: Model, most_steps: u64) -> Option<Option<Part>> {
-    for place in 0..part.len() {
+    for place in 0..part.records.len() {
         let left = without(part, place);
         if faulty(&left, model, most_steps)? {
             return Some(Some(left));
@@ -49,35 +69,29 @@ fn lowest_that_may_go(part: &Part, model: Model, most_steps: u64) -> Option<Opti
 
 /// One removal: a record, then whoever lost its source with what went, and so on.
 pub fn without(part: &Part, place: usize) -> Part {
+    let before = part.trace();
+    let olds = part.olds();
+    let source = |old: usize| {
+        let load = olds.iter().position(|&number| number == old).expect("it was there");
+        before.source(load).map(|source| olds[source])
+    };
     let mut left = part.clone();
-    left.remove(place);
-    let before = trace_of(part);
-    let sources: Vec<Option<usize>> = (0..part.len()).map(|load| before.source(load).map(|source| part[source].0)).collect();
+    left.records.remove(place);
     loop {
-        let there: Vec<usize> = left.iter().map(|(old, _)| *old).collect();
-        let lost = |old: usize| {
-            let at = part.iter().position(|(number, _)| *number == old).expect("it was there");
-            sources[at].is_some_and(|source| !there.contains(&source))
-        };
-        let count = left.len();
-        left.retain(|(old, _)| !lost(*old));
-        if left.len() == count {
+        let there = left.olds();
+        left.records.retain(|(old, _)| source(*old).is_none_or(|source| there.contains(&source)));
+        if left.records.len() == there.len() {
             return left;
         }
     }
 }
 
 /// Whether no valid order exists; a circle of forced edges is enough to know it.
-fn faulty(part: &Part, model: Model, most_steps: u64) -> Option<bool> {
-    let trace = trace_of(part);
+pub fn faulty(part: &Part, model: Model, most_steps: u64) -> Option<bool> {
+    let trace = part.trace();
     match first_order(&trace, model, most_steps) {
         First::Order(_) => Some(false),
         First::None => Some(true),
         First::NotKnown => rules::circle(&trace, model).map(|_| true),
     }
-}
-
-fn trace_of(part: &Part) -> Trace {
-    let records: Vec<Record> = part.iter().map(|(_, record)| *record).collect();
-    Trace::of(&records)
 }

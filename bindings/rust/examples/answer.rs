@@ -1,8 +1,9 @@
 //! Reads a trace from standard input. Prints the answer to it, what is wrong with it and where, the verdict in numbers under each model, whether
-//! 1 2 3 0 is an order, how many steps the verdict takes within 20, what the machine does under SC and TSO, and a short talk with a session under TSO.
+//! 1 2 3 0 is an order, how many steps the verdict takes within 20, what is left of it where it is faulty, what the machine does under SC and TSO, and a short talk with a session under TSO.
 
 use std::io::{self, Read};
-use wheelotter::{check, judge, limited, report, run, steps, verdict, Answer, Asked, Judgement, Limited, Model, Ran, Session, Verdict, MODELS};
+use wheelotter::{check, judge, limited, report, run, smaller, steps, verdict};
+use wheelotter::{Answer, Asked, Judgement, Limited, Model, Ran, Session, Smaller, Verdict, MODELS};
 
 fn main() -> io::Result<()> {
     let mut text = Vec::new();
@@ -59,6 +60,13 @@ fn print_verdict(text: &[u8], model: Model) {
         Err(refusal) => format!("refused {}", refusal.answer as u8),
     };
     println!("model {} within 20 steps: {within}", model as u8);
+    let left = match smaller(text, model) {
+        Ok(Smaller::Cut { olds, text }) => format!("left{}, {} bytes of text", listed(&olds), text.len()),
+        Ok(Smaller::NoSource(load)) => format!("no source {load}"),
+        Ok(Smaller::NothingWrong) => "nothing wrong".to_string(),
+        Err(refusal) => format!("refused {}", refusal.answer as u8),
+    };
+    println!("model {} cut down: {left}", model as u8);
 }
 
 /// The steps that run 1 2 3 0 through, and how the steps 0 0 1 1 end.

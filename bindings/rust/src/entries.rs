@@ -38,6 +38,7 @@ mod linked {
             out: *mut u8,
             out_len: usize,
         ) -> u8;
+        pub fn wheelotter_smaller(text: *const u8, text_len: usize, model: u8, out: *mut u8, out_len: usize) -> u8;
         pub fn wheelotter_open(text: *const u8, text_len: usize, model: u8, session: *mut u8, session_len: usize) -> u8;
         pub fn wheelotter_suppose(session: *mut u8, session_len: usize, x: usize, y: usize) -> u8;
         pub fn wheelotter_take_back(session: *mut u8, session_len: usize) -> u8;
@@ -107,6 +108,13 @@ pub fn run(text: &[u8], model: u8, steps: &[u8], out: &mut [u8]) -> u8 {
 /// else `out` is shorter, it stays as it was.
 pub fn steps(text: &[u8], model: u8, order: &[u16], out: &mut [u8]) -> u8 {
     unsafe { linked::wheelotter_steps(text.as_ptr(), text.len(), model, order.as_ptr(), order.len(), out.as_mut_ptr(), out.len()) }
+}
+
+/// Cuts a faulty trace down under a model: how many records are left and how many bytes their text has, two bytes each, from [`OLDS`](crate::OLDS) on
+/// the old numbers and from [`LEFT`](crate::LEFT) on the text; beside a missing source the record that lacks it stands first. Where the text or the
+/// model is turned back, or else `out` has fewer bytes than the answer, it stays as it was.
+pub fn smaller(text: &[u8], model: u8, out: &mut [u8]) -> u8 {
+    unsafe { linked::wheelotter_smaller(text.as_ptr(), text.len(), model, out.as_mut_ptr(), out.len()) }
 }
 
 /// Opens a session on a text in the first [`HEAD`](crate::HEAD) and as many bytes more as the packed file of its trace has, at most

@@ -176,6 +176,34 @@ pub fn steps(text: &[u8], model: Model, order: &[u16]) -> Result<Vec<u8>, Answer
     }
 }
 
+/// What comes of a trace that is to be cut down.
+#[derive(Clone, Debug, PartialEq, Eq)]
+pub enum Smaller {
+    /// The lowest record that read what nobody wrote.
+    NoSource(u16),
+    /// The trace has an order.
+    NothingWrong,
+    /// What is left has no order, and no single removal from it leaves a trace without one: the old number of each of its records, and its text, which
+    /// may lack a thread.
+    Cut { olds: Vec<u16>, text: Vec<u8> },
+}
+
+/// Cuts a faulty trace down under a model: the lowest record whose removal keeps the fault goes, with all that read from it, again and again.
+pub fn smaller(text: &[u8], model: Model) -> Result<Smaller, Refusal<'_>> {
+    let mut out = vec![0; SMALLER];
+    let answer = Answer::of(entries::smaller(text, model as u8, &mut out));
+    let number = |place: usize| u16::from_le_bytes([out[place], out[place + 1]]);
+    match answer {
+        Answer::NoSource => Ok(Smaller::NoSource(number(0))),
+        Answer::NothingWrong => Ok(Smaller::NothingWrong),
+        Answer::Cut => {
+            let olds = (0..usize::from(number(0))).map(|new| number(OLDS + 2 * new)).collect();
+            Ok(Smaller::Cut { olds, text: out[LEFT..][..usize::from(number(2))].to_vec() })
+        }
+        _ => check(text).map(|()| unreachable!("a good text is answered under every model")),
+    }
+}
+
 /// What a session knows of two operations.
 #[derive(Clone, Copy, Debug, PartialEq, Eq)]
 pub enum Asked {

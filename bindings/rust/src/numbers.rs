@@ -75,6 +75,15 @@ pub const STEPS_AT: usize = 2;
 /// The steps of an order in bytes have so many.
 pub const REPLAY: usize = 514;
 
+/// Where the old numbers begin in what is left of a trace.
+pub const OLDS: usize = 4;
+
+/// Where the text begins in what is left of a trace.
+pub const LEFT: usize = 516;
+
+/// What is left of a trace has at most so many bytes.
+pub const SMALLER: usize = 37508;
+
 /// What orders a memory may show.
 #[derive(Clone, Copy, Debug, PartialEq, Eq)]
 pub enum Model {
@@ -154,6 +163,10 @@ pub enum Answer {
     WrongValue = 75,
     /// The plain search makes more steps than the limit.
     Undecided = 76,
+    /// A trace that is to be cut down has an order.
+    NothingWrong = 77,
+    /// It was cut down.
+    Cut = 78,
     /// A step is impossible.
     Stuck = 25,
     /// All records ran, and the buffers are empty.
@@ -168,7 +181,7 @@ pub enum Answer {
 
 /// In the order of their numbers.
 #[rustfmt::skip]
-pub(crate) const ANSWERS: [Answer; 37] = [
+pub(crate) const ANSWERS: [Answer; 39] = [
     Answer::Done,
     Answer::LongText,
     Answer::LongLine,
@@ -201,6 +214,8 @@ pub(crate) const ANSWERS: [Answer; 37] = [
     Answer::OutOfTurn,
     Answer::WrongValue,
     Answer::Undecided,
+    Answer::NothingWrong,
+    Answer::Cut,
     Answer::Stuck,
     Answer::Through,
     Answer::NotThrough,

@@ -1,11 +1,12 @@
 //! Each kind of answer through the safe functions, worked out from document 01.
 
 use wheelotter::{
-    check, entries, judge, limited, report, run, steps, verdict, Answer, Asked, Judgement, Limited, Model, Ran, Refusal, Session, Verdict,
+    check, entries, judge, limited, report, run, smaller, steps, verdict, Answer, Asked, Judgement, Limited, Model, Ran, Refusal, Session,
+    Smaller, Verdict,
 };
 use wheelotter::{
-    COUNT, COUNTED, ENTRIES, FILE, FIRST, FIRSTS, HEAD, JUDGEMENT, LIMITED, MARK, MODELS, OPERATIONS, PAIRS, PLACE, RECORD, RECORDS, REPLAY, REPORT,
-    RULES, SESSION, STANDING, STEPS, STEPS_AT, TABLE, TEXT, VERDICT,
+    COUNT, COUNTED, ENTRIES, FILE, FIRST, FIRSTS, HEAD, JUDGEMENT, LEFT, LIMITED, MARK, MODELS, OLDS, OPERATIONS, PAIRS, PLACE, RECORD,
+    RECORDS, REPLAY, REPORT, RULES, SESSION, SMALLER, STANDING, STEPS, STEPS_AT, TABLE, TEXT, VERDICT,
 };
 
 const BUFFERS: &[u8] = b"0: M[0] := 1\n0: M[1] == 0\n1: M[1] := 1\n1: M[0] == 0\n";
@@ -33,6 +34,7 @@ fn the_numbers_of_the_header() {
     assert_eq!([number("LIMITED"), number("COUNTED")], [LIMITED, COUNTED]);
     assert_eq!([number("HEAD"), number("STANDING"), number("MARK"), number("TABLE")], [HEAD, STANDING, MARK, TABLE]);
     assert_eq!([number("PLACE"), number("STEPS"), number("STEPS_AT"), number("REPLAY")], [PLACE, STEPS, STEPS_AT, REPLAY]);
+    assert_eq!([number("OLDS"), number("LEFT"), number("SMALLER")], [OLDS, LEFT, SMALLER]);
     assert_eq!([number("SESSION"), number("FILE"), number("FIRSTS"), number("COUNT")], [SESSION, FILE, FIRSTS, COUNT]);
     assert_eq!([number("ENTRIES"), number("FIRST"), number("RECORD")], [ENTRIES, FIRST, RECORD]);
     assert_eq!(["SC", "TSO", "PSO", "WMO"].map(number), MODELS.map(|model| model as usize));
@@ -109,6 +111,27 @@ fn limits() {
     assert_eq!(out[COUNTED..], 10u64.to_le_bytes());
     assert_eq!(entries::limited(BUFFERS, 1, 0, &mut [0; LIMITED - 1]), Answer::NoRoom as u8);
     assert_eq!(entries::limited(BUFFERS, 5, 0, &mut []), Answer::NoModel as u8);
+}
+
+/// A store that nobody needs, a fence and a load of another address go; the two cores of BUFFERS stay, with their old numbers. Of the loads that read
+/// from a swap, and of what read from those in turn, none stays behind.
+#[test]
+fn smaller_traces() {
+    let padded = b"init: M[5] := 9\n0: M[5] == 9\n0: M[0] := 1\n0: sync\n0: M[1] == 0\n1: { M[5] == 9; M[5] := 7 }\n1: M[1] := 1\n1: M[0] == 0\n0: M[5] == 7\n";
+    let left = b"init: M[5] := 9\n0: M[0] := 1\n0: M[1] == 0\n1: M[1] := 1\n1: M[0] == 0\n".to_vec();
+    assert_eq!(smaller(padded, Model::Sc), Ok(Smaller::Cut { olds: vec![1, 3, 5, 6], text: left }));
+    assert_eq!(smaller(padded, Model::Wmo), Ok(Smaller::NothingWrong));
+    assert_eq!(smaller(BUFFERS, Model::Sc), Ok(Smaller::Cut { olds: vec![0, 1, 2, 3], text: BUFFERS.to_vec() }));
+    assert_eq!(smaller(NO_SOURCE, Model::Sc), Ok(Smaller::NoSource(2)));
+    assert_eq!(smaller(b"\n", Model::Sc).map_err(|refusal| refusal.answer), Err(Answer::NoForm));
+    let mut out = vec![7; LEFT + BUFFERS.len() - 1];
+    assert_eq!(entries::smaller(BUFFERS, 1, &mut out), Answer::NoRoom as u8);
+    assert_eq!(out, vec![7; LEFT + BUFFERS.len() - 1]);
+    out.push(7);
+    assert_eq!(entries::smaller(BUFFERS, 1, &mut out), Answer::Cut as u8);
+    assert_eq!(out[..OLDS + 8], [4, 0, 52, 0, 0, 0, 1, 0, 2, 0, 3, 0]);
+    assert_eq!(out[LEFT..], *BUFFERS);
+    assert_eq!(entries::smaller(BUFFERS, 5, &mut []), Answer::NoModel as u8);
 }
 
 #[test]

@@ -4,6 +4,7 @@ pub mod Spelling
 pub mod Limiting
 pub mod Judging
 pub mod Hosted
+pub mod Leaving
 pub mod Laying
 pub mod Tabled
 pub mod Keeping

@@ -11,6 +11,7 @@ use Rattle.desk.proofs.Spelling.{answered-one}
 use Rattle.desk.proofs.Limiting.{limited-one}
 use Rattle.desk.proofs.Judging.{judged-one}
 use Rattle.desk.proofs.Hosted.{run-one, replayed-one}
+use Rattle.desk.proofs.Leaving.{smaller-one}
 use Rattle.desk.proofs.texts.wheelotter_report.Reads as report
 use Rattle.desk.proofs.texts.wheelotter_report.Kinds as report-kinds
 use Rattle.desk.proofs.texts.wheelotter_number.Reads as number
@@ -31,6 +32,8 @@ use Rattle.desk.proofs.runs.wheelotter_run.Reads as run
 use Rattle.desk.proofs.runs.wheelotter_run.Kinds as run-kinds
 use Rattle.desk.proofs.runs.wheelotter_steps.Reads as steps
 use Rattle.desk.proofs.runs.wheelotter_steps.Kinds as steps-kinds
+use Rattle.desk.proofs.cuts.wheelotter_smaller.Reads as smaller
+use Rattle.desk.proofs.cuts.wheelotter_smaller.Kinds as smaller-kinds
 use Rattle.desk.proofs.sessions.wheelotter_open.Reads as opens
 use Rattle.desk.proofs.sessions.wheelotter_open.Kinds as open-kinds
 use Rattle.desk.proofs.sessions.wheelotter_suppose.Reads as suppose
@@ -93,6 +96,12 @@ steps-settles κs a x y s t p q =
 pub steps-leaves : Leaves 3 steps-kinds.ps steps-kinds.r (λ κs s. now (s .1 .1 .1 .0)) steps.Post
 steps-leaves κs a x y s t p q =
     replayed-one (now (a .0)) (a .1 .0) (now (a .1 .1 .0)) (now (a .1 .1 .1 .0)) (now (s .1 .1 .1 .0)) (now (t .1 .1 .1 .0)) x y p q .1
+
+pub smaller-settles : Settles 2 smaller-kinds.ps smaller-kinds.r smaller.Post
+smaller-settles κs a x y s t p q = smaller-one (now (a .0)) (a .1 .0) (now (a .1 .1 .0)) (now (s .1 .1 .0)) (now (t .1 .1 .0)) x y p q .0
+
+pub smaller-leaves : Leaves 2 smaller-kinds.ps smaller-kinds.r (λ κs s. now (s .1 .1 .0)) smaller.Post
+smaller-leaves κs a x y s t p q = smaller-one (now (a .0)) (a .1 .0) (now (a .1 .1 .0)) (now (s .1 .1 .0)) (now (t .1 .1 .0)) x y p q .1
 
 pub open-settles : Settles 2 open-kinds.ps open-kinds.r opens.Post
 open-settles κs a x y s t p q = p .0 ∙ sym (q .0)

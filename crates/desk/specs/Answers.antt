@@ -6,6 +6,7 @@
 --   VALID                          == the judge: a valid order
 --   WRONG-LENGTH, BAD-NUMBER, REPEAT, OUT-OF-TURN, WRONG-VALUE == the condition that a list fails first
 --   UNDECIDED                      == a limited verdict: the plain search makes more steps than the limit
+--   NOTHING-WRONG, CUT             == a trace that is to be cut down has an order, or was cut down
 --   THROUGH, NOT-THROUGH           == the machine: all steps are done, and the trace ran through, or not
 --   REPLAYED, NO-ORDER             == steps that run an order through, or a list that is none
 --   NO-MODEL, NOT-WELL-FORMED, NO-SOURCE == document 01's numbers of a model that does not exist, of a trace that is not well formed, and of a missing source
@@ -58,6 +59,12 @@ WRONG-VALUE = 75
 
 abbrev pub UNDECIDED : ℕ
 UNDECIDED = 76
+
+abbrev pub NOTHING-WRONG : ℕ
+NOTHING-WRONG = 77
+
+abbrev pub CUT : ℕ
+CUT = 78
 
 abbrev pub THROUGH : ℕ
 THROUGH = 79

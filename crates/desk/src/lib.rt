@@ -1,6 +1,7 @@
 // The entries for C and Rust, over numbers and byte slices. Each keeps the promise of the function behind it.
 
 mod answers;
+pub mod cuts;
 mod files;
 mod heads;
 pub mod judgements;

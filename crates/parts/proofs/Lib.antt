@@ -4,5 +4,5 @@ pub mod Embeds
 pub mod Removal
 pub mod Picked
 pub mod Alike
-pub mod Pass
-pub mod Cutting
+pub mod Down
+pub mod Looks

@@ -1,104 +1,77 @@
--- What is owed of the trace that is left of a faulty one.
+-- What is owed of the trace that is left of a faulty one: each law speaks of any set that it may be cut down to.
 --
---   left-well, left-firsts == it is well formed, and begins with the same values
---   left-faulty            == it has no valid order
---   left-stuck             == and no single removal from it leaves a trace without one
---   left-verdict           == so its verdict is a circle, or that none is left
-use mathlib.Core.Path.{_≡_, refl, sym, subst}
+--   left-order   == whichever record is removed, with what goes with it, a valid order exists
+--   left-verdict == its verdict is a circle, or that none is left
+--   cut-exactly  == a trace is cut down exactly where its verdict is a circle or that none is left
+use mathlib.Core.Path.{_≡_, refl, sym, ap, _∙_, subst}
 use mathlib.Core.Logic.{_↔_, _⊎_, inl, inr}
-use mathlib.Core.Bool.{true, false, So, _&&_, false≢true}
+use mathlib.Core.Bool.{So}
 use mathlib.Core.List.{List}
+use Prim.{Unit, tt}
 use Prim.Native.Nat.{ℕ, _<_}
 use native.Mathlib.Omega.{arith}
 use lib.ListN.{getD}
-use Rattle.laws.specs.Lowest.{Lowest}
 use Rattle.trace.specs.Order.{Valid}
 use Rattle.trace.specs.Meaning.{frameOf}
 use Rattle.trace.specs.WellFormed.{wellFormed}
 use Rattle.trace.specs.declared.Trace.{Trace}
 use Rattle.trace.proofs.Good.{good}
-use Rattle.rules.specs.Missing.{Missing, Sourced}
-use Rattle.pairs.specs.Kept.{keptOf}
+use Rattle.rules.specs.Missing.{Sourced}
+use Rattle.pairs.specs.Kept.{modelled, keptOf}
 use Rattle.pairs.proofs.KeptPairs.{kept-joins}
-use Rattle.orders.specs.Verdict.{Verdict, noSource, circle, order, noneLeft, Says, faulty}
+use Rattle.orders.specs.Verdict.{Verdict, noSource, circle, order, noneLeft, Says}
 use Rattle.orders.specs.Sought.{verdict?}
-use Rattle.orders.specs.MissingOf.{record?, missingOf}
-use Rattle.orders.specs.declared.sources.Found.{Found}
-use Rattle.orders.specs.declared.sources.Found.the-variants.{Nothing}
-use Rattle.orders.proofs.MissingOf.{missing-lowest}
+use Rattle.orders.proofs.Says.{verdict-one, circle-none, missing-none}
 use Rattle.orders.proofs.Sought.{verdict-says}
-use Rattle.parts.specs.Removal.{Set, every, goes?, cut}
+use Rattle.parts.specs.Removal.{Set, every, Goes}
+use Rattle.parts.specs.Smaller.{Removed, Left}
 use Rattle.parts.specs.Picked.{picked, olds}
-use Rattle.parts.proofs.Removal.{Closed, goes-iff, cut-closed}
-use Rattle.parts.proofs.Picked.{picks, picked-all, picked-missing}
-use Rattle.parts.proofs.Pass.{smaller-closed}
-use Rattle.parts.proofs.Cutting.{cutting-once, cutting-faulty, cutting-stuck}
-use Rattle.smaller.specs.Smaller.{faultyTrace, faultyPart, cutDown}
-use Rattle.smaller.proofs.Cutting.{faulty-iff, part-well}
+use Rattle.parts.proofs.Picked.{picked-all, picked-missing}
+use Rattle.parts.proofs.Looks.{left-closed, left-well, left-faulty, left-stuck}
+use Rattle.smaller.specs.Smaller.{By, Told}
+use Rattle.smaller.specs.declared.Answer.{Answer}
+use Rattle.smaller.specs.declared.Answer.the-variants.{NoModel, NotWellFormed, NoSource, NothingWrong, Cut}
+use Rattle.smaller.specs.declared.Smaller.{Smaller}
+use Rattle.smaller.proofs.Cutting.{NoOrder}
 
--- a verdict that is not faulty hands back an order
-ordered : (v : Verdict) → faulty v ≡ false → (xs : List ℕ) × (v ≡ order xs)
-ordered (noSource x) e = absurd (false≢true (sym e))
-ordered (circle c rs) e = absurd (false≢true (sym e))
-ordered (order xs) e = (xs, refl)
-ordered noneLeft e = absurd (false≢true (sym e))
+-- the two verdicts that are cut down
+abbrev pub Unordered : Verdict → Type 0
+Unordered (noSource x) = ⊥
+Unordered (circle c rs) = Unit {0}
+Unordered (order xs) = ⊥
+Unordered noneLeft = Unit {0}
 
-module _ (t : Trace) (w : So (wellFormed t)) (m : ℕ) where
-  -- what is left
-  abbrev part : Trace
-  part = picked t (cutDown t m)
+module _ (t : Trace) (m : ℕ) where
+  -- an order that is not ruled out is there
+  ordered : (u : Trace) → So (wellFormed u) → (NoOrder u m → ⊥) → (xs : List ℕ) × Valid (frameOf u) (keptOf m u) xs
+  ordered u v n = go (verdict? (frameOf u) (keptOf m u)) (verdict-says (frameOf u) (good u v) (keptOf m u) (kept-joins m u))
+    where
+      go : (v : Verdict) → Says (frameOf u) (keptOf m u) v → (xs : List ℕ) × Valid (frameOf u) (keptOf m u) xs
+      go (noSource x) s = absurd (n (missing-none (frameOf u) (keptOf m u) x (s .0)))
+      go (circle c rs) s = absurd (n (circle-none (frameOf u) (keptOf m u) (good u v) (c, rs) (s .1)))
+      go (order xs) s = (xs, s .2 .0)
+      go noneLeft s = absurd (n (s .2))
 
-  pub left-well : So (wellFormed part)
-  left-well = part-well t w (cutDown t m)
+  module _ (w : So (wellFormed t)) (A : Set) (left : Left t m A) where
+    pub left-order : (i : ℕ) → i < t .len → So (A i) → (B : Set) → Removed (Goes (frameOf t)) A i B
+        → (xs : List ℕ) × Valid (frameOf (picked t B)) (keptOf m (picked t B)) xs
+    left-order i h a B r = ordered (picked t B) (left-well t m w B) (left-stuck t m A left i h a B r)
 
-  pub left-firsts : part .firsts ≡ t .firsts
-  left-firsts = picks t w (cutDown t m) (t .len) (omega arith) .firsts
+    pub left-verdict : Sourced (frameOf t) → NoOrder t m → (v : Verdict) → Says (frameOf (picked t A)) (keptOf m (picked t A)) v → Unordered v
+    left-verdict sourced n (noSource x) s = absurd (sourced (getD (olds t A) x 0) (picked-missing t w A (left-closed t m A left) x (s .0)))
+    left-verdict sourced n (circle c rs) s = tt
+    left-verdict sourced n (order xs) s = absurd (left-faulty t m A left (subst (λ (u : Trace). NoOrder u m) (sym (picked-all t w)) n) xs (s .2 .0))
+    left-verdict sourced n noneLeft s = tt
 
-  says : (u : Trace) → So (wellFormed u) → Says (frameOf u) (keptOf m u) (verdict? (frameOf u) (keptOf m u))
-  says u v = verdict-says (frameOf u) (good u v) (keptOf m u) (kept-joins m u)
+  pub cut-exactly : So (modelled m) → So (wellFormed t) → (r : Smaller) → Told t m r → (v : Verdict) → Says (frameOf t) (keptOf m t) v → (r .answer ≡ Cut) ↔ Unordered v
+  cut-exactly k w r told v s = go v s (subst (λ (v : Verdict). By t m v r) (verdict-one (frameOf t) (keptOf m t) (told .says k w .0) v (told .says k w .1) s) (told .says k w .2))
+    where
+      never : (a : Answer) → (a ≡ NothingWrong) ⊎ ((x : ℕ) × (a ≡ NoSource x)) → a ≡ Cut → ⊥
+      never a (inl e) q = let z : _≡_ {A = ℕ} 0 1 = cc in omega arith
+      never a (inr (x, e)) q = let z : _≡_ {A = ℕ} 0 1 = cc in omega arith
 
-  means : (A : Set) → So (faultyPart t m A) ↔ ((xs : List ℕ) → Valid (frameOf (picked t A)) (keptOf m (picked t A)) xs → ⊥)
-  means A = faulty-iff (picked t A) (part-well t w A) m
-
-  closed : Closed (frameOf t) (cutDown t m)
-  unfolding cutDown
-  closed = smaller-closed (t .len) (goes? (frameOf t)) (faultyPart t m) (Closed (frameOf t)) (cut-closed (frameOf t) (goes? (frameOf t)) (goes-iff (frameOf t) (good t w))) (t .len) every (λ S L s a. refl)
-
-  -- a removal that leaves no fault leaves an order
-  pub left-stuck : (j : ℕ) → j < t .len → So (cutDown t m j) → let u = picked t (cut (goes? (frameOf t)) (cutDown t m) j) in (xs : List ℕ) × Valid (frameOf u) (keptOf m u) xs
-  unfolding cutDown faultyTrace
-  left-stuck j h a =
-      let r = goes? (frameOf t) in
-      let is = goes-iff (frameOf t) (good t w) in
-      let once = cutting-once t w m r is (faultyPart t m) means in
-      let u = picked t (cut r (cutDown t m) j) in
-      let stuck : (cutDown t m j && faultyPart t m (cut r (cutDown t m) j)) ≡ false
-      = subst (λ (A : Set). (A j && faultyPart t m (cut r A j)) ≡ false) (sym once) (cutting-stuck t w m r is (faultyPart t m) means j h) in
-      let free : faultyPart t m (cut r (cutDown t m) j) ≡ false = rw a at stuck in
-      let (xs, e) = ordered (verdict? (frameOf u) (keptOf m u)) free in
-      (xs, subst (Says (frameOf u) (keptOf m u)) e (says u (part-well t w (cut r (cutDown t m) j))) .2 .0)
-
-  module _ (f : So (faultyTrace t m)) where
-    fault : So (faultyTrace part m)
-    unfolding cutDown
-    fault =
-        let r = goes? (frameOf t) in
-        let is = goes-iff (frameOf t) (good t w) in
-        subst (λ (A : Set). So (faultyPart t m A)) (sym (cutting-once t w m r is (faultyPart t m) means))
-        (cutting-faulty t w m r is (faultyPart t m) means (subst (λ (u : Trace). So (faultyTrace u m)) (sym (picked-all t w)) f))
-
-    pub left-faulty : (xs : List ℕ) → Valid (frameOf part) (keptOf m part) xs → ⊥
-    left-faulty = faulty-iff part left-well m .0 fault
-
-    pub left-verdict : missingOf t ≡ Nothing → let v = verdict? (frameOf part) (keptOf m part) in ((c : List ℕ) × (rs : List ℕ) × (v ≡ circle c rs)) ⊎ (v ≡ noneLeft)
-    unfolding faultyTrace
-    left-verdict e = go (verdict? (frameOf part) (keptOf m part)) (says part left-well) fault
-      where
-        sourced : Sourced (frameOf t)
-        sourced = subst (λ (a : Found). Lowest (Missing (frameOf t)) (record? a)) e (missing-lowest t w)
-
-        go : (v : Verdict) → Says (frameOf part) (keptOf m part) v → So (faulty v) → ((c : List ℕ) × (rs : List ℕ) × (v ≡ circle c rs)) ⊎ (v ≡ noneLeft)
-        go (noSource x) s g = absurd (sourced (getD (olds t (cutDown t m)) x 0) (picked-missing t w (cutDown t m) closed x (s .0)))
-        go (circle c rs) s g = inl (c, rs, refl)
-        go (order xs) s g = absurd (false≢true g)
-        go noneLeft s g = inr refl
+      go : (v : Verdict) → Says (frameOf t) (keptOf m t) v → By t m v r → (r .answer ≡ Cut) ↔ Unordered v
+      go (noSource x) s b = (λ q. absurd (never (r .answer) (inr (x, ap (λ (r : Smaller). r .answer) b)) q), λ u. absurd u)
+      go (circle c rs) s b = (λ _. tt, λ _. ap (λ (r : Smaller). r .answer) (b .2))
+      go (order xs) s b = (λ q. absurd (never (r .answer) (inl (ap (λ (r : Smaller). r .answer) b)) q), λ u. absurd u)
+      go noneLeft s b = (λ _. tt, λ _. ap (λ (r : Smaller). r .answer) (b .2))

@@ -8,6 +8,7 @@
 //! | `case` | a case: its text, its calls, its counts, what differed |
 //! | `texts` | the entries that take a text |
 //! | `machines` | the plain machine's, and whether it agrees with the verdict |
+//! | `cuts` | a faulty trace cut down |
 //! | `sessions` | opening, and the calls on a session |
 //! | `damage` | bytes that were a session |
 //! | `compare` | a whole case |
@@ -15,6 +16,7 @@
 pub mod call;
 pub mod case;
 pub mod compare;
+pub mod cuts;
 pub mod damage;
 pub mod desk;
 pub mod lent;

@@ -2,6 +2,7 @@
 
 use crate::call::{Call, LAST_MODEL, OTHER_MODELS};
 use crate::case::Case;
+use crate::cuts;
 use crate::desk::Desk;
 use crate::lent::Lent;
 use crate::machines;
@@ -19,7 +20,8 @@ pub fn compare<D: Desk>(case: &mut Case<'_, D>) {
     let limits = limits(case);
     let judged = judged(case);
     let machines = machines::compare(case);
-    if !(readings && report && verdicts && limits && judged && machines) {
+    let cuts = cuts::compare(case);
+    if !(readings && report && verdicts && limits && judged && machines && cuts) {
         case.counts.texts_failed += 1;
     } else if case.page.trace().is_some() && case.page.output().contains(NOT_KNOWN) {
         case.counts.not_known += 1;

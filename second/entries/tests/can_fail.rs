@@ -5,15 +5,17 @@ use entries::desk::Desk;
 use second::desk::{
     self, head_of, number_at, place_of, put_number, Page, CONTRADICTED_AT, DONE, HEAD, OPERATIONS_AT, PAIRS_AT, RULES_AT, VERDICT,
 };
+use second::desk::{lay_left, CUT, LEFT, OLDS_AT};
 use second::desk::{
-    BAD_NUMBER, CIRCLE, CONTRADICTED, JUDGEMENT, LIMITED, NONE_LEFT, NOT_HELD, NO_ROOM, NO_SOURCE, ORDER, REPEAT, UNDECIDED, VALID, WRONG_LENGTH,
-    WRONG_VALUE,
+    BAD_NUMBER, CIRCLE, CONTRADICTED, JUDGEMENT, LIMITED, NONE_LEFT, NOT_HELD, NO_ROOM, NO_SOURCE, ORDER, REPEAT, UNDECIDED, VALID,
+    WRONG_LENGTH, WRONG_VALUE,
 };
 use second::desk::{NOT_THROUGH, NO_ORDER, PLACE, REPLAY, REPLAYED, STEPS_AT, STUCK, THROUGH};
 use second::families::FAMILIES;
 use second::packed::{file_of, FIRST, HEADER, RECORD};
 use second::session::{self, Session, MOST_PAIRS};
-use second::trace::Model;
+use second::smaller::{faulty, without, Part};
+use second::trace::{text_of, Model, Trace};
 
 const STEPS: u64 = 20_000;
 
@@ -22,7 +24,7 @@ struct Faulty(&'static str);
 
 const RIGHT: &str = "none";
 
-const FAULTS: [&str; 84] = [
+const FAULTS: [&str; 92] = [
     "report: a letter too far",
     "report: short memory written",
     "report: length of one line",
@@ -81,6 +83,14 @@ const FAULTS: [&str; 84] = [
     "steps: no fences at the end",
     "steps: unused places stay",
     "steps: PSO has a machine",
+    "smaller: one byte less is enough",
+    "smaller: what lies behind is wiped",
+    "smaller: memory starts at 0",
+    "smaller: new numbers for old",
+    "smaller: the highest record first",
+    "smaller: fences stay",
+    "smaller: one step deep",
+    "smaller: a swap's readers stay",
     "open: one byte less is enough",
     "open: room before the text",
     "open: refused, and too short is written",
@@ -412,6 +422,32 @@ impl Desk for Faulty {
         }
     }
 
+    fn smaller(&self, text: &[u8], model: u8, out: &mut [u8]) -> u8 {
+        let page = self.page(text);
+        let answer = page.smaller(model, out).unwrap_or(DONE);
+        if self.is("smaller: one byte less is enough") && answer == NO_ROOM {
+            let told = page.smaller(model, &mut vec![0; out.len() + 1]);
+            return told.unwrap_or(DONE);
+        }
+        let (Some(trace), Some(model), CUT) = (page.trace(), Model::numbered(model.into()), answer) else { return answer };
+        let end = LEFT + number_at(&out[2..]);
+        match self.0 {
+            "smaller: what lies behind is wiped" => out[end..].fill(0),
+            "smaller: new numbers for old" => (0..number_at(out)).for_each(|new| put_number(&mut out[OLDS_AT + 2 * new..], new)),
+            "smaller: memory starts at 0" => {
+                let lines = out[LEFT..end].split_inclusive(|&byte| byte == b'\n').filter(|line| !line.starts_with(b"init"));
+                let records = lines.collect::<Vec<_>>().concat();
+                out[LEFT..][..records.len()].copy_from_slice(&records);
+                put_number(&mut out[2..], records.len());
+            }
+            _ => {
+                let Some(part) = cut_otherwise(self.0, trace, model) else { return answer };
+                lay_left(out, part.records.len(), &part.olds(), &text_of(&part.trace()));
+            }
+        }
+        answer
+    }
+
     fn open(&self, text: &[u8], model: u8, session: &mut [u8]) -> u8 {
         let (page, before) = (self.page(text), session.to_vec());
         let needed = HEAD + page.trace().map_or(HEADER, |trace| file_of(trace).len());
@@ -486,6 +522,42 @@ impl Desk for Faulty {
         match if self.is("ask: backwards") { desk::ask(&seen, y, x) } else { desk::ask(&seen, x, y) } {
             CONTRADICTED if self.is("ask: contradicted holds nothing") => NOT_HELD,
             answer => answer,
+        }
+    }
+}
+
+/// A trace cut down by a wrong reading of request 9; None for a fault that is none of these.
+fn cut_otherwise(fault: &str, trace: &Trace, model: Model) -> Option<Part> {
+    let mut part = Part::whole(trace);
+    loop {
+        let mut places: Vec<usize> = (0..part.records.len()).collect();
+        let left = |place: usize| -> Part {
+            let readers = |part: &Part| {
+                let before = part.trace();
+                let kept = |load: &usize| *load != place && before.source(*load) != Some(place);
+                let records = (0..part.records.len()).filter(kept).map(|load| part.records[load]).collect();
+                Part { firsts: part.firsts, records }
+            };
+            let alone = |part: &Part| {
+                let mut left = part.clone();
+                left.records.remove(place);
+                left
+            };
+            match fault {
+                "smaller: one step deep" => readers(&part),
+                "smaller: a swap's readers stay" if part.records[place].1.read().is_some() => alone(&part),
+                _ => without(&part, place),
+            }
+        };
+        match fault {
+            "smaller: the highest record first" => places.reverse(),
+            "smaller: fences stay" => places.retain(|&place| !part.records[place].1.is_fence()),
+            "smaller: one step deep" | "smaller: a swap's readers stay" => (),
+            _ => return None,
+        }
+        match places.into_iter().map(left).find(|left| faulty(left, model, STEPS) == Some(true)) {
+            Some(left) => part = left,
+            None => return Some(part),
         }
     }
 }

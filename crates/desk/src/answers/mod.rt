@@ -35,6 +35,11 @@ pub const WRONG_VALUE: u8 = 75;
 // A limited verdict: the plain search makes more steps than the limit.
 pub const UNDECIDED: u8 = 76;
 
+// A trace that is to be cut down: nothing is wrong with it, or it was.
+pub const NOTHING_WRONG: u8 = 77;
+
+pub const CUT: u8 = 78;
+
 // The machine: an impossible step (document 02's number), all steps done, and whether the trace ran through; steps that run an order through, or a
 // list that is none.
 pub const STUCK: u8 = 25;

@@ -184,7 +184,7 @@ fn put_records(t: Trace, out: &mut [u8], at: usize) -> usize
 // The text of a trace at the front of a buffer, and how many bytes it has; the bytes behind it stay. A buffer that is too short stays as it is, and 0
 // comes back; one of RENDER bytes is always long enough.
 pub fn render(t: Trace, out: &mut [u8]) -> usize
-    ensures { λ r. ⌜ (r ≡ behind (renderTrace t) (now (out .entry)) 0) × (now (out .exit) ≡ putAt (renderTrace t) (now (out .entry)) 0) ⌝ }
+    ensures { λ r. ⌜ (r ≡ behind (renderTrace t) (now (out .entry)) 0) × (now (out .exit) ≡ putAt (renderTrace t) (now (out .entry)) 0) × (length (renderTrace t) ≤ RENDER) ⌝ }
 {
     let mut whole = [0u8; RENDER];
     let top = put_inits(t, &mut whole);

@@ -1,5 +1,6 @@
 // Cutting a trace down: one look at each record, from the lowest on.
 ghost use mathlib.Core.Path.{_≡_};
+ghost use mathlib.Core.Logic.{_↔_};
 ghost use mathlib.Core.Bool.{So};
 ghost use Prim.Native.Nat.{ℕ, _<_};
 ghost use lib.ListN.{length};
@@ -7,8 +8,9 @@ ghost use Rattle.trace.specs.Meaning.{frameOf};
 ghost use Rattle.trace.specs.WellFormed.{wellFormed};
 ghost use Rattle.rows.specs.Bounds.{WORDS};
 ghost use Rattle.pairs.specs.Kept.{modelled};
-ghost use Rattle.smaller.specs.Smaller.{faultyPart, cutDown, bare, cutAway, smallerOf};
-ghost use Rattle.smaller.specs.Rows.{Has, Chains, Tried};
+ghost use Rattle.parts.specs.Smaller.{Faulty};
+ghost use Rattle.smaller.specs.Smaller.{bare, Cuts, Told};
+ghost use Rattle.smaller.specs.Rows.{Has, Chains, Tried, Ended};
 use crate::Answer;
 use crate::Smaller;
 use crate::part::all;
@@ -40,7 +42,7 @@ fn bare(answer: Answer) -> Smaller
 // Whether what is left has no valid order.
 fn still_faulty(t: Trace, model: u8, kept: &[u64]) -> bool
     requires { ⌜ So (wellFormed t) × So (modelled model) ⌝ }
-    ensures { λ r. ⌜ r ≡ faultyPart t model (Has (now (kept .entry))) ⌝ }
+    ensures { λ r. ⌜ So r ↔ Faulty t model (Has (now (kept .entry))) ⌝ }
 {
     let order = first_order(picked(t, kept), model);
     !order.found
@@ -64,7 +66,7 @@ fn try_one(t: Trace, model: u8, goes: &[u64], i: usize, kept: &mut [u64])
 // One look at each record, from the lowest on.
 fn pass(t: Trace, model: u8, goes: &[u64], kept: &mut [u64])
     requires { ⌜ So (wellFormed t) × So (modelled model) × Chains (frameOf t) (now goes) × (length (now kept) ≡ WORDS) × ((x : ℕ) → x < t .len → So (Has (now kept) x)) ⌝ }
-    ensures { λ r. ⌜ ((x : ℕ) → x < t .len → Has (now (kept .exit)) x ≡ cutDown t model x) ⌝ }
+    ensures { λ r. ⌜ Ended t model (now (kept .exit)) ⌝ }
 {
     let n = t.len;
     let mut i: usize = 0;
@@ -77,7 +79,7 @@ fn pass(t: Trace, model: u8, goes: &[u64], kept: &mut [u64])
 // What is left of a faulty trace.
 fn cut_away(t: Trace, model: u8) -> Smaller
     requires { ⌜ So (wellFormed t) × So (modelled model) ⌝ }
-    ensures { λ r. ⌜ r ≡ cutAway t model ⌝ }
+    ensures { λ r. ⌜ Cuts t model r ⌝ }
 {
     let mut goes = [0u64; rows::CELLS];
     let mut kept = [0u64; rows::WORDS];
@@ -96,7 +98,7 @@ fn cut_away(t: Trace, model: u8) -> Smaller
 // A faulty trace without an order for no missing source, cut down: the lowest record whose removal keeps the fault goes, again and again. A model that
 // does not exist is told first, then a trace that is not well formed, then a record without a source, then that nothing is wrong.
 pub fn smaller(t: Trace, model: u8) -> Smaller
-    ensures { λ r. ⌜ r ≡ smallerOf t model ⌝ }
+    ensures { λ r. ⌜ Told t model r ⌝ }
 {
     if !modelled(model) {
         return bare(Answer::NoModel);

@@ -45,8 +45,11 @@ returns c = let p = c .before .before in
     let w = p .before .before .before .before in
     let i = w .before .before .before in
     let s = i .before .before .before in
-    let e = wrote-front _ _ _ _ (wrote-then _ 0 _ _ _ _ _ _ (i .put-inits .ensures .0) (w .put-records .ensures .0)) .1 in
-    (p .put .ensures .0 ∙ ap (λ (t : List ℕ). behind t (s .args .out .now) 0) e, p .put .ensures .1 ∙ ap (λ (t : List ℕ). putAt t (s .args .out .now) 0) e)
+    let e = wrote-front _ _ _ _ (wrote-then _ 0 _ _ _ _ _ _ (i .put-inits .ensures .0) (w .put-records .ensures .0)) .1 in (
+      p .put .ensures .0 ∙ ap (λ (t : List ℕ). behind t (s .args .out .now) 0) e,
+      p .put .ensures .1 ∙ ap (λ (t : List ℕ). putAt t (s .args .out .now) 0) e,
+      omega (arith, used w, ap length e, w .put-records .ensures .1),
+    )
 
 pub render-spec : {M : Type 1} → statement M
 render-spec =

@@ -5,7 +5,7 @@ use Prim.Native.Nat.{ℕ}
 use Rattle.trace.specs.declared.Trace.{Trace}
 use Rattle.parts.proofs.Alike.{picked-alike, olds-alike}
 use Rattle.orders.proofs.Accepted.{well-fits}
-use Rattle.smaller.specs.Smaller.{padded, cutDown}
+use Rattle.smaller.specs.Smaller.{padded}
 use Rattle.smaller.specs.declared.Answer.the-variants.{Cut}
 use borrow.Author.Needs.{needs}
 use Rattle.smaller.proofs.cut.cut_away.Statement.{statement}
@@ -47,11 +47,13 @@ olds-requires c κs = well-fits _ (c .before .before .before .before .before .be
 returns : tie.Need-returns
 returns c = let s = c .before .before .before .before .before .before .before .before .before .before .before .before .before .before in
     let t = s .args .t in
-    let m = s .args .model in
-    let e = c .before .before .before .before .before .pass .ensures in
-    ap₂ (λ (u : Trace) (l : List ℕ). record { answer = Cut; trace = u; olds = l })
-    (c .before .before .picked .ensures ∙ picked-alike _ (cutDown t m) t (t .len) e)
-    (c .olds .ensures ∙ ap padded (olds-alike _ (cutDown t m) (t .len) e))
+    let p = c .before .before .before .before .before .pass .ensures in (
+      p .kept,
+      p .left,
+      ap₂ (λ (u : Trace) (l : List ℕ). record { answer = Cut; trace = u; olds = l })
+          (c .before .before .picked .ensures ∙ picked-alike _ (p .kept) t (t .len) (p .same))
+          (c .olds .ensures ∙ ap padded (olds-alike _ (p .kept) (t .len) (p .same))),
+    )
 
 pub cut-away-spec : {M : Type 1} → statement M
 cut-away-spec =

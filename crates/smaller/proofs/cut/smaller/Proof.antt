@@ -1,9 +1,9 @@
 -- `smaller::cut::smaller`: what turns the question back, then whether there is an order, then what is left.
 use mathlib.Core.Path.{sym, ap, _∙_}
-use mathlib.Core.Bool.{not}
+use mathlib.Core.Bool.{not, false≢true}
 use borrow.Author.Tests.{not-true, not-false}
 use Rattle.smaller.proofs.Cutting.{faulty-found}
-use Rattle.smaller.proofs.Answers.{smaller-model, smaller-form, smaller-source, smaller-sound, smaller-cut}
+use Rattle.smaller.proofs.Answers.{told-model, told-form, told-source, told-sound, told-cut}
 use borrow.Author.Needs.{needs}
 use Rattle.smaller.proofs.cut.smaller.Statement.{statement}
 use Rattle.smaller.proofs.cut.smaller.Tie as tie
@@ -16,7 +16,7 @@ bare-requires c κs = search needs
 
 returns : tie.Need-returns
 returns c = let s = c .before .before .before in
-    c .bare .ensures ∙ smaller-model (s .args .t) (s .args .model) (sym (c .before .before .modelled .ensures) ∙ not-true _ (c .before .if1 .taken))
+    rw (c .bare .ensures) (told-model (s .args .t) (s .args .model) (sym (c .before .before .modelled .ensures) ∙ not-true _ (c .before .if1 .taken)))
 
 well-formed-requires : tie.Need-well-formed-requires
 well-formed-requires c κs = search needs
@@ -26,7 +26,7 @@ bare-requires-2 c κs = search needs
 
 returns-2 : tie.Need-returns-2
 returns-2 c = let s = c .before .before .before .before .before in
-    c .bare2 .ensures ∙ smaller-form (s .args .t) (s .args .model) (sym (c .before .before .before .before .modelled .ensures) ∙ not-false _ (c .before .before .before .if1 .left)) (sym (c .before .before .well-formed .ensures) ∙ not-true _ (c .before .if2 .taken))
+    rw (c .bare2 .ensures) (told-form (s .args .t) (s .args .model) (sym (c .before .before .before .before .modelled .ensures) ∙ not-false _ (c .before .before .before .if1 .left)) (sym (c .before .before .well-formed .ensures) ∙ not-true _ (c .before .if2 .taken)))
 
 missing-requires : tie.Need-missing-requires
 missing-requires c κs = search needs
@@ -51,7 +51,7 @@ returns-3 c = let s = c .before .before .before .before .before .before .before 
     let k = sym (c .before .before .before .before .before .before .before .before .before .modelled .ensures) ∙ not-false _ (c .before .before .before .before .before .before .before .before .if1 .left) in
     let w = sym (c .before .before .before .before .before .before .before .well-formed .ensures) ∙ not-false _ (c .before .before .before .before .before .before .if2 .left) in
     let f = faulty-found (s .args .t) w (s .args .model) k (c .before .before .first-order .result) (c .before .before .first-order .ensures) in
-    c .bare4 .ensures ∙ smaller-sound (s .args .t) (s .args .model) k w (sym (c .before .before .before .before .before .missing .ensures) ∙ c .before .before .before .enum-told .given .1) (sym f ∙ ap not (c .before .if3 .taken))
+    rw (c .bare4 .ensures) (told-sound (s .args .t) (s .args .model) k w (sym (c .before .before .before .before .before .missing .ensures) ∙ c .before .before .before .enum-told .given .1) (λ n. false≢true (sym (ap not (c .before .if3 .taken)) ∙ f .1 n)))
 
 cut-away-requires : tie.Need-cut-away-requires
 cut-away-requires c κs = (sym (c .before .before .before .before .before .before .well-formed .ensures) ∙ not-false _ (c .before .before .before .before .before .if2 .left), sym (c .before .before .before .before .before .before .before .before .modelled .ensures) ∙ not-false _ (c .before .before .before .before .before .before .before .if1 .left))
@@ -59,14 +59,14 @@ cut-away-requires c κs = (sym (c .before .before .before .before .before .befor
 returns-4 : tie.Need-returns-4
 returns-4 c = let s = c .before .before .before .before .before .before .before .before .before in
     let x = c .before .before .x .given in
-    c .bare3 .ensures ∙ smaller-source (s .args .t) (s .args .model) (sym (c .before .before .before .before .before .before .before .before .modelled .ensures) ∙ not-false _ (c .before .before .before .before .before .before .before .if1 .left)) (sym (c .before .before .before .before .before .before .well-formed .ensures) ∙ not-false _ (c .before .before .before .before .before .if2 .left)) (x .0 .0) (sym (c .before .before .before .before .missing .ensures) ∙ x .1)
+    rw (c .bare3 .ensures) (told-source (s .args .t) (s .args .model) (sym (c .before .before .before .before .before .before .before .before .modelled .ensures) ∙ not-false _ (c .before .before .before .before .before .before .before .if1 .left)) (sym (c .before .before .before .before .before .before .well-formed .ensures) ∙ not-false _ (c .before .before .before .before .before .if2 .left)) (x .0 .0) (sym (c .before .before .before .before .missing .ensures) ∙ x .1))
 
 returns-5 : tie.Need-returns-5
 returns-5 c = let s = c .before .before .before .before .before .before .before .before .before .before in
     let k = sym (c .before .before .before .before .before .before .before .before .before .modelled .ensures) ∙ not-false _ (c .before .before .before .before .before .before .before .before .if1 .left) in
     let w = sym (c .before .before .before .before .before .before .before .well-formed .ensures) ∙ not-false _ (c .before .before .before .before .before .before .if2 .left) in
     let f = faulty-found (s .args .t) w (s .args .model) k (c .before .before .first-order .result) (c .before .before .first-order .ensures) in
-    c .cut-away .ensures ∙ smaller-cut (s .args .t) (s .args .model) k w (sym (c .before .before .before .before .before .missing .ensures) ∙ c .before .before .before .enum-told .given .1) (sym f ∙ ap not (c .before .if3 .left))
+    told-cut (s .args .t) (s .args .model) k w (sym (c .before .before .before .before .before .missing .ensures) ∙ c .before .before .before .enum-told .given .1) (f .0 (ap not (c .before .if3 .left))) (c .cut-away .result) (c .cut-away .ensures)
 
 pub smaller-spec : {M : Type 1} → statement M
 smaller-spec =

@@ -5,7 +5,8 @@ use Rattle.parts.specs.Picked.{picked}
 use Rattle.orders.proofs.Accepted.{well-fits}
 use Rattle.search.specs.FirstOrder.{FirstOrder}
 use Rattle.smaller.specs.Rows.{Has}
-use Rattle.smaller.proofs.Cutting.{faulty-found, part-well}
+use Rattle.parts.proofs.Looks.{left-well}
+use Rattle.smaller.proofs.Cutting.{faulty-found}
 use borrow.Author.Needs.{needs}
 use Rattle.smaller.proofs.cut.still_faulty.Statement.{statement}
 use Rattle.smaller.proofs.cut.still_faulty.Tie as tie
@@ -21,7 +22,7 @@ returns c = let o = c .before .first-order in
     let p = c .before .before .picked in
     let s = c .before .before .before .before in
     let A = Has (s .args .kept .now) in
-    faulty-found (picked (s .args .t) A) (part-well (s .args .t) (s .pre .0) A) (s .args .model) (s .pre .1) (o .result) (subst (λ (u : Trace). FirstOrder u (s .args .model) (o .result)) (p .ensures) (o .ensures))
+    faulty-found (picked (s .args .t) A) (left-well (s .args .t) (s .args .model) (s .pre .0) A) (s .args .model) (s .pre .1) (o .result) (subst (λ (u : Trace). FirstOrder u (s .args .model) (o .result)) (p .ensures) (o .ensures))
 
 pub still-faulty-spec : {M : Type 1} → statement M
 still-faulty-spec = tie.close (tie.spec picked-requires first-order-requires returns)

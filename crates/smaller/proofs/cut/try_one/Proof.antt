@@ -1,5 +1,6 @@
 -- `smaller::cut::try_one`: a record that is not there, one that the fault does without, and one that it needs.
 use mathlib.Core.Path.{refl, sym, _∙_, subst}
+use mathlib.Core.Bool.{false≢true}
 use borrow.Author.Tests.{not-true, not-false}
 use Rattle.rows.proofs.Whole.{copy-same}
 use Rattle.orders.proofs.Accepted.{well-fits}
@@ -47,7 +48,7 @@ returns-2 c = let p = c .before .before .copy in
     let s = c .before .before .before .before .before .before .before .before .before .before .before .before .before .before .before .before .before in
     let e = sym (c .before .before .before .before .before .before .before .before .before .before .before .before .before .test .ensures) ∙ not-false _ (c .before .before .before .before .before .before .before .before .before .before .before .before .if1 .left) in
     subst (Tried (s .args .t) (s .args .model) (s .args .i) (s .args .kept .now)) (sym (p .ensures ∙ copy-same _ _ (o .ensures .0 ∙ sym (s .pre .3))))
-    (tried-yes (s .args .t) (s .pre .0) (s .args .model) (s .args .goes .now) (s .pre .2) (s .args .kept .now) (s .args .i) e _ (o .ensures .1) (o .ensures .0) (sym (f .ensures) ∙ c .before .before .before .before .before .if2 .taken))
+    (tried-yes (s .args .t) (s .pre .0) (s .args .model) (s .args .goes .now) (s .pre .2) (s .args .kept .now) (s .args .i) e _ (o .ensures .1) (o .ensures .0) (f .ensures .0 (c .before .before .before .before .before .if2 .taken)))
 
 same-length-3 : tie.Need-same-length-3
 same-length-3 c = search needs
@@ -57,7 +58,7 @@ returns-3 c = let f = c .before .still-faulty in
     let o = c .before .before .before .before .without in
     let s = c .before .before .before .before .before .before .before .before .before .before .before .before in
     let e = sym (c .before .before .before .before .before .before .before .before .test .ensures) ∙ not-false _ (c .before .before .before .before .before .before .before .if1 .left) in
-    tried-kept (s .args .t) (s .pre .0) (s .args .model) (s .args .goes .now) (s .pre .2) (s .args .kept .now) (s .args .i) e _ (o .ensures .1) (s .pre .3) (sym (f .ensures) ∙ c .if2 .left)
+    tried-kept (s .args .t) (s .pre .0) (s .args .model) (s .args .goes .now) (s .pre .2) (s .args .kept .now) (s .args .i) e _ (o .ensures .1) (s .pre .3) (λ h. false≢true (sym (c .if2 .left) ∙ f .ensures .1 h))
 
 pub try-one-spec : {M : Type 1} → statement M
 try-one-spec =
