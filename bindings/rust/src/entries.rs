@@ -38,6 +38,7 @@ mod linked {
             out: *mut u8,
             out_len: usize,
         ) -> u8;
+        pub fn wheelotter_accepts(text: *const u8, text_len: usize, model: u8, list: *const u16, list_len: usize) -> u8;
         pub fn wheelotter_open(text: *const u8, text_len: usize, model: u8, session: *mut u8, session_len: usize) -> u8;
         pub fn wheelotter_suppose(session: *mut u8, session_len: usize, x: usize, y: usize) -> u8;
         pub fn wheelotter_take_back(session: *mut u8, session_len: usize) -> u8;
@@ -107,6 +108,11 @@ pub fn run(text: &[u8], model: u8, steps: &[u8], out: &mut [u8]) -> u8 {
 /// else `out` is shorter, it stays as it was.
 pub fn steps(text: &[u8], model: u8, order: &[u16], out: &mut [u8]) -> u8 {
     unsafe { linked::wheelotter_steps(text.as_ptr(), text.len(), model, order.as_ptr(), order.len(), out.as_mut_ptr(), out.len()) }
+}
+
+/// Whether a list of numbers, from anyone, is a paper that shows that the trace of a text has no valid order under a model.
+pub fn accepts(text: &[u8], model: u8, list: &[u16]) -> u8 {
+    unsafe { linked::wheelotter_accepts(text.as_ptr(), text.len(), model, list.as_ptr(), list.len()) }
 }
 
 /// Opens a session on a text in the first [`HEAD`](crate::HEAD) and as many bytes more as the packed file of its trace has, at most

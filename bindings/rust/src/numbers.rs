@@ -164,11 +164,15 @@ pub enum Answer {
     Replayed = 81,
     /// The list is no valid order.
     NoOrder = 82,
+    /// The list shows that there is no valid order.
+    Accepted = 90,
+    /// It does not show it.
+    NotAccepted = 91,
 }
 
 /// In the order of their numbers.
 #[rustfmt::skip]
-pub(crate) const ANSWERS: [Answer; 37] = [
+pub(crate) const ANSWERS: [Answer; 39] = [
     Answer::Done,
     Answer::LongText,
     Answer::LongLine,
@@ -206,4 +210,6 @@ pub(crate) const ANSWERS: [Answer; 37] = [
     Answer::NotThrough,
     Answer::Replayed,
     Answer::NoOrder,
+    Answer::Accepted,
+    Answer::NotAccepted,
 ];

@@ -15,6 +15,7 @@ pub enum Call {
     Judge { model: u8, list: Vec<u16>, room: usize },
     Run { model: u8, steps: Vec<u8>, room: usize },
     Steps { model: u8, list: Vec<u16>, room: usize },
+    Accepts { model: u8, list: Vec<u16> },
     Open { model: u8, room: usize },
     Suppose { x: usize, y: usize },
     TakeBack,
@@ -28,8 +29,23 @@ pub const OTHER_MODELS: [u8; 5] = [0, LAST_MODEL + 1, LAST_MODEL + 2, 128, 255];
 pub const LAST_MODEL: u8 = MODELS as u8;
 
 /// The entries' names without the front that all share, in the order of the header.
-pub const ENTRIES: [&str; 14] =
-    ["report", "number", "line", "start", "end", "verdict", "limited", "judge", "run", "steps", "open", "suppose", "take_back", "ask"];
+pub const ENTRIES: [&str; 15] = [
+    "report",
+    "number",
+    "line",
+    "start",
+    "end",
+    "verdict",
+    "limited",
+    "judge",
+    "run",
+    "steps",
+    "open",
+    "suppose",
+    "take_back",
+    "ask",
+    "accepts",
+];
 
 impl Call {
     /// Which of `ENTRIES` is called.
@@ -49,6 +65,7 @@ impl Call {
             Call::Suppose { .. } => 11,
             Call::TakeBack => 12,
             Call::Ask { .. } => 13,
+            Call::Accepts { .. } => 14,
         }
     }
 
@@ -68,6 +85,7 @@ impl fmt::Display for Call {
             Call::Judge { model, list, room } => write!(f, " under {model} of {list:?} into {room} bytes"),
             Call::Run { model, steps, room } => write!(f, " under {model} by {steps:?} into {room} bytes"),
             Call::Steps { model, list, room } => write!(f, " under {model} of {list:?} into {room} bytes"),
+            Call::Accepts { model, list } => write!(f, " under {model} of {list:?}"),
             Call::Open { model, room } => write!(f, " under {model} in {room} bytes"),
             Call::Suppose { x, y } | Call::Ask { x, y } => write!(f, " {x} {y}"),
             Call::Number | Call::Line | Call::Start | Call::End | Call::TakeBack => Ok(()),

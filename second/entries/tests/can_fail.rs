@@ -9,7 +9,7 @@ use second::desk::{
     BAD_NUMBER, CIRCLE, CONTRADICTED, JUDGEMENT, LIMITED, NONE_LEFT, NOT_HELD, NO_ROOM, NO_SOURCE, ORDER, REPEAT, UNDECIDED, VALID, WRONG_LENGTH,
     WRONG_VALUE,
 };
-use second::desk::{NOT_THROUGH, NO_ORDER, PLACE, REPLAY, REPLAYED, STEPS_AT, STUCK, THROUGH};
+use second::desk::{ACCEPTED, NOT_ACCEPTED, NOT_THROUGH, NO_ORDER, PLACE, REPLAY, REPLAYED, STEPS_AT, STUCK, THROUGH};
 use second::families::FAMILIES;
 use second::packed::{file_of, FIRST, HEADER, RECORD};
 use second::session::{self, Session, MOST_PAIRS};
@@ -22,7 +22,7 @@ struct Faulty(&'static str);
 
 const RIGHT: &str = "none";
 
-const FAULTS: [&str; 84] = [
+const FAULTS: [&str; 88] = [
     "report: a letter too far",
     "report: short memory written",
     "report: length of one line",
@@ -81,6 +81,10 @@ const FAULTS: [&str; 84] = [
     "steps: no fences at the end",
     "steps: unused places stay",
     "steps: PSO has a machine",
+    "accepts: every list",
+    "accepts: numbers left over",
+    "accepts: any model is SC",
+    "accepts: no model",
     "open: one byte less is enough",
     "open: room before the text",
     "open: refused, and too short is written",
@@ -410,6 +414,22 @@ impl Desk for Faulty {
             NO_ORDER if self.is("steps: of any list") => REPLAYED,
             answer => answer,
         }
+    }
+
+    fn accepts(&self, text: &[u8], model: u8, list: &[u16]) -> u8 {
+        let page = self.page(text);
+        let there = Model::numbered(model.into()).is_some();
+        let model = match there {
+            true if self.is("accepts: any model is SC") => 1,
+            false if self.is("accepts: no model") => 2,
+            _ => model,
+        };
+        let answer = page.accepts(model, list);
+        let front = self.is("accepts: numbers left over") && (0..list.len()).any(|end| page.accepts(model, &list[..end]) == ACCEPTED);
+        if answer == NOT_ACCEPTED && (front || self.is("accepts: every list")) {
+            return ACCEPTED;
+        }
+        answer
     }
 
     fn open(&self, text: &[u8], model: u8, session: &mut [u8]) -> u8 {
