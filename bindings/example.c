@@ -1,5 +1,6 @@
 /* Reads a trace from standard input. Prints the answer to it, what is wrong with it and where, the verdict in numbers under each model, whether
- * 1 2 3 0 is an order, what is left of it where it is faulty, what the machine does under SC and TSO, and a short talk with a session under TSO. */
+ * 1 2 3 0 is an order, what is left of it where it is faulty, what the machine does under SC and TSO, whether a paper shows that there is no
+ * order, and a short talk with a session under TSO. */
 #include "wheelotter.h"
 
 #include <stdio.h>
@@ -102,6 +103,19 @@ static void print_machine(uint8_t model) {
     }
 }
 
+/* Whether five entries show that there is no order: 0 before 1, 1 before 2, 2 before 3 and 3 before 0, by rules 1 and 4, is a circle. */
+static void print_paper(uint8_t model) {
+    const uint16_t list[] = {1, 0, 1, 0, 4, 1, 2, 0, 1, 2, 3, 0, 4, 3, 0, 0, 0, 0, 0, 4, 0, 1, 2, 3};
+    uint8_t answer = wheelotter_accepts(text, text_len, model, list, sizeof list / sizeof list[0]);
+    if (answer == WHEELOTTER_ACCEPTED) {
+        printf("model %u: the paper is accepted\n", model);
+    } else if (answer == WHEELOTTER_NOT_ACCEPTED) {
+        printf("model %u: the paper is not accepted\n", model);
+    } else {
+        printf("model %u: no paper, %u\n", model, answer);
+    }
+}
+
 /* The verdict within 20 steps. */
 static void print_limited(uint8_t model) {
     uint8_t out[WHEELOTTER_LIMITED];
@@ -193,6 +207,8 @@ int main(void) {
     }
     print_machine(WHEELOTTER_SC);
     print_machine(WHEELOTTER_TSO);
+    print_paper(WHEELOTTER_SC);
+    print_paper(WHEELOTTER_TSO);
     talk();
     return 0;
 }

@@ -62,6 +62,8 @@ extern "C" {
 #define WHEELOTTER_NOT_THROUGH 80       /* all steps are done, and records are left or entries wait */
 #define WHEELOTTER_REPLAYED 81          /* steps that run an order through */
 #define WHEELOTTER_NO_ORDER 82          /* the list is no valid order */
+#define WHEELOTTER_ACCEPTED 90          /* the list shows that there is no valid order */
+#define WHEELOTTER_NOT_ACCEPTED 91      /* it does not show it */
 
 /* Bounds, lengths in bytes, and places. */
 #define WHEELOTTER_RECORDS 256          /* a trace has at most so many records */
@@ -177,6 +179,13 @@ uint8_t wheelotter_steps(const uint8_t *text, size_t text_len, uint8_t model, co
  *   WHEELOTTER_NOTHING_WRONG              the trace has an order; no record is left, all is 0;
  *   WHEELOTTER_CUT                        what is left has no order, and no single removal from it leaves a trace without one. */
 uint8_t wheelotter_smaller(const uint8_t *text, size_t text_len, uint8_t model, uint8_t *out, size_t out_len);
+
+/* Whether a list of numbers, from anyone, is a paper that shows that the trace of a text has no valid order under a model. docs/PAPERS.md has the layout
+ * of papers. Gives back
+ *   1 to 8, 17 or 22, or else WHEELOTTER_NO_MODEL   the text is turned back, or there is no such model;
+ *   WHEELOTTER_ACCEPTED                   it is, and there is no valid order;
+ *   WHEELOTTER_NOT_ACCEPTED               it is not; there may be an order or not. */
+uint8_t wheelotter_accepts(const uint8_t *text, size_t text_len, uint8_t model, const uint16_t *list, size_t list_len);
 
 /* A session in bytes, WHEELOTTER_HEAD and as many more as its trace's packed file has:
  *   0                      the model

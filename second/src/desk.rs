@@ -13,6 +13,7 @@
 //! | 25 | the machine: an impossible step, with its place |
 //! | 79, 80 | all steps are done: the trace ran through, or not |
 //! | 81, 82 | steps that run an order through; a list that is no order |
+//! | 90, 91 | a paper: accepted, or not |
 //!
 //! Numbers of records, and how many are told, are laid down in two bytes, a count of steps in eight, the low one first.
 //!
@@ -22,6 +23,7 @@
 use crate::limited::{limited, Limited};
 use crate::orders::{self, First, Judgement};
 use crate::packed::{file_of, read_entries};
+use crate::papers;
 use crate::plain::{self, has_machine, Ran};
 use crate::reader::{self, Refusal};
 use crate::report;
@@ -57,6 +59,8 @@ pub const REPLAYED: u8 = 81;
 pub const NO_ORDER: u8 = 82;
 pub const NOTHING_WRONG: u8 = 77;
 pub const CUT: u8 = 78;
+pub const ACCEPTED: u8 = 90;
+pub const NOT_ACCEPTED: u8 = 91;
 
 /// A verdict in bytes: how many operations it names, the operations, the rules of a circle.
 pub const VERDICT: usize = RULES_AT + MOST_RECORDS;
@@ -262,6 +266,16 @@ impl<'a> Page<'a> {
         put_number(place, first);
         put_number(&mut place[2..], second);
         answer
+    }
+
+    /// Whether a list is a paper that is accepted.
+    pub fn accepts(&self, model: u8, list: &[u16]) -> u8 {
+        match (&self.reading, Model::numbered(model.into())) {
+            (Err(refusal), _) => refusal.number,
+            (Ok(_), None) => NO_MODEL,
+            (Ok(trace), Some(model)) if papers::accepted(trace, model, list) => ACCEPTED,
+            (Ok(_), Some(_)) => NOT_ACCEPTED,
+        }
     }
 
     /// The trace and the model, where the text is good and the model has a machine.

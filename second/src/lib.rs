@@ -15,6 +15,7 @@
 //! | `plain` | the plain machine of document 02, number 25 |
 //! | `limited` | the verdict within a limit of steps |
 //! | `smaller` | a faulty trace cut down (request 9), literally |
+//! | `papers` | lists of reasons why there is no order (request 11): a reader, and a writer for the comparison |
 //! | `session` | suppose, take back, ask, numbers 9 to 16 |
 //! | `report` | the lines of an answer |
 //! | `desk` | the entries of the library, in bytes (their form is ours; what they say is the document's) |
@@ -33,6 +34,7 @@ pub mod lists;
 pub mod machine;
 pub mod orders;
 pub mod packed;
+pub mod papers;
 pub mod plain;
 pub mod plan;
 pub mod reader;

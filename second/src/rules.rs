@@ -47,6 +47,20 @@ pub fn last_round(trace: &Trace, model: Model, supposed: &[Pair]) -> LastRound {
     }
 }
 
+/// The edges of every round up to the last.
+pub fn rounds(trace: &Trace, model: Model, supposed: &[Pair]) -> Vec<Edges> {
+    let last = last_round(trace, model, supposed).edges;
+    let mut all = vec![round_zero(trace, model, supposed)];
+    while all[all.len() - 1].len() < last.len() {
+        let mut next = all[all.len() - 1].clone();
+        for (pair, rule) in from_chains(trace, &chains(&next)) {
+            give(&mut next, pair, rule);
+        }
+        all.push(next);
+    }
+    all
+}
+
 /// The circle that is shown, where the forced edges have one.
 pub fn circle(trace: &Trace, model: Model) -> Option<Circle> {
     let round = last_round(trace, model, &[]);

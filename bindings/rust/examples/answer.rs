@@ -2,7 +2,7 @@
 //! 1 2 3 0 is an order, how many steps the verdict takes within 20, what is left of it where it is faulty, what the machine does under SC and TSO, and a short talk with a session under TSO.
 
 use std::io::{self, Read};
-use wheelotter::{check, judge, limited, report, run, smaller, steps, verdict};
+use wheelotter::{accepts, check, judge, limited, report, run, smaller, steps, verdict};
 use wheelotter::{Answer, Asked, Judgement, Limited, Model, Ran, Session, Smaller, Verdict, MODELS};
 
 fn main() -> io::Result<()> {
@@ -12,6 +12,7 @@ fn main() -> io::Result<()> {
     print_bad_line(&text);
     MODELS.iter().for_each(|&model| print_verdict(&text, model));
     [Model::Sc, Model::Tso].iter().for_each(|&model| print_machine(&text, model));
+    [Model::Sc, Model::Tso].iter().for_each(|&model| print_paper(&text, model));
     match Session::open(&text, Model::Tso) {
         Err(_) => println!("open: refused"),
         Ok(session) => {
@@ -82,6 +83,17 @@ fn print_machine(text: &[u8], model: Model) {
         Err(refused) => (refused as u8).to_string(),
     };
     println!("model {}: steps of 1 2 3 0:{found}; 0 0 1 1: {ran}", model as u8);
+}
+
+/// Whether five entries show that there is no order: 0 before 1, 1 before 2, 2 before 3 and 3 before 0, by rules 1 and 4, is a circle.
+fn print_paper(text: &[u8], model: Model) {
+    let list = [1, 0, 1, 0, 4, 1, 2, 0, 1, 2, 3, 0, 4, 3, 0, 0, 0, 0, 0, 4, 0, 1, 2, 3];
+    let told = match accepts(text, model, &list) {
+        Ok(true) => "the paper is accepted".to_string(),
+        Ok(false) => "the paper is not accepted".to_string(),
+        Err(refusal) => format!("no paper, {}", refusal.answer as u8),
+    };
+    println!("model {}: {told}", model as u8);
 }
 
 fn done(answer: Result<(), Answer>) -> &'static str {

@@ -39,6 +39,7 @@ mod linked {
             out_len: usize,
         ) -> u8;
         pub fn wheelotter_smaller(text: *const u8, text_len: usize, model: u8, out: *mut u8, out_len: usize) -> u8;
+        pub fn wheelotter_accepts(text: *const u8, text_len: usize, model: u8, list: *const u16, list_len: usize) -> u8;
         pub fn wheelotter_open(text: *const u8, text_len: usize, model: u8, session: *mut u8, session_len: usize) -> u8;
         pub fn wheelotter_suppose(session: *mut u8, session_len: usize, x: usize, y: usize) -> u8;
         pub fn wheelotter_take_back(session: *mut u8, session_len: usize) -> u8;
@@ -115,6 +116,11 @@ pub fn steps(text: &[u8], model: u8, order: &[u16], out: &mut [u8]) -> u8 {
 /// model is turned back, or else `out` has fewer bytes than the answer, it stays as it was.
 pub fn smaller(text: &[u8], model: u8, out: &mut [u8]) -> u8 {
     unsafe { linked::wheelotter_smaller(text.as_ptr(), text.len(), model, out.as_mut_ptr(), out.len()) }
+}
+
+/// Whether a list of numbers, from anyone, is a paper that shows that the trace of a text has no valid order under a model.
+pub fn accepts(text: &[u8], model: u8, list: &[u16]) -> u8 {
+    unsafe { linked::wheelotter_accepts(text.as_ptr(), text.len(), model, list.as_ptr(), list.len()) }
 }
 
 /// Opens a session on a text in the first [`HEAD`](crate::HEAD) and as many bytes more as the packed file of its trace has, at most

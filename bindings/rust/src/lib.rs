@@ -204,6 +204,16 @@ pub fn smaller(text: &[u8], model: Model) -> Result<Smaller, Refusal<'_>> {
     }
 }
 
+/// Whether a list of numbers is a paper that shows that the trace of a text has no valid order under a model: docs/PAPERS.md has the layout. A list that is
+/// not accepted says nothing: there may be an order or not.
+pub fn accepts<'a>(text: &'a [u8], model: Model, list: &[u16]) -> Result<bool, Refusal<'a>> {
+    match Answer::of(entries::accepts(text, model as u8, list)) {
+        Answer::Accepted => Ok(true),
+        Answer::NotAccepted => Ok(false),
+        _ => check(text).map(|()| unreachable!("a list is read under every model")),
+    }
+}
+
 /// What a session knows of two operations.
 #[derive(Clone, Copy, Debug, PartialEq, Eq)]
 pub enum Asked {

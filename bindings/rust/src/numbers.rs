@@ -177,11 +177,15 @@ pub enum Answer {
     Replayed = 81,
     /// The list is no valid order.
     NoOrder = 82,
+    /// The list shows that there is no valid order.
+    Accepted = 90,
+    /// It does not show it.
+    NotAccepted = 91,
 }
 
 /// In the order of their numbers.
 #[rustfmt::skip]
-pub(crate) const ANSWERS: [Answer; 39] = [
+pub(crate) const ANSWERS: [Answer; 41] = [
     Answer::Done,
     Answer::LongText,
     Answer::LongLine,
@@ -221,4 +225,6 @@ pub(crate) const ANSWERS: [Answer; 39] = [
     Answer::NotThrough,
     Answer::Replayed,
     Answer::NoOrder,
+    Answer::Accepted,
+    Answer::NotAccepted,
 ];

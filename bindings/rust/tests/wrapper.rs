@@ -1,8 +1,8 @@
 //! Each kind of answer through the safe functions, worked out from document 01.
 
 use wheelotter::{
-    check, entries, judge, limited, report, run, smaller, steps, verdict, Answer, Asked, Judgement, Limited, Model, Ran, Refusal, Session,
-    Smaller, Verdict,
+    accepts, check, entries, judge, limited, report, run, smaller, steps, verdict, Answer, Asked, Judgement, Limited, Model, Ran, Refusal,
+    Session, Smaller, Verdict,
 };
 use wheelotter::{
     COUNT, COUNTED, ENTRIES, FILE, FIRST, FIRSTS, HEAD, JUDGEMENT, LEFT, LIMITED, MARK, MODELS, OLDS, OPERATIONS, PAIRS, PLACE, RECORD,
@@ -67,6 +67,18 @@ fn judgements() {
     assert_eq!(judged(Model::Tso, &[0, 1, 2, 3]), Judgement::WrongValue(3));
     assert_eq!(judge(b"\n", Model::Sc, &[]).map_err(|refusal| refusal.answer), Err(Answer::NoForm));
     assert_eq!(entries::judge(BUFFERS, 1, &[], &mut [0; JUDGEMENT - 1]), Answer::NoRoom as u8);
+}
+
+/// The circle of the first trace in five entries; no number of it is for show.
+#[test]
+fn papers() {
+    let list = [1, 0, 1, 0, 4, 1, 2, 0, 1, 2, 3, 0, 4, 3, 0, 0, 0, 0, 0, 4, 0, 1, 2, 3];
+    assert_eq!(accepts(BUFFERS, Model::Sc, &list), Ok(true));
+    assert_eq!(accepts(BUFFERS, Model::Tso, &list), Ok(false));
+    assert_eq!(accepts(BUFFERS, Model::Sc, &list[1..]), Ok(false));
+    assert_eq!(accepts(BUFFERS, Model::Sc, &[]), Ok(false));
+    assert_eq!(accepts(b"\n", Model::Sc, &list).map_err(|refusal| refusal.answer), Err(Answer::NoForm));
+    assert_eq!(entries::accepts(BUFFERS, 0, &list), Answer::NoModel as u8);
 }
 
 /// Two stores into their buffers, two loads from memory: the buffers have to be emptied. Under SC the second load would get 1.

@@ -6,6 +6,5 @@ pub mod Reach
 pub mod Tracing
 pub mod ShownIn
 pub mod OneCircle
-pub mod Picked
 pub mod Named
 pub mod CircleOf

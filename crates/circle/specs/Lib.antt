@@ -2,7 +2,6 @@
 pub mod Added
 pub mod Least
 pub mod Reach
-pub mod Third
 pub mod ShownIn
 pub mod Named
 pub mod CircleOf

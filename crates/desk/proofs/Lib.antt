@@ -3,6 +3,7 @@ pub mod Ranked
 pub mod Spelling
 pub mod Limiting
 pub mod Judging
+pub mod Papering
 pub mod Hosted
 pub mod Leaving
 pub mod Laying

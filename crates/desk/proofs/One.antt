@@ -10,6 +10,7 @@ use Rattle.report.proofs.One.{reported-one}
 use Rattle.desk.proofs.Spelling.{answered-one}
 use Rattle.desk.proofs.Limiting.{limited-one}
 use Rattle.desk.proofs.Judging.{judged-one}
+use Rattle.desk.proofs.Papering.{papered-one}
 use Rattle.desk.proofs.Hosted.{run-one, replayed-one}
 use Rattle.desk.proofs.Leaving.{smaller-one}
 use Rattle.desk.proofs.texts.wheelotter_report.Reads as report
@@ -28,6 +29,8 @@ use Rattle.desk.proofs.limits.wheelotter_limited.Reads as limited
 use Rattle.desk.proofs.limits.wheelotter_limited.Kinds as limited-kinds
 use Rattle.desk.proofs.judgements.wheelotter_judge.Reads as judge
 use Rattle.desk.proofs.judgements.wheelotter_judge.Kinds as judge-kinds
+use Rattle.desk.proofs.paper.wheelotter_accepts.Reads as accepts
+use Rattle.desk.proofs.paper.wheelotter_accepts.Kinds as accepts-kinds
 use Rattle.desk.proofs.runs.wheelotter_run.Reads as run
 use Rattle.desk.proofs.runs.wheelotter_run.Kinds as run-kinds
 use Rattle.desk.proofs.runs.wheelotter_steps.Reads as steps
@@ -80,6 +83,9 @@ judge-settles κs a x y s t p q =
 pub judge-leaves : Leaves 3 judge-kinds.ps judge-kinds.r (λ κs s. now (s .1 .1 .1 .0)) judge.Post
 judge-leaves κs a x y s t p q =
     judged-one (now (a .0)) (a .1 .0) (now (a .1 .1 .0)) (now (a .1 .1 .1 .0)) (now (s .1 .1 .1 .0)) (now (t .1 .1 .1 .0)) x y p q .1
+
+pub accepts-settles : Settles 2 accepts-kinds.ps accepts-kinds.r accepts.Post
+accepts-settles κs a x y s t p q = papered-one (now (a .0)) (a .1 .0) (now (a .1 .1 .0)) x y p q
 
 pub run-settles : Settles 3 run-kinds.ps run-kinds.r run.Post
 run-settles κs a x y s t p q =

@@ -9,6 +9,7 @@
 --   NOTHING-WRONG, CUT             == a trace that is to be cut down has an order, or was cut down
 --   THROUGH, NOT-THROUGH           == the machine: all steps are done, and the trace ran through, or not
 --   REPLAYED, NO-ORDER             == steps that run an order through, or a list that is none
+--   ACCEPTED, NOT-ACCEPTED         == the small reader of papers: a list is accepted, or not
 --   NO-MODEL, NOT-WELL-FORMED, NO-SOURCE == document 01's numbers of a model that does not exist, of a trace that is not well formed, and of a missing source
 --   answerTo v                     == the answer to a verdict: a missing source is document 01's 11
 --   outcomeNumber o                == the same, by its outcome as the code holds it
@@ -77,6 +78,12 @@ REPLAYED = 81
 
 abbrev pub NO-ORDER : ℕ
 NO-ORDER = 82
+
+abbrev pub ACCEPTED : ℕ
+ACCEPTED = 90
+
+abbrev pub NOT-ACCEPTED : ℕ
+NOT-ACCEPTED = 91
 
 abbrev pub NO-MODEL : ℕ
 NO-MODEL = 9

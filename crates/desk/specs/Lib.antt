@@ -8,6 +8,7 @@ pub mod Spelled
 pub mod Limits
 pub mod Heard
 pub mod Judged
+pub mod Paper
 pub mod Runs
 pub mod Head
 pub mod Kept

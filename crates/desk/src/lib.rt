@@ -6,6 +6,7 @@ mod files;
 mod heads;
 pub mod judgements;
 pub mod limits;
+pub mod paper;
 pub mod runs;
 pub mod sessions;
 pub mod texts;

@@ -16,6 +16,7 @@ pub enum Call {
     Run { model: u8, steps: Vec<u8>, room: usize },
     Steps { model: u8, list: Vec<u16>, room: usize },
     Smaller { model: u8, room: usize },
+    Accepts { model: u8, list: Vec<u16> },
     Open { model: u8, room: usize },
     Suppose { x: usize, y: usize },
     TakeBack,
@@ -29,7 +30,7 @@ pub const OTHER_MODELS: [u8; 5] = [0, LAST_MODEL + 1, LAST_MODEL + 2, 128, 255];
 pub const LAST_MODEL: u8 = MODELS as u8;
 
 /// The entries' names without the front that all share, in the order of the header.
-pub const ENTRIES: [&str; 15] = [
+pub const ENTRIES: [&str; 16] = [
     "report",
     "number",
     "line",
@@ -45,6 +46,7 @@ pub const ENTRIES: [&str; 15] = [
     "suppose",
     "take_back",
     "ask",
+    "accepts",
 ];
 
 impl Call {
@@ -66,6 +68,7 @@ impl Call {
             Call::Suppose { .. } => 12,
             Call::TakeBack => 13,
             Call::Ask { .. } => 14,
+            Call::Accepts { .. } => 15,
         }
     }
 
@@ -86,6 +89,7 @@ impl fmt::Display for Call {
             Call::Run { model, steps, room } => write!(f, " under {model} by {steps:?} into {room} bytes"),
             Call::Steps { model, list, room } => write!(f, " under {model} of {list:?} into {room} bytes"),
             Call::Smaller { model, room } => write!(f, " under {model} into {room} bytes"),
+            Call::Accepts { model, list } => write!(f, " under {model} of {list:?}"),
             Call::Open { model, room } => write!(f, " under {model} in {room} bytes"),
             Call::Suppose { x, y } | Call::Ask { x, y } => write!(f, " {x} {y}"),
             Call::Number | Call::Line | Call::Start | Call::End | Call::TakeBack => Ok(()),

@@ -14,6 +14,7 @@ pub trait Desk: Sync {
     fn run(&self, text: &[u8], model: u8, steps: &[u8], out: &mut [u8]) -> u8;
     fn steps(&self, text: &[u8], model: u8, order: &[u16], out: &mut [u8]) -> u8;
     fn smaller(&self, text: &[u8], model: u8, out: &mut [u8]) -> u8;
+    fn accepts(&self, text: &[u8], model: u8, list: &[u16]) -> u8;
     fn open(&self, text: &[u8], model: u8, session: &mut [u8]) -> u8;
     fn suppose(&self, session: &mut [u8], x: usize, y: usize) -> u8;
     fn take_back(&self, session: &mut [u8]) -> u8;
@@ -56,6 +57,9 @@ impl Desk for Proved {
     }
     fn smaller(&self, text: &[u8], model: u8, out: &mut [u8]) -> u8 {
         entries::smaller(text, model, out)
+    }
+    fn accepts(&self, text: &[u8], model: u8, list: &[u16]) -> u8 {
+        entries::accepts(text, model, list)
     }
     fn open(&self, text: &[u8], model: u8, session: &mut [u8]) -> u8 {
         entries::open(text, model, session)

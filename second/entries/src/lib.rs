@@ -9,6 +9,7 @@
 //! | `texts` | the entries that take a text |
 //! | `machines` | the plain machine's, and whether it agrees with the verdict |
 //! | `cuts` | a faulty trace cut down |
+//! | `papers` | the small reader of papers |
 //! | `sessions` | opening, and the calls on a session |
 //! | `damage` | bytes that were a session |
 //! | `compare` | a whole case |
@@ -21,5 +22,6 @@ pub mod damage;
 pub mod desk;
 pub mod lent;
 pub mod machines;
+pub mod papers;
 pub mod sessions;
 pub mod texts;

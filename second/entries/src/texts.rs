@@ -6,6 +6,7 @@ use crate::cuts;
 use crate::desk::Desk;
 use crate::lent::Lent;
 use crate::machines;
+use crate::papers;
 use second::desk::{lay_verdict, number_at, JUDGEMENT, LIMITED, NONE_LEFT, OPERATIONS_AT, ORDER, RULES_AT, VERDICT};
 use second::lists::drawn;
 use second::report::NOT_KNOWN;
@@ -21,7 +22,8 @@ pub fn compare<D: Desk>(case: &mut Case<'_, D>) {
     let judged = judged(case);
     let machines = machines::compare(case);
     let cuts = cuts::compare(case);
-    if !(readings && report && verdicts && limits && judged && machines && cuts) {
+    let papers = papers::compare(case);
+    if !(readings && report && verdicts && limits && judged && machines && cuts && papers) {
         case.counts.texts_failed += 1;
     } else if case.page.trace().is_some() && case.page.output().contains(NOT_KNOWN) {
         case.counts.not_known += 1;

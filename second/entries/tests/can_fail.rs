@@ -10,7 +10,7 @@ use second::desk::{
     BAD_NUMBER, CIRCLE, CONTRADICTED, JUDGEMENT, LIMITED, NONE_LEFT, NOT_HELD, NO_ROOM, NO_SOURCE, ORDER, REPEAT, UNDECIDED, VALID,
     WRONG_LENGTH, WRONG_VALUE,
 };
-use second::desk::{NOT_THROUGH, NO_ORDER, PLACE, REPLAY, REPLAYED, STEPS_AT, STUCK, THROUGH};
+use second::desk::{ACCEPTED, NOT_ACCEPTED, NOT_THROUGH, NO_ORDER, PLACE, REPLAY, REPLAYED, STEPS_AT, STUCK, THROUGH};
 use second::families::FAMILIES;
 use second::packed::{file_of, FIRST, HEADER, RECORD};
 use second::session::{self, Session, MOST_PAIRS};
@@ -24,7 +24,7 @@ struct Faulty(&'static str);
 
 const RIGHT: &str = "none";
 
-const FAULTS: [&str; 92] = [
+const FAULTS: [&str; 96] = [
     "report: a letter too far",
     "report: short memory written",
     "report: length of one line",
@@ -91,6 +91,10 @@ const FAULTS: [&str; 92] = [
     "smaller: fences stay",
     "smaller: one step deep",
     "smaller: a swap's readers stay",
+    "accepts: every list",
+    "accepts: numbers left over",
+    "accepts: any model is SC",
+    "accepts: no model",
     "open: one byte less is enough",
     "open: room before the text",
     "open: refused, and too short is written",
@@ -444,6 +448,22 @@ impl Desk for Faulty {
                 let Some(part) = cut_otherwise(self.0, trace, model) else { return answer };
                 lay_left(out, part.records.len(), &part.olds(), &text_of(&part.trace()));
             }
+        }
+        answer
+    }
+
+    fn accepts(&self, text: &[u8], model: u8, list: &[u16]) -> u8 {
+        let page = self.page(text);
+        let there = Model::numbered(model.into()).is_some();
+        let model = match there {
+            true if self.is("accepts: any model is SC") => 1,
+            false if self.is("accepts: no model") => 2,
+            _ => model,
+        };
+        let answer = page.accepts(model, list);
+        let front = self.is("accepts: numbers left over") && (0..list.len()).any(|end| page.accepts(model, &list[..end]) == ACCEPTED);
+        if answer == NOT_ACCEPTED && (front || self.is("accepts: every list")) {
+            return ACCEPTED;
         }
         answer
     }

@@ -8,9 +8,9 @@ ghost use Rattle.pairs.specs.Kept.{keptOf};
 ghost use Rattle.rules.specs.Circle.{after};
 ghost use Rattle.circle.specs.Named.{Named};
 ghost use Rattle.circle.specs.CircleOf.{CircleOf};
-use crate::rule::lowest_rule;
 use crate::trail::shown;
 use edges::force::last_round;
+use ruling::lowest_rule;
 use trace::RECORDS;
 use trace::Trace;
 

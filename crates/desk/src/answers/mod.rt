@@ -51,3 +51,8 @@ pub const NOT_THROUGH: u8 = 80;
 pub const REPLAYED: u8 = 81;
 
 pub const NO_ORDER: u8 = 82;
+
+// The small reader of papers: a list is accepted, or not.
+pub const ACCEPTED: u8 = 90;
+
+pub const NOT_ACCEPTED: u8 = 91;

@@ -1,0 +1,8 @@
+-- Laws of papers.
+pub mod Sound
+pub mod Branches
+pub mod Taking
+pub mod Showing
+pub mod Told
+pub mod Knot
+pub mod One

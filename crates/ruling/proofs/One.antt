@@ -1,0 +1,15 @@
+-- No second answer meets the contract of a public function.
+--
+--   FUNCTION-settles == the contract settles what the function gives back
+use mathlib.Core.Path.{_∙_, sym}
+use Rattle.laws.specs.Settles.{Settles}
+use Rattle.ruling.proofs.lowest_rule.Reads as lowest-rule
+use Rattle.ruling.proofs.lowest_rule.Kinds as lowest-rule-kinds
+use Rattle.ruling.proofs.gives.Reads as gives
+use Rattle.ruling.proofs.gives.Kinds as gives-kinds
+
+pub lowest-rule-settles : Settles 1 lowest-rule-kinds.ps lowest-rule-kinds.r lowest-rule.Post
+lowest-rule-settles κs a x y s t p q = p ∙ sym q
+
+pub gives-settles : Settles 1 gives-kinds.ps gives-kinds.r gives.Post
+gives-settles κs a x y s t p q = p ∙ sym q

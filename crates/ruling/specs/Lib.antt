@@ -1,0 +1,2 @@
+-- Which rule gives an edge of a trace.
+pub mod Third

@@ -1,0 +1,127 @@
+// Which rule gives an edge of a trace, no pairs supposed: the tests of the rules, one edge at a time.
+ghost use mathlib.Core.Path.{_≡_};
+ghost use Rattle.laws.specs.Tests.{any};
+ghost use Rattle.trace.specs.Meaning.{frameOf};
+ghost use Rattle.rows.specs.Rows.{bit};
+ghost use Rattle.pairs.specs.Kept.{keptOf};
+ghost use Rattle.rules.specs.Rules.{nothing};
+ghost use Rattle.rules.specs.Tests.{writer?, source?, first?, gives?};
+ghost use Rattle.ruling.specs.Third.{beforeSource, afterLoad};
+ghost use Rattle.rules.specs.ShownCircle.{rule?};
+use pairs::kept;
+use pairs::op_at;
+use trace::Trace;
+use trace::first;
+
+// Whether x is before y in program order.
+fn earlier(t: Trace, x: usize, y: usize) -> bool
+    ensures { λ r. ⌜ r ≡ frameOf t .earlier x y ⌝ }
+{
+    (x < y) & (op_at(t, x).thread() == op_at(t, y).thread())
+}
+
+// Whether a record writes the address of another.
+fn writer(t: Trace, x: usize, load: usize) -> bool
+    ensures { λ r. ⌜ r ≡ writer? (frameOf t) x load ⌝ }
+{
+    let n = t.len;
+    let a = op_at(t, x);
+    let b = op_at(t, load);
+    (x < n) & a.writes() & (a.address() == b.address()) & (x != load)
+}
+
+// Whether a record is the source of another.
+fn source(t: Trace, x: usize, load: usize) -> bool
+    ensures { λ r. ⌜ r ≡ source? (frameOf t) x load ⌝ }
+{
+    let n = t.len;
+    let a = op_at(t, x);
+    let b = op_at(t, load);
+    let reads = (load < n) & b.reads();
+    writer(t, x, load) & reads & (b.read() == a.written()) & (b.read() != first(t, b.address()))
+}
+
+// Whether a record reads what its address begins with, and another writes that address.
+fn begins(t: Trace, x: usize, load: usize) -> bool
+    ensures { λ r. ⌜ r ≡ first? (frameOf t) x load ⌝ }
+{
+    let n = t.len;
+    let b = op_at(t, load);
+    let reads = (load < n) & b.reads();
+    writer(t, x, load) & reads & (b.read() == first(t, b.address()))
+}
+
+// Whether y is the source of a load that x, another writer, is known to be before: by program order, or where chains count by a chain.
+fn before_source(t: Trace, chains: &[u64], chained: bool, x: usize, y: usize) -> bool
+    ensures { λ r. ⌜ r ≡ any (t .len) (beforeSource (frameOf t) chained (bit (now (chains .entry))) x y) ⌝ }
+{
+    let n = t.len;
+    let mut load: usize = 0;
+    while load < n {
+        let known = (chained & rows::test(chains, x, load)) | (!chained & earlier(t, x, load));
+        if source(t, y, load) & writer(t, x, load) & (x != y) & known {
+            return true;
+        }
+        load += 1;
+    }
+    false
+}
+
+// Whether x is a load and y another writer that a chain leads to from the source of x.
+fn after_load(t: Trace, chains: &[u64], x: usize, y: usize) -> bool
+    ensures { λ r. ⌜ r ≡ any (t .len) (afterLoad (frameOf t) (bit (now (chains .entry))) x y) ⌝ }
+{
+    let n = t.len;
+    let mut from: usize = 0;
+    while from < n {
+        if source(t, from, x) & writer(t, y, x) & (y != from) & rows::test(chains, from, y) {
+            return true;
+        }
+        from += 1;
+    }
+    false
+}
+
+// The lowest rule that gives the edge x, y from the chains of the round before; 0 where none does.
+pub fn lowest_rule(t: Trace, model: u8, chains: &[u64], x: usize, y: usize) -> u8
+    ensures { λ r. ⌜ r ≡ rule? (frameOf t) (keptOf model t) nothing (bit (now (chains .entry))) x y ⌝ }
+{
+    if kept(t, model, x, y) {
+        return 1;
+    }
+    if source(t, x, y) & !earlier(t, x, y) {
+        return 2;
+    }
+    if before_source(t, chains, false, x, y) {
+        return 3;
+    }
+    if begins(t, y, x) {
+        return 4;
+    }
+    if begins(t, x, y) & earlier(t, x, y) {
+        return 5;
+    }
+    if before_source(t, chains, true, x, y) {
+        return 6;
+    }
+    if after_load(t, chains, x, y) {
+        return 7;
+    }
+    0
+}
+
+// Whether a rule gives the edge x, y from the chains of the round before; 8 gives nothing, as no pairs are supposed.
+pub fn gives(t: Trace, model: u8, chains: &[u64], x: usize, y: usize, rule: usize) -> bool
+    ensures { λ r. ⌜ r ≡ gives? (frameOf t) (keptOf model t) nothing (bit (now (chains .entry))) x y rule ⌝ }
+{
+    match rule {
+        1 => kept(t, model, x, y),
+        2 => source(t, x, y) & !earlier(t, x, y),
+        3 => before_source(t, chains, false, x, y),
+        4 => begins(t, y, x),
+        5 => begins(t, x, y) & earlier(t, x, y),
+        6 => before_source(t, chains, true, x, y),
+        7 => after_load(t, chains, x, y),
+        _ => false,
+    }
+}
