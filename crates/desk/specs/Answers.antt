@@ -8,6 +8,7 @@
 --   UNDECIDED                      == a limited verdict: the plain search makes more steps than the limit
 --   THROUGH, NOT-THROUGH           == the machine: all steps are done, and the trace ran through, or not
 --   REPLAYED, NO-ORDER             == steps that run an order through, or a list that is none
+--   WAITS                          == a session: a load or swap waits for its source
 --   NO-MODEL, NOT-WELL-FORMED, NO-SOURCE == document 01's numbers of a model that does not exist, of a trace that is not well formed, and of a missing source
 --   answerTo v                     == the answer to a verdict: a missing source is document 01's 11
 --   outcomeNumber o                == the same, by its outcome as the code holds it
@@ -70,6 +71,9 @@ REPLAYED = 81
 
 abbrev pub NO-ORDER : ℕ
 NO-ORDER = 82
+
+abbrev pub WAITS : ℕ
+WAITS = 90
 
 abbrev pub NO-MODEL : ℕ
 NO-MODEL = 9

@@ -12,4 +12,5 @@ pub mod Runs
 pub mod Head
 pub mod Kept
 pub mod Acts
+pub mod Grown
 pub mod Opened

@@ -2,6 +2,7 @@
 
 mod answers;
 mod files;
+pub mod growing;
 mod heads;
 pub mod judgements;
 pub mod limits;

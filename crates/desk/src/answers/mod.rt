@@ -46,3 +46,6 @@ pub const NOT_THROUGH: u8 = 80;
 pub const REPLAYED: u8 = 81;
 
 pub const NO_ORDER: u8 = 82;
+
+// A session: a load or swap waits for its source.
+pub const WAITS: u8 = 90;
