@@ -15,7 +15,7 @@
 //! | `plain` | the plain machine of document 02, number 25 |
 //! | `limited` | the verdict within a limit of steps |
 //! | `smaller` | a faulty trace cut down (request 9), literally |
-//! | `session` | suppose, take back, ask, numbers 9 to 16 |
+//! | `session` | suppose, take back, ask, add, waiting, numbers 9 to 16 |
 //! | `report` | the lines of an answer |
 //! | `desk` | the entries of the library, in bytes (their form is ours; what they say is the document's) |
 //! | `bench` | the program at the bench |

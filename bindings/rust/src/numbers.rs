@@ -63,7 +63,7 @@ pub const RECORD: usize = 8;
 /// What the judge names has so many bytes.
 pub const JUDGEMENT: usize = 4;
 
-/// The place of an impossible step has so many bytes.
+/// The place of an impossible step, and the number of a record that waits, has so many bytes.
 pub const PLACE: usize = 2;
 
 /// A list of possible steps has at most so many.
@@ -90,7 +90,7 @@ pub const MODELS: [Model; 4] = [Model::Sc, Model::Tso, Model::Pso, Model::Wmo];
 /// One table of answers for every entry; docs/GUIDE.md explains them. (10 is for traces that were not read from a text: no entry gives it.)
 #[derive(Clone, Copy, Debug, PartialEq, Eq)]
 pub enum Answer {
-    /// The text is good; or opened, supposed, taken back.
+    /// The text is good; or opened, supposed, taken back, added; or none waits.
     Done = 0,
     /// Over 32,768 bytes.
     LongText = 1,
@@ -112,7 +112,7 @@ pub enum Answer {
     NoModel = 9,
     /// Somebody reads what nobody wrote.
     NoSource = 11,
-    /// Not a session that opening and supposing make.
+    /// Not a session that opening, adding and supposing make.
     NoSession = 12,
     /// A record that is a fence or past the end.
     NoOperation = 13,
@@ -124,6 +124,8 @@ pub enum Answer {
     NoPair = 16,
     /// An init line behind a record, or a second one for its address.
     LateInit = 17,
+    /// Fields that are no record: a kind past 3, or a number that it does not carry and is not 0.
+    NoEntry = 20,
     /// The lent memory is too short, and stays as it was.
     NoRoom = 21,
     /// A core appears in the text, and a lower one does not.
@@ -164,11 +166,13 @@ pub enum Answer {
     Replayed = 81,
     /// The list is no valid order.
     NoOrder = 82,
+    /// A load or swap waits for its source.
+    Waits = 90,
 }
 
 /// In the order of their numbers.
 #[rustfmt::skip]
-pub(crate) const ANSWERS: [Answer; 37] = [
+pub(crate) const ANSWERS: [Answer; 39] = [
     Answer::Done,
     Answer::LongText,
     Answer::LongLine,
@@ -186,6 +190,7 @@ pub(crate) const ANSWERS: [Answer; 37] = [
     Answer::ManyPairs,
     Answer::NoPair,
     Answer::LateInit,
+    Answer::NoEntry,
     Answer::NoRoom,
     Answer::LostCore,
     Answer::Order,
@@ -206,4 +211,5 @@ pub(crate) const ANSWERS: [Answer; 37] = [
     Answer::NotThrough,
     Answer::Replayed,
     Answer::NoOrder,
+    Answer::Waits,
 ];

@@ -1,6 +1,7 @@
 //! The calls of a case, kept so that they can be told where something differs.
 
 use second::bounds::MODELS;
+use second::desk::Fields;
 use std::fmt;
 
 #[derive(Clone, Debug)]
@@ -19,6 +20,8 @@ pub enum Call {
     Suppose { x: usize, y: usize },
     TakeBack,
     Ask { x: usize, y: usize },
+    Add { fields: Fields },
+    Waiting { room: usize },
 }
 
 /// Models that there are not.
@@ -28,8 +31,24 @@ pub const OTHER_MODELS: [u8; 5] = [0, LAST_MODEL + 1, LAST_MODEL + 2, 128, 255];
 pub const LAST_MODEL: u8 = MODELS as u8;
 
 /// The entries' names without the front that all share, in the order of the header.
-pub const ENTRIES: [&str; 14] =
-    ["report", "number", "line", "start", "end", "verdict", "limited", "judge", "run", "steps", "open", "suppose", "take_back", "ask"];
+pub const ENTRIES: [&str; 16] = [
+    "report",
+    "number",
+    "line",
+    "start",
+    "end",
+    "verdict",
+    "limited",
+    "judge",
+    "run",
+    "steps",
+    "open",
+    "suppose",
+    "take_back",
+    "ask",
+    "add",
+    "waiting",
+];
 
 impl Call {
     /// Which of `ENTRIES` is called.
@@ -49,6 +68,8 @@ impl Call {
             Call::Suppose { .. } => 11,
             Call::TakeBack => 12,
             Call::Ask { .. } => 13,
+            Call::Add { .. } => 14,
+            Call::Waiting { .. } => 15,
         }
     }
 
@@ -70,6 +91,8 @@ impl fmt::Display for Call {
             Call::Steps { model, list, room } => write!(f, " under {model} of {list:?} into {room} bytes"),
             Call::Open { model, room } => write!(f, " under {model} in {room} bytes"),
             Call::Suppose { x, y } | Call::Ask { x, y } => write!(f, " {x} {y}"),
+            Call::Add { fields } => write!(f, " {fields:?}"),
+            Call::Waiting { room } => write!(f, " into {room} bytes"),
             Call::Number | Call::Line | Call::Start | Call::End | Call::TakeBack => Ok(()),
         }
     }

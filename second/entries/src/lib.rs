@@ -9,6 +9,7 @@
 //! | `texts` | the entries that take a text |
 //! | `machines` | the plain machine's, and whether it agrees with the verdict |
 //! | `sessions` | opening, and the calls on a session |
+//! | `records` | records that are added to one |
 //! | `damage` | bytes that were a session |
 //! | `compare` | a whole case |
 
@@ -19,5 +20,6 @@ pub mod damage;
 pub mod desk;
 pub mod lent;
 pub mod machines;
+pub mod records;
 pub mod sessions;
 pub mod texts;
