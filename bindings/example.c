@@ -165,6 +165,8 @@ static const char *word(uint8_t answer) {
         return "not held";
     case WHEELOTTER_CONTRADICTED:
         return "contradicted";
+    case WHEELOTTER_WAITS:
+        return "waits";
     default:
         return "refused";
     }
@@ -175,7 +177,8 @@ static size_t file_length(const uint8_t *file) {
     return WHEELOTTER_ENTRIES + WHEELOTTER_FIRST * (size_t)file[WHEELOTTER_FIRSTS] + WHEELOTTER_RECORD * (size_t)number(file + WHEELOTTER_COUNT);
 }
 
-/* Supposes 0 before 1, then 2 before 3, takes both back, and looks each time whether 3 before 2 is held. */
+/* Supposes 0 before 1, then 2 before 3, takes both back, and looks each time whether 3 before 2 is held. Then two records come: a load of core 0 that
+ * waits, and its source. */
 static void talk(void) {
     static uint8_t session[WHEELOTTER_SESSION];
     uint8_t opened = wheelotter_open(text, text_len, WHEELOTTER_TSO, session, sizeof session);
@@ -194,6 +197,13 @@ static void talk(void) {
     printf("take back: %s\n", word(wheelotter_take_back(session, len)));
     printf("ask 3 2: %s\n", word(wheelotter_ask(session, len, 3, 2)));
     printf("take back: %s\n", word(wheelotter_take_back(session, len)));
+    uint8_t record[WHEELOTTER_PLACE];
+    printf("add a load of 9: %s", word(wheelotter_add(session, len + WHEELOTTER_RECORD, 0, 0, 2, 9, 0)));
+    len += WHEELOTTER_RECORD;
+    printf("; record 4 %s", word(wheelotter_waiting(session, len, record, sizeof record)));
+    printf("; add its store: %s", word(wheelotter_add(session, len + WHEELOTTER_RECORD, 1, 1, 2, 0, 9)));
+    len += WHEELOTTER_RECORD;
+    printf("; ask 5 4: %s\n", word(wheelotter_ask(session, len, 5, 4)));
 }
 
 int main(void) {

@@ -23,7 +23,7 @@ extern "C" {
 #define WHEELOTTER_MODELS 4             /* so many, numbered from 1 */
 
 /* The answers of every function that gives back a uint8_t. (10 is for traces that were not read from a text: none gives it.) */
-#define WHEELOTTER_DONE 0               /* the text is good; or opened, supposed, taken back */
+#define WHEELOTTER_DONE 0               /* the text is good; or opened, supposed, taken back, added; or none waits */
 #define WHEELOTTER_LONG_TEXT 1          /* over 32,768 bytes */
 #define WHEELOTTER_LONG_LINE 2          /* over 80 bytes */
 #define WHEELOTTER_NO_FORM 3            /* none of the forms, or no ending line feed */
@@ -34,12 +34,13 @@ extern "C" {
 #define WHEELOTTER_WRITTEN_BEFORE 8     /* value written before at that address */
 #define WHEELOTTER_NO_MODEL 9           /* not 1 to 4 */
 #define WHEELOTTER_NO_SOURCE 11         /* somebody reads what nobody wrote */
-#define WHEELOTTER_NO_SESSION 12        /* not a session that opening and supposing make */
+#define WHEELOTTER_NO_SESSION 12        /* not a session that opening, adding and supposing make */
 #define WHEELOTTER_NO_OPERATION 13      /* a record that is a fence or past the end */
 #define WHEELOTTER_SAME_TWICE 14        /* one record twice */
 #define WHEELOTTER_MANY_PAIRS 15        /* pair 17, counted from 1 */
 #define WHEELOTTER_NO_PAIR 16           /* take back, and no pair stands */
 #define WHEELOTTER_LATE_INIT 17         /* an init line behind a record, or a second one for its address */
+#define WHEELOTTER_NO_ENTRY 20          /* fields that are no record: a kind past 3, or a number that it does not carry and is not 0 */
 #define WHEELOTTER_NO_ROOM 21           /* the lent memory is too short, and stays as it was */
 #define WHEELOTTER_LOST_CORE 22         /* a core appears in the text, and a lower one does not */
 #define WHEELOTTER_ORDER 64             /* the first valid order */
@@ -64,6 +65,7 @@ extern "C" {
 #define WHEELOTTER_NO_ORDER 82          /* the list is no valid order */
 #define WHEELOTTER_ACCEPTED 90          /* the list shows that there is no valid order */
 #define WHEELOTTER_NOT_ACCEPTED 91      /* it does not show it */
+#define WHEELOTTER_WAITS 92             /* a load or swap waits for its source */
 
 /* Bounds, lengths in bytes, and places. */
 #define WHEELOTTER_RECORDS 256          /* a trace has at most so many records */
@@ -87,7 +89,7 @@ extern "C" {
 #define WHEELOTTER_FIRST 3              /* a first value in a packed file has so many bytes */
 #define WHEELOTTER_RECORD 8             /* a record in a packed file has so many bytes */
 #define WHEELOTTER_JUDGEMENT 4          /* what the judge names has so many bytes */
-#define WHEELOTTER_PLACE 2              /* the place of an impossible step has so many bytes */
+#define WHEELOTTER_PLACE 2              /* the place of an impossible step, and the number of a record that waits, has so many bytes */
 #define WHEELOTTER_STEPS 512            /* a list of possible steps has at most so many */
 #define WHEELOTTER_STEPS_AT 2           /* where the steps of an order begin */
 #define WHEELOTTER_REPLAY 514           /* the steps of an order in bytes have so many */
@@ -197,11 +199,11 @@ uint8_t wheelotter_accepts(const uint8_t *text, size_t text_len, uint8_t model, 
  *   WHEELOTTER_HEAD        the packed file of the trace (docs/GUIDE.md has its layout), to the end of the slice
  * The file says how long it is: WHEELOTTER_ENTRIES + WHEELOTTER_FIRST * (its byte WHEELOTTER_FIRSTS) + WHEELOTTER_RECORD * (the number at its
  * byte WHEELOTTER_COUNT). Two sessions are equal exactly when their bytes are, from whatever text they were opened. They may be copied, kept and
- * sent; bytes that are not such a session, made by opening and supposing, get WHEELOTTER_NO_SESSION from every call and stay as they are. */
+ * sent; bytes that are not such a session, made by opening, adding and supposing, get WHEELOTTER_NO_SESSION from every call and stay as they are. */
 
 /* Opens a session on a text under a model, at the front of session, of which WHEELOTTER_SESSION bytes are always enough; the rest stays. Hand on
  * just the session's bytes. Gives back
- *   1 to 8, 17 or 22, or else WHEELOTTER_NO_MODEL, or else WHEELOTTER_NO_SOURCE (wheelotter_verdict tells whose)   no session is opened: where there is
+ *   1 to 8, 17 or 22, or else WHEELOTTER_NO_MODEL   no session is opened: where there is
  *                         room, WHEELOTTER_HEAD + WHEELOTTER_ENTRIES bytes, the front is that of the empty text under model 1; the rest stays;
  *   WHEELOTTER_NO_ROOM    else session is too short, and stays as it was;
  *   WHEELOTTER_DONE. */
@@ -217,6 +219,24 @@ uint8_t wheelotter_take_back(uint8_t *session, size_t session_len);
 /* Asks whether x before y is held: WHEELOTTER_HELD, WHEELOTTER_NOT_HELD, WHEELOTTER_CONTRADICTED, or WHEELOTTER_NO_SESSION to
  * WHEELOTTER_SAME_TWICE. */
 uint8_t wheelotter_ask(const uint8_t *session, size_t session_len, size_t x, size_t y);
+
+/* Adds a record behind those of a session. session_len is the session's length and WHEELOTTER_RECORD more: the session stands before the last
+ * WHEELOTTER_RECORD bytes, whatever these hold. The record comes as its fields: kind (0 load, 1 store, 2 swap, 3 fence), thread, address, the value
+ * read and the value written; what the kind does not carry is 0. Gives back
+ *   WHEELOTTER_NO_SESSION             no session stands there;
+ *   WHEELOTTER_NO_ENTRY               else the fields are no record;
+ *   WHEELOTTER_PAST_BOUND, WHEELOTTER_FIRST_WRITTEN, WHEELOTTER_MANY_RECORDS, WHEELOTTER_WRITTEN_BEFORE   else the record may not follow;
+ *   WHEELOTTER_DONE                   all session_len bytes are the session with the record; the pairs stand, and only the table, the mark, the file's
+ *                                     count of records and the last WHEELOTTER_RECORD bytes may have changed.
+ * Beside a refusal all bytes stay. A load or swap whose source is not recorded yet waits: nothing is held on its account until the source comes. */
+uint8_t wheelotter_add(uint8_t *session, size_t session_len, uint8_t kind, uint8_t thread, uint8_t address, uint16_t read, uint16_t written);
+
+/* The lowest record that waits for its source, laid into the first WHEELOTTER_PLACE bytes of out, the rest stays. Gives back
+ *   WHEELOTTER_NO_SESSION             and out stays as it was;
+ *   WHEELOTTER_NO_ROOM                else out is too short, and stays as it was;
+ *   WHEELOTTER_WAITS                  it waits;
+ *   WHEELOTTER_DONE                   none waits; the number is 0. */
+uint8_t wheelotter_waiting(const uint8_t *session, size_t session_len, uint8_t *out, size_t out_len);
 
 #ifdef __cplusplus
 }

@@ -41,7 +41,7 @@ pub fn the_verdict() -> usize {
 }
 
 impl Call {
-    /// No session is opened on a trace with a missing source.
+    /// No session is timed on a trace with a missing source.
     pub fn applies(&self, case: &Case) -> bool {
         !(self.session && case.session.is_empty())
     }

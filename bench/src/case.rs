@@ -5,7 +5,7 @@ use crate::draw::text_of;
 use crate::library::Lent;
 use simple::session::Session;
 use simple::{Bools, Model, Record, Words};
-use wheelotter::{entries, Answer, COUNT, ENTRIES, FIRST, FIRSTS, HEAD, OPERATIONS, PAIRS, RECORD, SESSION};
+use wheelotter::{entries, Answer, COUNT, ENTRIES, FIRST, FIRSTS, HEAD, OPERATIONS, PAIRS, PLACE, RECORD, SESSION};
 
 pub struct Case {
     pub text: Vec<u8>,
@@ -14,7 +14,7 @@ pub struct Case {
     /// judge has to look at the values too.
     pub list: Vec<u16>,
     pub supposed: Vec<(usize, usize)>,
-    /// Of the text with all these pairs supposed; empty where a missing source forbids it.
+    /// Of the text with all these pairs supposed; empty where a load waits for its source: the simple program has no such sessions.
     pub session: Vec<u8>,
     /// Two operations to suppose and to ask about.
     pub pair: (usize, usize),
@@ -49,6 +49,9 @@ impl Case {
             return Vec::new();
         }
         session.truncate(HEAD + file_length(&session[HEAD..]));
+        if entries::waiting(&session, &mut [0; PLACE]) != Answer::Done as u8 {
+            return Vec::new();
+        }
         for &(x, y) in &self.supposed {
             assert!(entries::suppose(&mut session, x, y) == Answer::Done as u8, "a pair of two operations can be supposed");
         }

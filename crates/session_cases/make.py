@@ -204,7 +204,8 @@ take back -> done
 ask 3 2 -> held
 ''')
 
-# No such model; a trace that is not well formed; a missing source, with its record. Beside a refusal stands the session of the empty trace.
+# No such model; a trace that is not well formed. Beside a refusal stands the session of the empty trace. A missing source refuses nothing: record 0 of
+# the trace that is damaged in the second way waits, 0 before 1 and 2 before 3 (rule 1) and 1 before 2 (rule 4) close no circle.
 case('buffers', BUFFERS, 'refused-talk', '''
 open 0 -> refused 9
 open 5 -> refused 9
@@ -213,19 +214,101 @@ open damaged 1 1 -> refused 10
 open damaged 1 3 -> refused 10
 open damaged 2 4 -> refused 10
 open damaged 5 1 -> refused 9
-open damaged 1 2 -> refused 11 record 0
+open damaged 1 2 -> done
+waiting -> waits record 0
+ask 0 3 -> held
 open damaged 5 2 -> refused 9
 ask 0 1 -> refused 13
 suppose 0 0 -> refused 13
 take back -> refused 16
 ''')
+# Records 1 and 3 read what nobody wrote, 3 also what it writes itself. 0 is before 2 (rule 2), and before 1 by program order, which TSO lets off. When
+# core 2 writes what 1 read, that is before 1 (rule 2). Nobody can write what 3 read, since it wrote that itself: 8.
 case('no-source', trace((0, '0:=1 1==7'), (1, '0==1 2==5:=5')), 'no-source-talk', '''
-open 1 -> refused 11 record 1
-open 2 -> refused 11 record 1
-ask 0 1 -> refused 13
+open 1 -> done
+waiting -> waits record 1
+ask 0 2 -> held
+ask 0 1 -> held
+open 2 -> done
+ask 0 1 -> not held
+2: M[1] := 7 -> done
+waiting -> waits record 3
+ask 4 1 -> held
+ask 1 4 -> not held
+3: M[2] := 5 -> refused 8
+take back -> refused 16
+ask 4 1 -> held
 ''')
 case('own-swap', trace((0, '0==5:=5')), 'own-swap-talk', '''
-open 1 -> refused 11 record 0
+open 1 -> done
+waiting -> waits record 0
+''')
+
+# Records as they come, under SC. Record 1 waits, so nothing is held of it, and 1 before 0 can be supposed. Its source is record 2: 2 before 1 (rule 2), and
+# by the chain 2 before 0. Record 3 has the same source, and 0 is before it in program order: 0 before 2 (rule 3), which closes the circle 0, 2, 1 with the
+# supposed pair. Taking back leaves the records: 0 before 2, 2 before 1 and 2 before 3 are held.
+case('empty', '', 'come-talk', '''
+open 1 -> done
+waiting -> done
+0: M[0] := 1 -> done
+1: M[0] == 2 -> done
+waiting -> waits record 1
+ask 0 1 -> not held
+suppose 1 0 -> done
+ask 1 0 -> held
+2: M[0] := 2 -> done
+waiting -> done
+ask 2 1 -> held
+ask 2 0 -> held
+0: M[0] == 2 -> done, contradicted
+waiting -> done, contradicted
+ask 2 1 -> contradicted
+1: sync -> done, contradicted
+suppose 0 4 -> refused 13
+take back -> done
+ask 0 2 -> held
+ask 0 1 -> held
+ask 2 3 -> held
+ask 1 0 -> not held
+take back -> refused 16
+''')
+
+# Memory begins with 7 at address 3. A number past its bound, the first value, a value written before; 0 may be written where memory begins with 7. The swap,
+# record 3, reads the first value, so it is before both stores (rule 4). Cores may come in any order. The lowest number is told.
+case('first', 'init: M[3] := 7\n0: M[3] := 1\n', 'first-talk', '''
+open 2 -> done
+8: M[3] := 7 -> refused 4
+0: M[16] := 1 -> refused 4
+255: sync -> refused 4
+1: M[3] := 7 -> refused 6
+1: M[0] := 0 -> refused 6
+1: M[3] := 1 -> refused 8
+{ -> no such call
+1: M[3] := 0 -> done
+1: M[3] == 0 -> done
+waiting -> done
+2: { M[3] == 7; M[3] := 5 } -> done
+ask 3 0 -> held
+ask 3 1 -> held
+ask 0 1 -> not held
+5: sync -> done
+7: M[15] == 65535 -> done
+waiting -> waits record 5
+suppose 5 0 -> done
+6: M[15] := 65535 -> done
+ask 6 0 -> held
+waiting -> done
+''')
+
+# A full trace takes no record more: 7, but 4 and 6 come first; 8 does not.
+case('full', '0: M[0] := 1\n' + '0: sync\n' * 255, 'full-talk', '''
+open 1 -> done
+0: sync -> refused 7
+0: M[0] := 1 -> refused 7
+0: M[1] := 0 -> refused 6
+9: M[1] := 0 -> refused 4
+1: M[5] == 9 -> refused 7
+waiting -> done
 ''')
 case('empty', '', 'empty-talk', '''
 open 2 -> done
@@ -234,7 +317,7 @@ suppose 0 1 -> refused 13
 take back -> refused 16
 ''')
 
-# Twelve forgeries, each met by 12 in every call, whatever else is wrong with the call.
+# Twelve forgeries, each met by 12 in every call, whatever else is wrong with the call or the record.
 case('knot', KNOT, 'forged-talk', ''.join(f'''
 open 1 -> done
 forge {way}
@@ -243,6 +326,9 @@ suppose 2 8 -> refused 12
 suppose 4 4 -> refused 12
 ask 99 0 -> refused 12
 take back -> refused 12
+9: M[0] := 0 -> refused 12
+0: M[9] := 9 -> refused 12
+waiting -> refused 12
 '''.lstrip() for way in range(1, 13)))
 
 

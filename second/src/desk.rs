@@ -3,7 +3,7 @@
 //! | Answer | Meaning |
 //! |---|---|
 //! | 0 | done, or nothing is wrong |
-//! | 1 to 17, 22 | the document's numbers |
+//! | 1 to 17, 20, 22 | the document's numbers |
 //! | 21 | no room in the lent memory, which stays as it was; whatever is wrong with the input is told before it |
 //! | 64, 65, 66 | the verdict: order, circle, none left |
 //! | 67, 68, 69 | asked: held, not held, contradicted |
@@ -14,15 +14,17 @@
 //! | 79, 80 | all steps are done: the trace ran through, or not |
 //! | 81, 82 | steps that run an order through; a list that is no order |
 //! | 90, 91 | a paper: accepted, or not |
+//! | 92 | a session: a load or swap waits for its source |
 //!
 //! Numbers of records, and how many are told, are laid down in two bytes, a count of steps in eight, the low one first.
 //!
 //! A session in bytes: the model; how many pairs stand, in one byte; sixteen pairs, first then second, unused ones 0; 1 where contradicted; a
 //! bit for each x and each y, eight to a byte from the lowest on, 1 where x before y is held; then the packed file of its trace up to the end.
+//! A record that is added takes eight bytes more.
 
 use crate::limited::{limited, Limited};
 use crate::orders::{self, First, Judgement};
-use crate::packed::{file_of, read_entries};
+use crate::packed::{file_of, read_entries, record_of, RECORD};
 use crate::papers;
 use crate::plain::{self, has_machine, Ran};
 use crate::reader::{self, Refusal};
@@ -30,7 +32,7 @@ use crate::report;
 use crate::rules::Pair;
 use crate::session::{self, Answer, Session, Talk, MOST_PAIRS};
 use crate::smaller::{smaller, Smaller};
-use crate::trace::{text_of, Model, Trace, MODELS, MOST_RECORDS};
+use crate::trace::{text_of, Model, Record, Trace, MODELS, MOST_RECORDS};
 use crate::verdict::{judgement, verdict, Verdict};
 use std::cell::OnceCell;
 
@@ -38,6 +40,7 @@ pub const DONE: u8 = 0;
 pub const NO_MODEL: u8 = 9;
 pub const NO_SOURCE: u8 = 11;
 pub const NO_SESSION: u8 = 12;
+pub const NO_ENTRY: u8 = 20;
 pub const NO_ROOM: u8 = 21;
 pub const ORDER: u8 = 64;
 pub const CIRCLE: u8 = 65;
@@ -57,6 +60,7 @@ pub const THROUGH: u8 = 79;
 pub const NOT_THROUGH: u8 = 80;
 pub const REPLAYED: u8 = 81;
 pub const NO_ORDER: u8 = 82;
+pub const WAITS: u8 = 92;
 pub const NOTHING_WRONG: u8 = 77;
 pub const CUT: u8 = 78;
 pub const ACCEPTED: u8 = 90;
@@ -445,5 +449,57 @@ pub fn told(answer: Answer) -> u8 {
         Answer::Held => HELD,
         Answer::NotHeld => NOT_HELD,
         Answer::Contradicted => CONTRADICTED,
+    }
+}
+
+/// The fields of a record as they are given: kind, thread and address, value read, value written.
+#[derive(Clone, Copy, Debug, PartialEq, Eq)]
+pub struct Fields {
+    pub kind: u8,
+    pub thread: u8,
+    pub address: u8,
+    pub read: u16,
+    pub written: u16,
+}
+
+impl Fields {
+    pub fn record(&self) -> Option<Record> {
+        record_of(self.kind, self.thread, self.address, self.read, self.written)
+    }
+}
+
+/// All of a session.
+pub fn bytes_of(session: &Session) -> Vec<u8> {
+    [&head_of(session)[..], &file_of(&session.trace)].concat()
+}
+
+/// The session stands before the last eight bytes, which the record takes.
+pub fn add(lent: &mut [u8], fields: &Fields) -> u8 {
+    let Some(front) = lent.len().checked_sub(RECORD) else { return NO_SESSION };
+    let Some(session) = taken(&lent[..front]).filter(|session| session::waiting(session).is_ok()) else { return NO_SESSION };
+    let Some(record) = fields.record() else { return NO_ENTRY };
+    match session::add(&session, record) {
+        Ok(next) => {
+            lent.copy_from_slice(&bytes_of(&next));
+            DONE
+        }
+        Err((number, _)) => number,
+    }
+}
+
+pub fn waiting(session: &[u8], lent: &mut [u8]) -> u8 {
+    match taken(session).map(|session| session::waiting(&session)) {
+        Some(Ok(waits)) => lay_waiting(waits, lent),
+        _ => NO_SESSION,
+    }
+}
+
+pub fn lay_waiting(waits: Option<usize>, lent: &mut [u8]) -> u8 {
+    let Some(place) = lent.get_mut(..PLACE) else { return NO_ROOM };
+    put_number(place, waits.unwrap_or(0));
+    if waits.is_some() {
+        WAITS
+    } else {
+        DONE
     }
 }

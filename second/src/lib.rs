@@ -16,7 +16,7 @@
 //! | `limited` | the verdict within a limit of steps |
 //! | `smaller` | a faulty trace cut down (request 9), literally |
 //! | `papers` | lists of reasons why there is no order (request 11): a reader, and a writer for the comparison |
-//! | `session` | suppose, take back, ask, numbers 9 to 16 |
+//! | `session` | suppose, take back, ask, add, waiting, numbers 9 to 16 |
 //! | `report` | the lines of an answer |
 //! | `desk` | the entries of the library, in bytes (their form is ours; what they say is the document's) |
 //! | `bench` | the program at the bench |

@@ -150,6 +150,12 @@ fn read_record(entry: &[u8], firsts: &Firsts, above: &[Record]) -> Result<Record
     Ok(record)
 }
 
+/// A record by the numbers of its kind and fields, as its entry has them; None where such an entry is none.
+pub fn record_of(kind: u8, thread: u8, address: u8, read: u16, written: u16) -> Option<Record> {
+    let (read, written) = (read.to_le_bytes(), written.to_le_bytes());
+    record_in(&[kind, thread, address, 0, read[0], read[1], written[0], written[1]])
+}
+
 /// None for a kind that there is not, and where something stands in a field that the kind does not use.
 fn record_in(entry: &[u8]) -> Option<Record> {
     let (thread, address) = (entry[1].into(), entry[2].into());

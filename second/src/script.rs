@@ -13,10 +13,7 @@ pub fn told_pairs(held: &Pairs) -> String {
 pub fn answers(trace: &Trace, model: u64, mut script: &[&str]) -> Option<String> {
     let mut session = match open(trace, model) {
         Ok(session) => session,
-        Err(refused) => {
-            let record = refused.record.map_or(String::new(), |record| format!(" record {record}"));
-            return Some(format!("open: refused {}{record}\n", refused.number));
-        }
+        Err(refused) => return Some(format!("open: refused {}\n", refused.number)),
     };
     let mut told = format!("open: {}\n", told_state(&session));
     loop {

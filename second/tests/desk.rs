@@ -213,8 +213,7 @@ fn memory_and_openings() {
     let head = std::iter::once(1).chain(std::iter::repeat(0)).take(HEAD);
     let nothing: Vec<u8> = head.chain([0x50, 0x59, 0x52, 1, 0, 0, 0, 0]).collect();
     let length = HEAD + 8;
-    for (text, model, answer) in [("0: syn\n", 1, 3), ("0: syn\n", 9, 3), ("1: sync\n", 9, 22), (BUFFERS, 0, 9), ("0: M[0] == 5\n", 2, 11)]
-    {
+    for (text, model, answer) in [("0: syn\n", 1, 3), ("0: syn\n", 9, 3), ("1: sync\n", 9, 22), (BUFFERS, 0, 9)] {
         let mut lent = vec![BEFORE; length + 29];
         assert_eq!(page(text).open(model, &mut lent).0, answer);
         assert_eq!(lent[..length], nothing);

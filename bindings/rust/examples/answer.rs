@@ -3,7 +3,7 @@
 
 use std::io::{self, Read};
 use wheelotter::{accepts, check, judge, limited, report, run, smaller, steps, verdict};
-use wheelotter::{Answer, Asked, Judgement, Limited, Model, Ran, Session, Smaller, Verdict, MODELS};
+use wheelotter::{Answer, Asked, Judgement, Limited, Model, Ran, Record, Session, Smaller, Verdict, MODELS};
 
 fn main() -> io::Result<()> {
     let mut text = Vec::new();
@@ -109,7 +109,8 @@ fn asked(answer: Result<Asked, Answer>) -> &'static str {
     }
 }
 
-/// Supposes 0 before 1, then 2 before 3, takes both back, and looks each time whether 3 before 2 is held.
+/// Supposes 0 before 1, then 2 before 3, takes both back, and looks each time whether 3 before 2 is held. Then two records come: a load of core 0 that
+/// waits, and its source.
 fn talk(mut session: Session) {
     println!("ask 3 2: {}", asked(session.ask(3, 2)));
     println!("suppose 0 1: {}", done(session.suppose(0, 1)));
@@ -121,4 +122,12 @@ fn talk(mut session: Session) {
     println!("take back: {}", done(session.take_back()));
     println!("ask 3 2: {}", asked(session.ask(3, 2)));
     println!("take back: {}", done(session.take_back()));
+    let load = session.add(Record::Load { thread: 0, address: 2, read: 9 });
+    let waits = match session.waiting() {
+        Ok(Some(record)) => format!("record {record} waits"),
+        Ok(None) => "none waits".to_string(),
+        Err(_) => "refused".to_string(),
+    };
+    let store = session.add(Record::Store { thread: 1, address: 2, written: 9 });
+    println!("add a load of 9: {}; {waits}; add its store: {}; ask 5 4: {}", done(load), done(store), asked(session.ask(5, 4)));
 }

@@ -44,6 +44,8 @@ mod linked {
         pub fn wheelotter_suppose(session: *mut u8, session_len: usize, x: usize, y: usize) -> u8;
         pub fn wheelotter_take_back(session: *mut u8, session_len: usize) -> u8;
         pub fn wheelotter_ask(session: *const u8, session_len: usize, x: usize, y: usize) -> u8;
+        pub fn wheelotter_add(session: *mut u8, session_len: usize, kind: u8, thread: u8, address: u8, read: u16, written: u16) -> u8;
+        pub fn wheelotter_waiting(session: *const u8, session_len: usize, out: *mut u8, out_len: usize) -> u8;
     }
 }
 
@@ -124,7 +126,7 @@ pub fn accepts(text: &[u8], model: u8, list: &[u16]) -> u8 {
 }
 
 /// Opens a session on a text in the first [`HEAD`](crate::HEAD) and as many bytes more as the packed file of its trace has, at most
-/// [`SESSION`](crate::SESSION); the rest of `session` stays. Where the text, the model or a missing source forbids it, the front is the session of the
+/// [`SESSION`](crate::SESSION); the rest of `session` stays. Where the text or the model forbids it, the front is the session of the
 /// empty text under model 1, if there is room for it. Where else `session` is too short it stays as it was.
 pub fn open(text: &[u8], model: u8, session: &mut [u8]) -> u8 {
     unsafe { linked::wheelotter_open(text.as_ptr(), text.len(), model, session.as_mut_ptr(), session.len()) }
@@ -143,4 +145,15 @@ pub fn take_back(session: &mut [u8]) -> u8 {
 /// Asks whether x before y is held.
 pub fn ask(session: &[u8], x: usize, y: usize) -> u8 {
     unsafe { linked::wheelotter_ask(session.as_ptr(), session.len(), x, y) }
+}
+
+/// Adds a record, by its fields, to the session that stands before the last [`RECORD`](crate::RECORD) bytes; all of them are then the longer session.
+/// Refused, all stay as they were.
+pub fn add(session: &mut [u8], kind: u8, thread: u8, address: u8, read: u16, written: u16) -> u8 {
+    unsafe { linked::wheelotter_add(session.as_mut_ptr(), session.len(), kind, thread, address, read, written) }
+}
+
+/// The lowest record that waits for its source, in the first [`PLACE`](crate::PLACE) bytes of `out`, the low one first; 0 where none does.
+pub fn waiting(session: &[u8], out: &mut [u8]) -> u8 {
+    unsafe { linked::wheelotter_waiting(session.as_ptr(), session.len(), out.as_mut_ptr(), out.len()) }
 }

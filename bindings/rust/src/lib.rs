@@ -222,6 +222,15 @@ pub enum Asked {
     Contradicted,
 }
 
+/// What a recorder tells of one step.
+#[derive(Clone, Copy, Debug, PartialEq, Eq)]
+pub enum Record {
+    Load { thread: u8, address: u8, read: u16 },
+    Store { thread: u8, address: u8, written: u16 },
+    Swap { thread: u8, address: u8, read: u16, written: u16 },
+    Fence { thread: u8 },
+}
+
 /// A trace, a model and the pairs that are supposed of it, with all that is then held. Two sessions are equal exactly when their bytes are.
 #[derive(Clone, Debug, PartialEq, Eq)]
 pub struct Session {
@@ -229,7 +238,7 @@ pub struct Session {
 }
 
 impl Session {
-    /// Refused where the text is turned back, and where it has a missing source: [`verdict`] tells which.
+    /// Refused where the text is turned back. A load or swap whose source is not recorded yet waits.
     pub fn open(text: &[u8], model: Model) -> Result<Session, Answer> {
         let mut bytes = vec![0; SESSION];
         done(entries::open(text, model as u8, &mut bytes))?;
@@ -253,6 +262,33 @@ impl Session {
             Answer::Held => Ok(Asked::Held),
             Answer::NotHeld => Ok(Asked::NotHeld),
             Answer::Contradicted => Ok(Asked::Contradicted),
+            refused => Err(refused),
+        }
+    }
+
+    /// Adds a record behind the others; the pairs stand. Refused, the session stays as it was.
+    pub fn add(&mut self, record: Record) -> Result<(), Answer> {
+        let (kind, thread, address, read, written) = match record {
+            Record::Load { thread, address, read } => (0, thread, address, read, 0),
+            Record::Store { thread, address, written } => (1, thread, address, 0, written),
+            Record::Swap { thread, address, read, written } => (2, thread, address, read, written),
+            Record::Fence { thread } => (3, thread, 0, 0, 0),
+        };
+        let length = self.bytes.len();
+        self.bytes.resize(length + RECORD, 0);
+        let added = done(entries::add(&mut self.bytes, kind, thread, address, read, written));
+        if added.is_err() {
+            self.bytes.truncate(length);
+        }
+        added
+    }
+
+    /// The lowest record that waits for its source.
+    pub fn waiting(&self) -> Result<Option<u16>, Answer> {
+        let mut out = [0; PLACE];
+        match Answer::of(entries::waiting(&self.bytes, &mut out)) {
+            Answer::Waits => Ok(Some(u16::from_le_bytes(out))),
+            Answer::Done => Ok(None),
             refused => Err(refused),
         }
     }

@@ -63,7 +63,7 @@ pub const RECORD: usize = 8;
 /// What the judge names has so many bytes.
 pub const JUDGEMENT: usize = 4;
 
-/// The place of an impossible step has so many bytes.
+/// The place of an impossible step, and the number of a record that waits, has so many bytes.
 pub const PLACE: usize = 2;
 
 /// A list of possible steps has at most so many.
@@ -99,7 +99,7 @@ pub const MODELS: [Model; 4] = [Model::Sc, Model::Tso, Model::Pso, Model::Wmo];
 /// One table of answers for every entry; docs/GUIDE.md explains them. (10 is for traces that were not read from a text: no entry gives it.)
 #[derive(Clone, Copy, Debug, PartialEq, Eq)]
 pub enum Answer {
-    /// The text is good; or opened, supposed, taken back.
+    /// The text is good; or opened, supposed, taken back, added; or none waits.
     Done = 0,
     /// Over 32,768 bytes.
     LongText = 1,
@@ -121,7 +121,7 @@ pub enum Answer {
     NoModel = 9,
     /// Somebody reads what nobody wrote.
     NoSource = 11,
-    /// Not a session that opening and supposing make.
+    /// Not a session that opening, adding and supposing make.
     NoSession = 12,
     /// A record that is a fence or past the end.
     NoOperation = 13,
@@ -133,6 +133,8 @@ pub enum Answer {
     NoPair = 16,
     /// An init line behind a record, or a second one for its address.
     LateInit = 17,
+    /// Fields that are no record: a kind past 3, or a number that it does not carry and is not 0.
+    NoEntry = 20,
     /// The lent memory is too short, and stays as it was.
     NoRoom = 21,
     /// A core appears in the text, and a lower one does not.
@@ -181,11 +183,13 @@ pub enum Answer {
     Accepted = 90,
     /// It does not show it.
     NotAccepted = 91,
+    /// A load or swap waits for its source.
+    Waits = 92,
 }
 
 /// In the order of their numbers.
 #[rustfmt::skip]
-pub(crate) const ANSWERS: [Answer; 41] = [
+pub(crate) const ANSWERS: [Answer; 43] = [
     Answer::Done,
     Answer::LongText,
     Answer::LongLine,
@@ -203,6 +207,7 @@ pub(crate) const ANSWERS: [Answer; 41] = [
     Answer::ManyPairs,
     Answer::NoPair,
     Answer::LateInit,
+    Answer::NoEntry,
     Answer::NoRoom,
     Answer::LostCore,
     Answer::Order,
@@ -227,4 +232,5 @@ pub(crate) const ANSWERS: [Answer; 41] = [
     Answer::NoOrder,
     Answer::Accepted,
     Answer::NotAccepted,
+    Answer::Waits,
 ];

@@ -1,7 +1,7 @@
 //! Each kind of answer through the safe functions, worked out from document 01.
 
 use wheelotter::{
-    accepts, check, entries, judge, limited, report, run, smaller, steps, verdict, Answer, Asked, Judgement, Limited, Model, Ran, Refusal,
+    accepts, check, entries, judge, limited, report, run, smaller, steps, verdict, Answer, Asked, Judgement, Limited, Model, Ran, Record, Refusal,
     Session, Smaller, Verdict,
 };
 use wheelotter::{
@@ -173,8 +173,40 @@ fn sessions() {
     assert_eq!(refused, [Answer::NoPair, Answer::NoOperation, Answer::SameTwice].map(Err));
     (0..PAIRS).for_each(|_| assert_eq!(session.suppose(0, 1), Ok(())));
     assert_eq!(session.suppose(0, 1), Err(Answer::ManyPairs));
-    assert_eq!(Session::open(NO_SOURCE, Model::Sc), Err(Answer::NoSource));
     assert_eq!(Session::open(b"0", Model::Sc), Err(Answer::NoForm));
+}
+
+/// Record 2 reads what nobody wrote: it waits until core 1 writes it, which comes then before it (rule 2). A swap of core 1 reads that in turn.
+#[test]
+fn records_that_come() {
+    let mut session = Session::open(NO_SOURCE, Model::Sc).expect("a load that waits forbids nothing");
+    assert_eq!(session.waiting(), Ok(Some(2)));
+    let store = Record::Store { thread: 1, address: 0, written: 2 };
+    assert_eq!(session.suppose(0, 2), Ok(()));
+    assert_eq!(session.add(store), Ok(()));
+    assert_eq!(session.waiting(), Ok(None));
+    assert_eq!([session.ask(3, 2), session.ask(0, 3), session.ask(2, 3)], [Ok(Asked::Held), Ok(Asked::Held), Ok(Asked::NotHeld)]);
+    assert_eq!(session.add(Record::Swap { thread: 1, address: 0, read: 2, written: 3 }), Ok(()));
+    assert_eq!(session.add(Record::Fence { thread: 7 }), Ok(()), "no core need be there before a higher one");
+    assert_eq!(session.add(Record::Load { thread: 0, address: 5, read: 9 }), Ok(()));
+    assert_eq!(session.waiting(), Ok(Some(6)));
+    let text = b"0: M[0] := 1\n0: sync\n0: M[0] == 2\n1: M[0] := 2\n1: { M[0] == 2; M[0] := 3 }\n";
+    let mut whole = Session::open(text, Model::Sc).expect("opens");
+    assert_eq!(whole.suppose(0, 2), Ok(()));
+    assert_eq!([whole.add(Record::Fence { thread: 7 }), whole.add(Record::Load { thread: 0, address: 5, read: 9 })], [Ok(()); 2]);
+    assert_eq!(session, whole);
+    let before = session.clone();
+    let refused =
+        [store, Record::Store { thread: 1, address: 0, written: 0 }, Record::Fence { thread: 8 }].map(|record| session.add(record));
+    assert_eq!(refused, [Answer::WrittenBefore, Answer::FirstWritten, Answer::PastBound].map(Err));
+    assert_eq!(session, before);
+    assert_eq!(session.take_back(), Ok(()));
+    assert_eq!(session.as_bytes().len(), before.as_bytes().len(), "taking back leaves the records");
+    let mut bytes = [before.as_bytes(), &[7; RECORD]].concat();
+    assert_eq!(entries::add(&mut bytes, 4, 0, 0, 0, 0), Answer::NoEntry as u8);
+    assert_eq!(entries::add(&mut bytes, 1, 0, 0, 1, 5), Answer::NoEntry as u8, "a store reads nothing");
+    assert_eq!(entries::add(&mut bytes[1..], 3, 0, 0, 0, 0), Answer::NoSession as u8);
+    assert_eq!(bytes, [before.as_bytes(), &[7; RECORD]].concat());
 }
 
 #[test]

@@ -10,6 +10,7 @@ pub mod Laying
 pub mod Tabled
 pub mod Keeping
 pub mod Acting
+pub mod Grown
 pub mod Opens
 pub mod Packing
 pub mod Heard

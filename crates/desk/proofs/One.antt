@@ -45,6 +45,10 @@ use Rattle.desk.proofs.sessions.wheelotter_take_back.Reads as take-back
 use Rattle.desk.proofs.sessions.wheelotter_take_back.Kinds as take-back-kinds
 use Rattle.desk.proofs.sessions.wheelotter_ask.Reads as ask
 use Rattle.desk.proofs.sessions.wheelotter_ask.Kinds as ask-kinds
+use Rattle.desk.proofs.growing.wheelotter_add.Reads as add
+use Rattle.desk.proofs.growing.wheelotter_add.Kinds as add-kinds
+use Rattle.desk.proofs.growing.wheelotter_waiting.Reads as waiting
+use Rattle.desk.proofs.growing.wheelotter_waiting.Kinds as waiting-kinds
 
 pub report-settles : Settles 2 report-kinds.ps report-kinds.r report.Post
 report-settles κs a x y s t p q = reported-one (now (a .0)) (now (a .1 .0)) (now (s .1 .0)) (now (t .1 .0)) x y p q .0
@@ -129,3 +133,15 @@ take-back-leaves κs a x y s t p q = p closings-some .1 ∙ sym (q closings-some
 
 pub ask-settles : Settles 1 ask-kinds.ps ask-kinds.r ask.Post
 ask-settles κs a x y s t p q = p closings-some ∙ sym (q closings-some)
+
+pub add-settles : Settles 1 add-kinds.ps add-kinds.r add.Post
+add-settles κs a x y s t p q = p closings-some .0 ∙ sym (q closings-some .0)
+
+pub add-leaves : Leaves 1 add-kinds.ps add-kinds.r (λ κs s. now (s .0)) add.Post
+add-leaves κs a x y s t p q = p closings-some .1 ∙ sym (q closings-some .1)
+
+pub waiting-settles : Settles 2 waiting-kinds.ps waiting-kinds.r waiting.Post
+waiting-settles κs a x y s t p q = p closings-some .0 ∙ sym (q closings-some .0)
+
+pub waiting-leaves : Leaves 2 waiting-kinds.ps waiting-kinds.r (λ κs s. now (s .1 .0)) waiting.Post
+waiting-leaves κs a x y s t p q = p closings-some .1 ∙ sym (q closings-some .1)

@@ -6,8 +6,9 @@
 --   opened-trace   == where one is opened it is on the text's trace
 --   open-turned, open-done, no-room == the answer, as the entry learns it
 --   opened-bytes   == the bytes of an opened session
---   after-bytes    == opened bytes after any calls are those of the session made afresh with the pairs still standing
---   again-bytes    == hence those of opening afresh and supposing the pairs still standing in turn
+--   after-bytes    == opened bytes after any calls, adding among them, are those of the session made afresh on the records so far with the pairs still
+--                     standing
+--   again-bytes    == hence those of opening afresh on the records so far and supposing the pairs still standing in turn
 use mathlib.Core.Path.{_≡_, refl, sym, ap, ap₂, _∙_, subst}
 use mathlib.Core.Logic.{_≢_, inl, inr}
 use mathlib.Core.Bool.{false, So}
@@ -28,17 +29,14 @@ use Rattle.reader.specs.declared.Answer as told
 use Rattle.reader.specs.declared.Answer.the-variants as turned
 use Rattle.reader.proofs.Whole.{whole-well}
 use Rattle.pairs.specs.Kept.{modelled}
-use Rattle.orders.specs.MissingOf.{missingOf}
-use Rattle.orders.specs.declared.sources.Found.{Found}
-use Rattle.orders.specs.declared.sources.Found.the-variants.{At, Nothing}
-use Rattle.session.specs.Opening.{sourcedOf, openingOf, openable}
+use Rattle.session.specs.Opening.{openingOf, openable}
 use Rattle.session.specs.Closings.{Closings}
 use Rattle.session.specs.Session.{afresh, Intact, blank}
 use Rattle.session.specs.Entries.{openOf}
 use Rattle.session.specs.Numbers.{Act}
-use Rattle.session.specs.Calls.{after, standingAfter, supposeAll}
+use Rattle.session.specs.Calls.{after, recordedAfter, standingAfter, supposeAll}
 use Rattle.session.specs.declared.Reason.the-variants.{NoModel}
-use Rattle.session.specs.declared.Answer.the-variants.{Refused}
+use Rattle.session.specs.declared.Answer.the-variants.{Done, Refused}
 use Rattle.session.specs.declared.Session.{Session}
 use Rattle.session.proofs.Openings.{opening-nine, opening-asks}
 use Rattle.session.proofs.Standing.{opened, after-opened, after-again}
@@ -87,13 +85,9 @@ module _ (text : List ℕ) (m : ℕ) where
     | inr d ↦ bad-ten (readWhole text .answer) (sym (bad-number d) ∙ z)
   ]
     where
-      source-ten : (a : Found) → codeOf (sourcedOf a) ≡ 10 → ⊥
-      source-ten (At x) e = omega arith
-      source-ten Nothing e = omega arith
-
       good-ten : codeOf (openingOf trace m) ≡ 10 → ⊥
       good-ten e = elim (test (modelled m)) [
-        | inl h ↦ source-ten (missingOf trace) (sym (ap codeOf (opening-asks trace m h (whole-well text))) ∙ e)
+        | inl h ↦ let q : codeOf Done ≡ 10 = sym (ap codeOf (opening-asks trace m h (whole-well text))) ∙ e in omega arith
         | inr n ↦ let q : codeOf (Refused NoModel) ≡ 10 = sym (ap codeOf (opening-nine trace m n)) ∙ e in omega arith
       ]
 
@@ -159,8 +153,10 @@ module _ (text : List ℕ) (m : ℕ) where
       run : (cs : List Act) → bytesAfter C (openBytes C text m b) cs ≡ bytesOf (after C first cs)
       run cs = ap (λ (x : List ℕ). bytesAfter C x cs) opened-bytes ∙ bytes-after C cs first (opened-intact C trace m)
 
-      pub after-bytes : (cs : List Act) → bytesAfter C (openBytes C text m b) cs ≡ bytesOf (afresh C trace m (standingAfter trace [] cs))
+      pub after-bytes : (cs : List Act) → bytesAfter C (openBytes C text m b) cs ≡ bytesOf (afresh C (recordedAfter trace cs) m (standingAfter trace [] cs))
       after-bytes cs = run cs ∙ ap bytesOf (after-opened C trace m o cs)
 
-      pub again-bytes : (cs : List Act) → bytesAfter C (openBytes C text m b) cs ≡ bytesAfter C (openBytes C text m b) (supposeAll (standingAfter trace [] cs))
-      again-bytes cs = run cs ∙ ap bytesOf (after-again C trace m o cs) ∙ sym (run (supposeAll (standingAfter trace [] cs)))
+      pub again-bytes : (cs : List Act) → bytesAfter C (openBytes C text m b) cs ≡ bytesAfter C (bytesOf (openOf C (recordedAfter trace cs) m .session)) (supposeAll (standingAfter trace [] cs))
+      again-bytes cs =
+          let u = recordedAfter trace cs in
+          run cs ∙ ap bytesOf (after-again C trace m o cs) ∙ sym (bytes-after C (supposeAll (standingAfter trace [] cs)) (openOf C u m .session) (opened-intact C u m))

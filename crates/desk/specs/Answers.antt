@@ -10,6 +10,7 @@
 --   THROUGH, NOT-THROUGH           == the machine: all steps are done, and the trace ran through, or not
 --   REPLAYED, NO-ORDER             == steps that run an order through, or a list that is none
 --   ACCEPTED, NOT-ACCEPTED         == the small reader of papers: a list is accepted, or not
+--   WAITS                          == a session: a load or swap waits for its source
 --   NO-MODEL, NOT-WELL-FORMED, NO-SOURCE == document 01's numbers of a model that does not exist, of a trace that is not well formed, and of a missing source
 --   answerTo v                     == the answer to a verdict: a missing source is document 01's 11
 --   outcomeNumber o                == the same, by its outcome as the code holds it
@@ -84,6 +85,9 @@ ACCEPTED = 90
 
 abbrev pub NOT-ACCEPTED : ℕ
 NOT-ACCEPTED = 91
+
+abbrev pub WAITS : ℕ
+WAITS = 92
 
 abbrev pub NO-MODEL : ℕ
 NO-MODEL = 9

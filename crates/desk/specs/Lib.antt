@@ -13,5 +13,6 @@ pub mod Runs
 pub mod Head
 pub mod Kept
 pub mod Acts
+pub mod Grown
 pub mod Opened
 pub mod Cuts

@@ -3,6 +3,7 @@
 mod answers;
 pub mod cuts;
 mod files;
+pub mod growing;
 mod heads;
 pub mod judgements;
 pub mod limits;

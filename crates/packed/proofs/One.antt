@@ -7,6 +7,8 @@ use denote.Ref.{now}
 use Rattle.laws.specs.Settles.{Settles, Leaves}
 use Rattle.packed.proofs.number.Reads as number
 use Rattle.packed.proofs.number.Kinds as number-kinds
+use Rattle.packed.proofs.entries.op_in.Reads as op-in
+use Rattle.packed.proofs.entries.op_in.Kinds as op-in-kinds
 use Rattle.packed.proofs.unpacking.read.Reads as read
 use Rattle.packed.proofs.unpacking.read.Kinds as read-kinds
 use Rattle.packed.proofs.packing.write.Reads as write
@@ -14,6 +16,9 @@ use Rattle.packed.proofs.packing.write.Kinds as write-kinds
 
 pub number-settles : Settles 0 number-kinds.ps number-kinds.r number.Post
 number-settles κs a x y s t p q = p ∙ sym q
+
+pub op-in-settles : Settles 0 op-in-kinds.ps op-in-kinds.r op-in.Post
+op-in-settles κs a x y s t p q = p ∙ sym q
 
 pub read-settles : Settles 1 read-kinds.ps read-kinds.r read.Post
 read-settles κs a x y s t p q = p ∙ sym q

@@ -6,7 +6,7 @@ use trace::Op;
 use trace::RECORDS;
 use trace::Trace;
 
-mod entries;
+pub mod entries;
 pub mod packing;
 pub mod unpacking;
 
@@ -23,8 +23,8 @@ pub const FILE: usize = HEAD + FIRST * FIRSTS + RECORD * RECORDS;
 // The version of the layout.
 pub const VERSION: u16 = 1;
 
-// What eight bytes are: a record, or none.
-enum Entry {
+// What the fields of a record are: a record, or none.
+pub enum Entry {
     Of(Op),
     Nothing,
 }

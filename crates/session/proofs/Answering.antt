@@ -4,9 +4,11 @@
 --   suppose-pair, suppose-full, suppose-done       == whether it takes one more
 --   back-unlike, back-none, back-done              == whether it has one to take back
 --   told-contradicted, told-bit                    == what its table says
---   pair-allows, suppose-allows, back-allows       == what is so where nothing was turned back
+--   add-unlike, add-turn                           == whether it takes one record more
+--   pair-allows, suppose-allows, back-allows, add-allows == what is so where nothing was turned back
 --   afresh-done, afresh-unlike, afresh-allows      == a session from its parts
---   open-done, open-refused, suppose-taken, suppose-refused, back-taken, back-refused, ask-told, ask-refused == the calls as a whole
+--   open-done, open-refused, suppose-taken, suppose-refused, back-taken, back-refused, ask-told, ask-refused, add-taken, add-refused,
+--   waiting-told, waiting-unlike == the calls as a whole
 use mathlib.Core.Path.{_≡_, refl, sym, ap, _∙_}
 use mathlib.Core.Logic.{_≢_}
 use mathlib.Core.Bool.{Bool, true, false, So, cond, _&&_, false≢true}
@@ -16,15 +18,19 @@ use lib.Dec.{eqb, leb}
 use lib.ListN.{length, take}
 use borrow.Author.Tests.{eq-eqb, ne-eqb, eqb-false, le-leb, lt-leb, leb-false}
 use Rattle.laws.proofs.Tests.{and-iff, same-iff}
+use Rattle.trace.specs.Trace as trace
+use Rattle.trace.specs.Fault.{faultOf}
 use Rattle.trace.specs.Meaning.{frameOf}
+use Rattle.trace.specs.declared.Op.{Op}
 use Rattle.trace.specs.declared.Trace.{Trace}
 use Rattle.rows.specs.Rows.{bit}
+use Rattle.orders.specs.MissingOf.{missingOf}
 use Rattle.session.specs.Bounds.{PAIRS}
 use Rattle.session.specs.Stack.{supposable, standing, stands}
 use Rattle.session.specs.Opening.{openingOf, isDone, openable}
 use Rattle.session.specs.Closings.{Closings}
 use Rattle.session.specs.Session.{afresh, intact, Intact, blank}
-use Rattle.session.specs.Entries.{pairTurn, supposeTurn, takeBackTurn, toldOf, openOf, afreshOf, supposeOf, takeBackOf, askOf}
+use Rattle.session.specs.Entries.{pairTurn, supposeTurn, takeBackTurn, toldOf, faultAnswer, joins, addTurn, waitsOf, openOf, afreshOf, supposeOf, takeBackOf, askOf, addOf, waitingOf}
 use Rattle.session.specs.declared.Reason.the-variants.{Unlike, NoOperation, OneRecord, TooManyPairs, NoPair}
 use Rattle.session.specs.declared.Answer.{Answer}
 use Rattle.session.specs.declared.Answer.the-variants.{Done, Held, NotHeld, Contradicted, Refused}
@@ -129,6 +135,36 @@ module _ (C : Closings) (s : Session) where
       pub ask-told : So (isDone a) → (b : Answer) → b ≡ toldOf s x y → both b s ≡ askOf C s x y
       unfolding askOf
       ask-told d b q = rw (← e, d) (ap (λ c. both c s) q)
+
+  module _ (o : Op) where
+    pub add-unlike : intact C s ≡ false → addTurn C s o ≡ Refused Unlike
+    unfolding addTurn
+    add-unlike e = rw e refl
+
+    pub add-turn : So (intact C s) → addTurn C s o ≡ faultAnswer (faultOf (s .trace) o)
+    unfolding addTurn
+    add-turn i = rw i refl
+
+    pub add-allows : So (isDone (addTurn C s o)) → Intact C s × So (joins (s .trace) o)
+    unfolding addTurn joins
+    add-allows h = let a = done-where (intact C s) _ (Refused Unlike) refl h in (intact-iff C s .0 (a .0), a .1)
+
+    module _ (a : Answer) (e : a ≡ addTurn C s o) where
+      pub add-refused : isDone a ≡ false → both a s ≡ addOf C s o
+      unfolding addOf
+      add-refused n = rw (← e, n) refl
+
+      pub add-taken : So (isDone a) → (s′ : Session) → s′ ≡ afresh C (trace.pushed (s .trace) o) (s .model) (standing (s .stack)) → both a s′ ≡ addOf C s o
+      unfolding addOf
+      add-taken d s′ q = rw (← e, d) (ap (both a) q)
+
+  pub waiting-unlike : intact C s ≡ false → both (Refused Unlike) s ≡ waitingOf C s
+  unfolding waitingOf
+  waiting-unlike n = rw n refl
+
+  pub waiting-told : So (intact C s) → (a : Answer) → a ≡ waitsOf (missingOf (s .trace)) → both a s ≡ waitingOf C s
+  unfolding waitingOf
+  waiting-told i a q = rw i (ap (λ b. both b s) q)
 
   pub back-unlike : intact C s ≡ false → takeBackTurn C s ≡ Refused Unlike
   unfolding takeBackTurn

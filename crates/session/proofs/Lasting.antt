@@ -1,9 +1,9 @@
--- Every session that is handed back is intact, and a call changes neither its trace nor its model.
+-- Every session that is handed back is intact; a call changes its trace by the record that it adds alone, and its model not at all.
 --
 --   blank-intact, blank-opened == the session beside a refusal, which is that of an opening too
 --   made-intact   == one made afresh from its parts
 --   opened-intact == one beside any opening
---   act-intact, act-trace == one after a call on an intact session
+--   act-intact, act-trace, act-model == one after a call on an intact session
 use mathlib.Core.Path.{_≡_, refl, sym, ap, _∙_, subst}
 use mathlib.Core.Logic.{inl, inr}
 use mathlib.Core.Bool.{_&&_}
@@ -19,7 +19,7 @@ use Rattle.session.specs.Closings.{Closings}
 use Rattle.session.specs.Session.{afresh, Intact, blank}
 use Rattle.session.specs.Entries.{openOf, afreshOf}
 use Rattle.session.specs.Numbers.{Act, replyOf}
-use Rattle.session.specs.Calls.{kept}
+use Rattle.session.specs.Calls.{kept, recorded}
 use Rattle.session.specs.declared.Stack.{Stack}
 use Rattle.session.specs.declared.Session.{Session}
 use Rattle.session.specs.declared.Reply.{Reply}
@@ -27,7 +27,7 @@ use Rattle.session.proofs.Pairs.{stands-iff, stands-allowed, none-allow
 use Rattle.session.proofs.Openings.{empty-opens}
 use Rattle.session.proofs.Sessions.{intact-iff, afresh-intact}
 use Rattle.session.proofs.Answering.{afresh-done, afresh-unlike}
-use Rattle.session.proofs.Standing.{kept-allowed, act-kept, opened, open-blank}
+use Rattle.session.proofs.Standing.{kept-allowed, recorded-opens, act-kept, opened, open-blank}
 
 -- the session of a reply
 abbrev left : Reply → Session
@@ -57,15 +57,20 @@ module _ (C : Closings) where
 
   module _ (s : Session) (i : Intact C s) (a : Act) where
     -- the session after the call, made afresh
-    act-again : replyOf C s a .session ≡ afresh C (s .trace) (s .model) (kept (s .trace) (standing (s .stack)) a)
+    act-again : replyOf C s a .session ≡ afresh C (recorded (s .trace) a) (s .model) (kept (s .trace) (standing (s .stack)) a)
     act-again = ap (λ x. replyOf C x a .session) (i .same) ∙ act-kept C (s .trace) (s .model) (i .opens) (standing (s .stack)) (i .allowed) a
 
     pub act-intact : Intact C (replyOf C s a .session)
     act-intact =
         let ps = kept (s .trace) (standing (s .stack)) a in
         subst (λ (x : Session). Intact C x) (sym act-again)
-        (intact-iff C (afresh C (s .trace) (s .model) ps) .0 (afresh-intact C (s .trace) (s .model) ps (i .opens) (kept-allowed (s .trace) (standing (s .stack)) (i .allowed) a)))
+        (intact-iff C (afresh C (recorded (s .trace) a) (s .model) ps) .0
+        (afresh-intact C (recorded (s .trace) a) (s .model) ps (recorded-opens (s .trace) (s .model) (i .opens) a) (kept-allowed (s .trace) (standing (s .stack)) (i .allowed) a)))
 
-    pub act-trace : replyOf C s a .session .trace ≡ s .trace
+    pub act-trace : replyOf C s a .session .trace ≡ recorded (s .trace) a
     unfolding afresh
     act-trace = ap (λ x. x .trace) act-again
+
+    pub act-model : replyOf C s a .session .model ≡ s .model
+    unfolding afresh
+    act-model = ap (λ x. x .model) act-again

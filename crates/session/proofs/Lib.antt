@@ -5,6 +5,7 @@ pub mod Openings
 pub mod Forcing
 pub mod Sessions
 pub mod Answering
+pub mod Joining
 pub mod Standing
 pub mod Lasting
 pub mod Promises

@@ -1,56 +1,45 @@
 -- The number under which a call is turned back is the lowest that applies, and there is none exactly where none applies.
 --
 --   number-lowest == so it is of every call: an opening, a session asked for from its parts, an act on any session value whatever
---   number-eleven == 11 comes exactly where the verdict is no source, with the record of the verdict
 use mathlib.Core.Path.{_≡_, refl, sym, ap, _∙_, subst}
-use mathlib.Core.Logic.{_≢_, _↔_, inl, inr}
+use mathlib.Core.Logic.{_≢_, inl, inr}
 use mathlib.Core.Bool.{Bool, true, false, So, cond, _&&_, false≢true}
-use mathlib.Core.Option.{Option, none, some}
+use mathlib.Core.Option.{none}
 use Prim.Native.Nat.{ℕ, _≤_, _<_}
 use native.Mathlib.Decide.{decLt}
 use native.Mathlib.Omega.{arith}
 use Rattle.laws.specs.Lowest.{Lowest}
 use Rattle.laws.proofs.Tests.{test, and-iff, same-iff, eq?}
 use Rattle.trace.specs.WellFormed.{wellFormed}
+use Rattle.trace.specs.Fault.{numberOf, Wrong, Lower, Earns, faultOf}
 use Rattle.trace.specs.Meaning.{frameOf}
+use Rattle.trace.specs.declared.Op.{Op}
+use Rattle.trace.specs.declared.Fault.{Fault}
+use Rattle.trace.specs.declared.Fault.the-variants as fault
 use Rattle.trace.specs.declared.Trace.{Trace}
+use Rattle.trace.proofs.Faults.{fault-exactly}
 use Rattle.rows.specs.Rows.{bit}
-use Rattle.pairs.specs.Kept.{modelled, keptOf}
-use Rattle.rules.specs.Missing.{Missing}
-use Rattle.orders.specs.Verdict.{Says, noSource}
-use Rattle.orders.specs.MissingOf.{record?, missingOf}
+use Rattle.pairs.specs.Kept.{modelled}
+use Rattle.orders.specs.MissingOf.{missingOf}
 use Rattle.orders.specs.declared.sources.Found.{Found}
 use Rattle.orders.specs.declared.sources.Found.the-variants.{At, Nothing}
-use Rattle.orders.proofs.MissingOf.{missing-lowest}
 use Rattle.session.specs.Bounds.{PAIRS}
 use Rattle.session.specs.Stack.{standing, stands, Stands}
-use Rattle.session.specs.Opening.{sourcedOf, openingOf, isDone, openable}
+use Rattle.session.specs.Opening.{openingOf, isDone, openable}
 use Rattle.session.specs.Closings.{Closings}
-use Rattle.session.specs.Session.{afresh, intact, blank}
-use Rattle.session.specs.Entries.{pairTurn, supposeTurn, takeBackTurn, toldOf, openOf, afreshOf, supposeOf, takeBackOf, askOf}
-use Rattle.session.specs.Numbers.{refusal, Act, supposes, takesBack, asks, Call, opens, makes, does, Names, supposed, asked, Applies, nine, ten, eleven, twelve, unmade, thirteen, fourteen, fifteen, sixteen, answerOf}
-use Rattle.session.specs.declared.Reason.the-variants.{NoModel, NotWellFormed, Unlike}
+use Rattle.session.specs.Session.{afresh, intact, Intact, blank}
+use Rattle.session.specs.Entries.{pairTurn, supposeTurn, takeBackTurn, toldOf, faultAnswer, addTurn, waitsOf, openOf, afreshOf, supposeOf, takeBackOf, askOf, addOf, waitingOf}
+use Rattle.session.specs.Numbers.{refusal, Act, supposes, takesBack, asks, adds, awaits, Call, opens, makes, does, Names, supposed, asked, Applies, nine, ten, twelve, unmade, thirteen, fourteen, fifteen, sixteen, faulty, answerOf}
+use Rattle.session.specs.declared.Reason.the-variants.{Unlike}
 use Rattle.session.specs.declared.Answer.{Answer}
-use Rattle.session.specs.declared.Answer.the-variants.{Done, Held, NotHeld, Contradicted, NoSource, Refused}
+use Rattle.session.specs.declared.Answer.the-variants.{Held, NotHeld, Contradicted, Refused}
 use Rattle.session.specs.declared.Stack.{Stack}
 use Rattle.session.specs.declared.Session.{Session}
 use Rattle.session.specs.declared.Reply.{Reply}
 use Rattle.session.proofs.Pairs.{stands-iff}
 use Rattle.session.proofs.Openings.{opening-nine, opening-ten, opening-asks}
 use Rattle.session.proofs.Sessions.{intact-iff}
-use Rattle.session.proofs.Answering.{afresh-done, afresh-unlike, pair-unlike, pair-fence, pair-one, pair-done, suppose-pair, suppose-full, suppose-done, back-unlike, back-none, back-done}
-
--- the record that an answer comes with
-abbrev record-of : Answer → Option ℕ
-record-of Done = none
-record-of Held = none
-record-of NotHeld = none
-record-of Contradicted = none
-record-of (NoSource x) = some x
-record-of (Refused r) = none
-
-some≢none : {x : ℕ} → _≡_ {A = Option ℕ} (some x) none → ⊥
-some≢none {x} e = let z : _≡_ {A = ℕ} 1 0 = ap (λ (o : Option ℕ). elim o [ some y ↦ 1 | none ↦ 0 ]) e in omega arith
+use Rattle.session.proofs.Answering.{afresh-done, afresh-unlike, pair-unlike, pair-fence, pair-one, pair-done, suppose-pair, suppose-full, suppose-done, back-unlike, back-none, back-done, add-unlike, add-turn, waiting-unlike, waiting-told}
 
 -- an answer is right for a call
 abbrev Right : Closings → Call → Answer → Type 0
@@ -60,59 +49,23 @@ module _ (C : Closings) (t : Trace) (m : ℕ) where
   from-nine : (n : ℕ) → Applies C (opens t m) n → 9 ≤ n
   from-nine n (nine h) = omega arith
   from-nine n (ten h) = omega arith
-  from-nine n (eleven L h) = omega arith
 
   from-ten : So (modelled m) → (n : ℕ) → Applies C (opens t m) n → 10 ≤ n
   from-ten s n (nine h) = absurd (h s)
   from-ten s n (ten h) = omega arith
-  from-ten s n (eleven L h) = omega arith
 
-  from-eleven : So (modelled m) → So (wellFormed t) → (n : ℕ) → Applies C (opens t m) n → 11 ≤ n
-  from-eleven s w n (nine h) = absurd (h s)
-  from-eleven s w n (ten h) = absurd (h w)
-  from-eleven s w n (eleven L h) = omega arith
-
-  none-opens : So (modelled m) → So (wellFormed t) → ((L : ℕ) → Missing (frameOf t) L → ⊥) → (n : ℕ) → Applies C (opens t m) n → ⊥
-  none-opens s w u n (nine h) = h s
-  none-opens s w u n (ten h) = h w
-  none-opens s w u n (eleven L h) = u L h
+  none-opens : So (modelled m) → So (wellFormed t) → (n : ℕ) → Applies C (opens t m) n → ⊥
+  none-opens s w n (nine h) = h s
+  none-opens s w n (ten h) = h w
 
   opening-right : Right C (opens t m) (openingOf t m)
   opening-right = elim (test (modelled m)) [
     | inr n ↦ subst (Right C (opens t m)) (sym (opening-nine t m n)) (nine (λ s. false≢true (sym n ∙ s)), from-nine)
     | inl s ↦ elim (test (wellFormed t)) [
       | inr n ↦ subst (Right C (opens t m)) (sym (opening-ten t m s n)) (ten (λ w. false≢true (sym n ∙ w)), from-ten s)
-      | inl w ↦ subst (Right C (opens t m)) (sym (opening-asks t m s w)) (sources s w (missingOf t) (missing-lowest t w))
+      | inl w ↦ subst (Right C (opens t m)) (sym (opening-asks t m s w)) (none-opens s w)
     ]
   ]
-    where
-      sources : So (modelled m) → So (wellFormed t) → (a : Found) → Lowest (Missing (frameOf t)) (record? a) → Right C (opens t m) (sourcedOf a)
-      sources s w (At x) l = (eleven x (l .0), from-eleven s w)
-      sources s w Nothing l = none-opens s w l
-
-module _ (t : Trace) (m : ℕ) where
-  pub number-eleven : (x : ℕ) → (openingOf t m ≡ NoSource x) ↔ ((So (modelled m) × So (wellFormed t)) × Says (frameOf t) (keptOf m t) (noSource x))
-  number-eleven x = (goes, λ h. opening-asks t m (h .0 .0) (h .0 .1) ∙ comes (missingOf t) (missing-lowest t (h .0 .1)) (h .1))
-    where
-      other : (a : Answer) → openingOf t m ≡ a → record-of a ≡ none → openingOf t m ≡ NoSource x → ⊥
-      other a e n q = let z : some x ≡ none = sym (ap record-of q) ∙ ap record-of e ∙ n in some≢none z
-
-      found : (a : Found) → sourcedOf a ≡ NoSource x → Lowest (Missing (frameOf t)) (record? a) → Lowest (Missing (frameOf t)) (some x)
-      found (At y) q l = subst (λ (o : Option ℕ). Lowest (Missing (frameOf t)) o) (ap record-of q) l
-      found Nothing q l = absurd (some≢none (sym (ap record-of q)))
-
-      goes : openingOf t m ≡ NoSource x → (So (modelled m) × So (wellFormed t)) × Says (frameOf t) (keptOf m t) (noSource x)
-      goes e = elim (test (modelled m)) [
-        | inr n ↦ absurd (other (Refused NoModel) (opening-nine t m n) refl e)
-        | inl s ↦ elim (test (wellFormed t)) [
-          | inr n ↦ absurd (other (Refused NotWellFormed) (opening-ten t m s n) refl e)
-          | inl w ↦ ((s, w), found (missingOf t) (sym (opening-asks t m s w) ∙ e) (missing-lowest t w))
-        ]
-      ]
-
-      comes : (a : Found) → Lowest (Missing (frameOf t)) (record? a) → Lowest (Missing (frameOf t)) (some x) → sourcedOf a ≡ NoSource x
-      comes (At y) l k = ap NoSource (omega (arith, l .1 x (k .0), k .1 y (l .0)))
-      comes Nothing l k = absurd (l x (k .0))
 
 module _ (C : Closings) (t : Trace) (m : ℕ) (k : Stack) where
   from-parts : (n : ℕ) → Applies C (makes t m k) n → 12 ≤ n
@@ -127,23 +80,33 @@ module _ (C : Closings) (t : Trace) (m : ℕ) (k : Stack) where
     | inr n ↦ subst (λ (r : Reply). Right C (makes t m k) (r .answer)) (afresh-unlike C t m k n (blank C) refl) (unmade (λ s. false≢true (sym n ∙ and-iff same-iff (stands-iff t k) .1 s)), from-parts)
   ]
 
-module _ (C : Closings) (s : Session) where
-  from-twelve : (a : Act) (n : ℕ) → Applies C (does s a) n → 12 ≤ n
-  from-twelve a n (twelve h) = omega arith
-  from-twelve a n (thirteen v h) = omega arith
-  from-twelve a n (fourteen v) = omega arith
-  from-twelve a n (fifteen h) = omega arith
-  from-twelve a n (sixteen h) = omega arith
+-- an act that adds no record
+abbrev Still : Act → Type 0
+Still (supposes x y) = Unit {0}
+Still takesBack = Unit {0}
+Still (asks x y) = Unit {0}
+Still (adds o) = ⊥
+Still awaits = Unit {0}
 
-  from-thirteen : So (intact C s) → (a : Act) (n : ℕ) → Applies C (does s a) n → 13 ≤ n
-  from-thirteen i a n (twelve h) = absurd (h (intact-iff C s .0 i))
-  from-thirteen i a n (thirteen v h) = omega arith
-  from-thirteen i a n (fourteen v) = omega arith
-  from-thirteen i a n (fifteen h) = omega arith
-  from-thirteen i a n (sixteen h) = omega arith
+module _ (C : Closings) (s : Session) where
+  from-twelve : (Intact C s → ⊥) → (a : Act) (n : ℕ) → Applies C (does s a) n → 12 ≤ n
+  from-twelve out a n (twelve h) = omega arith
+  from-twelve out a n (thirteen v h) = omega arith
+  from-twelve out a n (fourteen v) = omega arith
+  from-twelve out a n (fifteen h) = omega arith
+  from-twelve out a n (sixteen h) = omega arith
+  from-twelve out a n (faulty f i w) = absurd (out i)
+
+  from-thirteen : So (intact C s) → (a : Act) → Still a → (n : ℕ) → Applies C (does s a) n → 13 ≤ n
+  from-thirteen i a q n (twelve h) = absurd (h (intact-iff C s .0 i))
+  from-thirteen i a q n (thirteen v h) = omega arith
+  from-thirteen i a q n (fourteen v) = omega arith
+  from-thirteen i a q n (fifteen h) = omega arith
+  from-thirteen i a q n (sixteen h) = omega arith
+  from-thirteen i a q n (faulty f _ w) = absurd q
 
   unlike-right : intact C s ≡ false → (a : Act) → Right C (does s a) (Refused Unlike)
-  unlike-right n a = (twelve (λ i. false≢true (sym n ∙ intact-iff C s .1 i)), from-twelve a)
+  unlike-right n a = let out : Intact C s → ⊥ = λ i. false≢true (sym n ∙ intact-iff C s .1 i) in (twelve out, from-twelve out a)
 
   module _ (x y : ℕ) where
     -- an act speaks of x and y, and of no others
@@ -160,19 +123,21 @@ module _ (C : Closings) (s : Session) where
     not-fourteen : x ≢ y → (a : Act) → Only a → {u : ℕ} → Names a u u → ⊥
     not-fourteen d a only {u} w = let e = only u u w in d (sym (e .0) ∙ e .1)
 
-    from-fourteen : So (intact C s) → Operations → (a : Act) → Only a → (n : ℕ) → Applies C (does s a) n → 14 ≤ n
-    from-fourteen i o a only n (twelve h) = absurd (h (intact-iff C s .0 i))
-    from-fourteen i o a only n (thirteen w h) = absurd (not-thirteen o a only w h)
-    from-fourteen i o a only n (fourteen w) = omega arith
-    from-fourteen i o a only n (fifteen h) = omega arith
-    from-fourteen i o a only n (sixteen h) = omega arith
+    from-fourteen : So (intact C s) → Operations → (a : Act) → Only a → Still a → (n : ℕ) → Applies C (does s a) n → 14 ≤ n
+    from-fourteen i o a only q n (twelve h) = absurd (h (intact-iff C s .0 i))
+    from-fourteen i o a only q n (thirteen w h) = absurd (not-thirteen o a only w h)
+    from-fourteen i o a only q n (fourteen w) = omega arith
+    from-fourteen i o a only q n (fifteen h) = omega arith
+    from-fourteen i o a only q n (sixteen h) = omega arith
+    from-fourteen i o a only q n (faulty f _ w) = absurd q
 
-    from-fifteen : So (intact C s) → Operations → x ≢ y → (a : Act) → Only a → (n : ℕ) → Applies C (does s a) n → 15 ≤ n
-    from-fifteen i o d a only n (twelve h) = absurd (h (intact-iff C s .0 i))
-    from-fifteen i o d a only n (thirteen w h) = absurd (not-thirteen o a only w h)
-    from-fifteen i o d a only n (fourteen w) = absurd (not-fourteen d a only w)
-    from-fifteen i o d a only n (fifteen h) = omega arith
-    from-fifteen i o d a only n (sixteen h) = omega arith
+    from-fifteen : So (intact C s) → Operations → x ≢ y → (a : Act) → Only a → Still a → (n : ℕ) → Applies C (does s a) n → 15 ≤ n
+    from-fifteen i o d a only q n (twelve h) = absurd (h (intact-iff C s .0 i))
+    from-fifteen i o d a only q n (thirteen w h) = absurd (not-thirteen o a only w h)
+    from-fifteen i o d a only q n (fourteen w) = absurd (not-fourteen d a only w)
+    from-fifteen i o d a only q n (fifteen h) = omega arith
+    from-fifteen i o d a only q n (sixteen h) = omega arith
+    from-fifteen i o d a only q n (faulty f _ w) = absurd q
 
     abbrev joined : Bool
     joined = frameOf (s .trace) .operation x && frameOf (s .trace) .operation y
@@ -203,16 +168,16 @@ module _ (C : Closings) (s : Session) where
       | inl i ↦ elim (test joined) [
         | inr n ↦
             refused (pair-fence C s x y i n) refl
-            (thirteen supposed (λ o. false≢true (sym n ∙ and-iff same-iff same-iff .1 o)), from-thirteen i (supposes x y))
+            (thirteen supposed (λ o. false≢true (sym n ∙ and-iff same-iff same-iff .1 o)), from-thirteen i (supposes x y) tt)
         | inl o ↦ elim (eq? x y) [
           | inl e ↦
               refused (pair-one C s x y i o e) refl
-              (fourteen (subst (λ (z : ℕ). Names (supposes x z) x x) e supposed), from-fourteen i (both o) (supposes x y) supposes-only)
+              (fourteen (subst (λ (z : ℕ). Names (supposes x z) x x) e supposed), from-fourteen i (both o) (supposes x y) supposes-only tt)
           | inr d ↦ elim (decLt (s .stack .count) PAIRS) [
             | yes l ↦ subst (Right C (does s (supposes x y))) (sym (suppose-done C s x y (ap isDone (pair-done C s x y i o d)) l)) (none-supposes i o d l)
             | no l ↦
                 subst (Right C (does s (supposes x y))) (sym (suppose-full C s x y (ap isDone (pair-done C s x y i o d)) (omega arith)))
-                (fifteen (omega arith), from-fifteen i (both o) d (supposes x y) supposes-only)
+                (fifteen (omega arith), from-fifteen i (both o) d (supposes x y) supposes-only tt)
           ]
         ]
       ]
@@ -234,11 +199,11 @@ module _ (C : Closings) (s : Session) where
       | inl i ↦ elim (test joined) [
         | inr n ↦
             refused (pair-fence C s x y i n) refl
-            (thirteen asked (λ o. false≢true (sym n ∙ and-iff same-iff same-iff .1 o)), from-thirteen i (asks x y))
+            (thirteen asked (λ o. false≢true (sym n ∙ and-iff same-iff same-iff .1 o)), from-thirteen i (asks x y) tt)
         | inl o ↦ elim (eq? x y) [
           | inl e ↦
               refused (pair-one C s x y i o e) refl
-              (fourteen (subst (λ (z : ℕ). Names (asks x z) x x) e asked), from-fourteen i (both o) (asks x y) asks-only)
+              (fourteen (subst (λ (z : ℕ). Names (asks x z) x x) e asked), from-fourteen i (both o) (asks x y) asks-only tt)
           | inr d ↦
               subst (Lowest (Applies C (does s (asks x y))))
               (sym (ap (λ a. refusal (cond (isDone a) (toldOf s x y) a)) (pair-done C s x y i o d) ∙ told-none (s .contradicted) (bit (s .held) x y)))
@@ -268,10 +233,50 @@ module _ (C : Closings) (s : Session) where
     ]
   ]
 
+  module _ (o : Op) (i : So (intact C s)) where
+    -- no number below that of a fault, where no lower one's case holds
+    from-fault : (f : Fault) → Lower f (s .trace) o → (n : ℕ) → Applies C (does s (adds o)) n → numberOf f ≤ n
+    from-fault f l n (twelve h) = absurd (h (intact-iff C s .0 i))
+    from-fault f l n (faulty g _ w) = elim (decLt (numberOf g) (numberOf f)) [ yes h ↦ absurd (l g h w) | no h ↦ omega arith ]
+
+    none-adds : ((f : Fault) → Wrong f (s .trace) o → ⊥) → (n : ℕ) → Applies C (does s (adds o)) n → ⊥
+    none-adds e n (twelve h) = h (intact-iff C s .0 i)
+    none-adds e n (faulty g _ w) = e g w
+
+    -- what a record earns is what it gets
+    fault-right : (f : Fault) → Earns f (s .trace) o → Right C (does s (adds o)) (faultAnswer f)
+    fault-right fault.Nothing e = none-adds e
+    fault-right fault.PastBound e = (faulty fault.PastBound (intact-iff C s .0 i) (e .0), from-fault fault.PastBound (e .1))
+    fault-right fault.FirstValue e = (faulty fault.FirstValue (intact-iff C s .0 i) (e .0), from-fault fault.FirstValue (e .1))
+    fault-right fault.TooMany e = (faulty fault.TooMany (intact-iff C s .0 i) (e .0), from-fault fault.TooMany (e .1))
+    fault-right fault.Twice e = (faulty fault.Twice (intact-iff C s .0 i) (e .0), from-fault fault.Twice (e .1))
+
+  add-right : (o : Op) → Right C (does s (adds o)) (addTurn C s o)
+  add-right o = elim (test (intact C s)) [
+    | inr n ↦ subst (Right C (does s (adds o))) (sym (add-unlike C s o n)) (unlike-right n (adds o))
+    | inl i ↦ subst (Right C (does s (adds o))) (sym (add-turn C s o i)) (fault-right o i (faultOf (s .trace) o) (fault-exactly (s .trace) o (faultOf (s .trace) o) .0 refl))
+  ]
+
+  -- that a record waits is no refusal
+  none-awaits : So (intact C s) → (n : ℕ) → Applies C (does s awaits) n → ⊥
+  none-awaits i n (twelve h) = h (intact-iff C s .0 i)
+
+  awaits-right : Right C (does s awaits) (waitingOf C s .answer)
+  awaits-right = elim (test (intact C s)) [
+    | inr n ↦ subst (λ (r : Reply). Right C (does s awaits) (r .answer)) (waiting-unlike C s n) (unlike-right n awaits)
+    | inl i ↦ subst (λ (r : Reply). Right C (does s awaits) (r .answer)) (waiting-told C s i (waitsOf (missingOf (s .trace))) refl) (waited (missingOf (s .trace)) i)
+  ]
+    where
+      waited : (found : Found) → So (intact C s) → Right C (does s awaits) (waitsOf found)
+      waited (At x) i = none-awaits i
+      waited Nothing i = none-awaits i
+
 pub number-lowest : (C : Closings) (c : Call) → Lowest (Applies C c) (refusal (answerOf C c))
-unfolding openOf supposeOf takeBackOf
+unfolding openOf supposeOf takeBackOf addOf
 number-lowest C (opens t m) = opening-right C t m
 number-lowest C (makes t m k) = made-right C t m k
 number-lowest C (does s (supposes x y)) = suppose-right C s x y
 number-lowest C (does s takesBack) = back-right C s
 number-lowest C (does s (asks x y)) = ask-right C s x y
+number-lowest C (does s (adds o)) = add-right C s o
+number-lowest C (does s awaits) = awaits-right C s

@@ -14,6 +14,10 @@ use Rattle.session.proofs.calls.take_back.Reads as take-back
 use Rattle.session.proofs.calls.take_back.Kinds as take-back-kinds
 use Rattle.session.proofs.calls.ask.Reads as ask
 use Rattle.session.proofs.calls.ask.Kinds as ask-kinds
+use Rattle.session.proofs.calls.add.Reads as add
+use Rattle.session.proofs.calls.add.Kinds as add-kinds
+use Rattle.session.proofs.calls.waiting.Reads as waiting
+use Rattle.session.proofs.calls.waiting.Kinds as waiting-kinds
 
 pub open-settles : Settles 0 open-kinds.ps open-kinds.r opens.Post
 open-settles κs a x y s t p q = p closings-some ∙ sym (q closings-some)
@@ -29,3 +33,9 @@ take-back-settles κs a x y s t p q = p closings-some ∙ sym (q closings-some)
 
 pub ask-settles : Settles 0 ask-kinds.ps ask-kinds.r ask.Post
 ask-settles κs a x y s t p q = p closings-some ∙ sym (q closings-some)
+
+pub add-settles : Settles 0 add-kinds.ps add-kinds.r add.Post
+add-settles κs a x y s t p q = p closings-some ∙ sym (q closings-some)
+
+pub waiting-settles : Settles 0 waiting-kinds.ps waiting-kinds.r waiting.Post
+waiting-settles κs a x y s t p q = p closings-some ∙ sym (q closings-some)

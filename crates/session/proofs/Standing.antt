@@ -1,16 +1,17 @@
--- What any list of calls comes to: the session made afresh with the pairs still standing.
+-- What any list of calls comes to: the session made afresh on the records so far, with the pairs still standing.
 --
---   kept-allowed  == the pairs that stand after a call are allowed again
+--   kept-allowed, recorded-opens == the pairs that stand after a call are allowed on the trace after it, which opens again
 --   act-kept      == one call on a session made afresh
 --   act-stays, act-given == a call that is turned back leaves the session as given
 --   act-unlike    == so does every call on a session that is not intact
 --   opened        == an opening that is done gives the session with no pairs
 --   open-blank    == beside a refused opening stands the session of the empty trace under model 1
---   after-afresh  == any list of calls, refused ones included
+--   after-afresh  == any list of calls, refused ones and records that are added included
 --   after-opened, after-refused == so it goes after any opening, done or refused
 --   after-intact  == so no later call on it is turned back as 12, and what Promises says of an intact session holds of it
 --   supposed-all  == supposing the pairs of an allowed list in turn leaves that list standing
---   after-again   == hence after any calls the session equals the one opened afresh in which the pairs still standing are supposed in turn
+--   after-again   == hence after any calls the session equals the one opened afresh on the records so far, in which the pairs still standing are
+--                    supposed in turn
 use mathlib.Core.Path.{_≡_, refl, sym, ap, _∙_, subst}
 use mathlib.Core.Logic.{inl, inr}
 use mathlib.Core.Bool.{Bool, true, false, So, cond, _&&_, false≢true}
@@ -22,7 +23,10 @@ use lib.Dec.{ltb}
 use lib.ListN.{length, getD, take, length-append}
 use lib.Seq.{take-all, getD-append-add}
 use Rattle.laws.proofs.Tests.{off, and-iff, same-iff, so-lt, eq?}
+use Rattle.trace.specs.Trace as trace
 use Rattle.trace.specs.Trace.{empty}
+use Rattle.trace.specs.Fault.{faultOf}
+use Rattle.trace.specs.declared.Op.{Op}
 use Rattle.trace.specs.declared.Trace.{Trace}
 use Rattle.pairs.specs.Kept.{SC}
 use Rattle.session.specs.Bounds.{PAIRS}
@@ -30,18 +34,19 @@ use Rattle.session.specs.Stack.{unused, supposable, Allowed, stacked, st
 use Rattle.session.specs.Opening.{openingOf, isDone, openable}
 use Rattle.session.specs.Closings.{Closings}
 use Rattle.session.specs.Session.{afresh, intact, blank}
-use Rattle.session.specs.Entries.{supposeTurn, takeBackTurn, openOf, supposeOf, takeBackOf, askOf}
-use Rattle.session.specs.Numbers.{refusal, Act, supposes, takesBack, asks, replyOf}
-use Rattle.session.specs.Calls.{after, kept, standingAfter, supposeAll}
+use Rattle.session.specs.Entries.{supposeTurn, takeBackTurn, faultAnswer, joins, addTurn, openOf, supposeOf, takeBackOf, askOf, addOf, waitingOf}
+use Rattle.session.specs.Numbers.{refusal, Act, supposes, takesBack, asks, adds, awaits, replyOf}
+use Rattle.session.specs.Calls.{after, kept, recorded, recordedAfter, standingAfter, supposeAll}
 use Rattle.session.specs.declared.Pair.{Pair}
 use Rattle.session.specs.declared.Answer.{Answer}
-use Rattle.session.specs.declared.Answer.the-variants.{Done, Held, NotHeld, Contradicted, NoSource, Refused}
+use Rattle.session.specs.declared.Answer.the-variants.{Done, Held, NotHeld, Contradicted, Waits, Refused}
 use Rattle.session.specs.declared.Reply.{Reply}
 use Rattle.session.specs.declared.Session.{Session}
 use Rattle.session.proofs.Pairs.{supposable-iff, none-allowed, allowed-stands, stands-allowed, standing-stacked, pushed-stands, standing-pushed, popped-stands, standing-popped}
 use Rattle.session.proofs.Openings.{empty-opens}
+use Rattle.session.proofs.Joining.{joined-opens, joined-allowed}
 use Rattle.session.proofs.Sessions.{afresh-standing, afresh-count, afresh-intact}
-use Rattle.session.proofs.Answering.{pair-unlike, pair-done, suppose-pair, suppose-done, suppose-allows, back-unlike, back-none, back-done, suppose-taken, suppose-refused, back-taken, back-refused, open-done, open-refused}
+use Rattle.session.proofs.Answering.{pair-unlike, pair-done, suppose-pair, suppose-done, suppose-allows, back-unlike, back-none, back-done, suppose-taken, suppose-refused, back-taken, back-refused, add-turn, add-unlike, add-taken, add-refused, open-done, open-refused}
 
 -- the session of a reply
 abbrev left : Reply → Session
@@ -71,7 +76,7 @@ module _ (t : Trace) where
       subst (λ (qs : List Pair). Allowed t qs) (standing-popped t (stacked ps) k ∙ ap (λ qs. take (length qs - 1) qs) (standing-stacked t ps))
       (stands-allowed t (popped (stacked ps)) (popped-stands t (stacked ps) k))
 
-  pub kept-allowed : (ps : List Pair) → Allowed t ps → (a : Act) → Allowed t (kept t ps a)
+  pub kept-allowed : (ps : List Pair) → Allowed t ps → (a : Act) → Allowed (recorded t a) (kept t ps a)
   kept-allowed ps al (supposes x y) = go (takes ps p) refl
     where
       p : Pair
@@ -82,11 +87,23 @@ module _ (t : Trace) where
       go false e = al
   kept-allowed ps al takesBack = fewer-allowed ps al
   kept-allowed ps al (asks x y) = al
+  kept-allowed ps al (adds o) = go (joins t o) refl
+    where
+      go : (b : Bool) → joins t o ≡ b → Allowed (cond b (trace.pushed t o) t) ps
+      go true e = joined-allowed t o e ps al
+      go false e = al
+  kept-allowed ps al awaits = al
 
-  standing-allowed : (cs : List Act) (ps : List Pair) → Allowed t ps → Allowed t (standingAfter t ps cs)
-  unfolding standingAfter
-  standing-allowed [] ps al = al
-  standing-allowed (a ∷ cs) ps al = standing-allowed cs (kept t ps a) (kept-allowed ps al a)
+  pub recorded-opens : (m : ℕ) → So (openable t m) → (a : Act) → So (openable (recorded t a) m)
+  recorded-opens m o (supposes x y) = o
+  recorded-opens m o takesBack = o
+  recorded-opens m o (asks x y) = o
+  recorded-opens m o (adds p) = go (joins t p) refl
+    where
+      go : (b : Bool) → joins t p ≡ b → So (openable (cond b (trace.pushed t p) t) m)
+      go true e = joined-opens t p e m o
+      go false e = o
+  recorded-opens m o awaits = o
 
   -- a pair of an allowed list is taken
   next-taken : (ps : List Pair) (q : Pair) (qs : List Pair) → Allowed t (ps ++ q ∷ qs) → So (takes ps q)
@@ -143,32 +160,74 @@ module _ (C : Closings) (t : Trace) where
             ∙ ap (λ qs. afresh C t m (take (length qs - 1) qs)) (afresh-standing C t m ps)
       ]
 
-      pub act-kept : (a : Act) → left (replyOf C here a) ≡ afresh C t m (kept t ps a)
-      unfolding askOf
+      add-kept : (p : Op) → left (addOf C here p) ≡ afresh C (recorded t (adds p)) m ps
+      unfolding afresh joins
+      add-kept p = go (joins t p) refl
+        where
+          turns : isDone (addTurn C here p) ≡ joins t p
+          turns = ap isDone (add-turn C here p whole)
+
+          go : (b : Bool) → joins t p ≡ b → left (addOf C here p) ≡ afresh C (cond b (trace.pushed t p) t) m ps
+          go true e =
+              sym (ap left (add-taken C here p (addTurn C here p) refl (turns ∙ e) (afresh C (trace.pushed t p) m (standing (here .stack))) refl))
+              ∙ ap (afresh C (trace.pushed t p) m) (afresh-standing C t m ps)
+          go false e = sym (ap left (add-refused C here p (addTurn C here p) refl (turns ∙ e)))
+
+      pub act-kept : (a : Act) → left (replyOf C here a) ≡ afresh C (recorded t a) m (kept t ps a)
+      unfolding askOf waitingOf
       act-kept (supposes x y) = suppose-kept x y
       act-kept takesBack = back-kept
       act-kept (asks x y) = refl
-
-    pub after-afresh : (cs : List Act) (ps : List Pair) → Allowed t ps → after C (afresh C t m ps) cs ≡ afresh C t m (standingAfter t ps cs)
-    unfolding after standingAfter
-    after-afresh [] ps al = refl
-    after-afresh (a ∷ cs) ps al = ap (λ s. after C s cs) (act-kept ps al a) ∙ after-afresh cs (kept t ps a) (kept-allowed t ps al a)
+      act-kept (adds p) = add-kept p
+      act-kept awaits = refl
 
     pub opened : left (openOf C t m) ≡ afresh C t m []
     unfolding openable
     opened = sym (ap left (open-done C t m (openingOf t m) refl o (afresh C t m []) refl))
 
-    pub after-opened : (cs : List Act) → after C (left (openOf C t m)) cs ≡ afresh C t m (standingAfter t [] cs)
-    after-opened cs = ap (λ s. after C s cs) opened ∙ after-afresh cs [] (none-allowed t)
+-- ---- any list of calls, over a trace that may grow
+pub after-afresh : (C : Closings) (m : ℕ) (cs : List Act) (t : Trace) → So (openable t m) → (ps : List Pair) → Allowed t ps
+    → after C (afresh C t m ps) cs ≡ afresh C (recordedAfter t cs) m (standingAfter t ps cs)
+unfolding after standingAfter recordedAfter
+after-afresh C m [] t o ps al = refl
+after-afresh C m (a ∷ cs) t o ps al =
+    ap (λ s. after C s cs) (act-kept C t m o ps al a) ∙ after-afresh C m cs (recorded t a) (recorded-opens t m o a) (kept t ps a) (kept-allowed t ps al a)
 
-  pub after-intact : (m : ℕ) → So (openable t m) → (cs : List Act) → So (intact C (after C (left (openOf C t m)) cs))
-  after-intact m o cs =
-      subst (λ (s : Session). So (intact C s)) (sym (after-opened m o cs)) (afresh-intact C t m (standingAfter t [] cs) o (standing-allowed t cs [] (none-allowed t)))
+pub standing-allowed : (cs : List Act) (t : Trace) (ps : List Pair) → Allowed t ps → Allowed (recordedAfter t cs) (standingAfter t ps cs)
+unfolding standingAfter recordedAfter
+standing-allowed [] t ps al = al
+standing-allowed (a ∷ cs) t ps al = standing-allowed cs (recorded t a) (kept t ps a) (kept-allowed t ps al a)
 
-  pub after-again : (m : ℕ) → So (openable t m) → (cs : List Act) → after C (left (openOf C t m)) cs ≡ after C (left (openOf C t m)) (supposeAll (standingAfter t [] cs))
-  after-again m o cs =
-      after-opened m o cs
-      ∙ sym (after-opened m o (supposeAll (standingAfter t [] cs)) ∙ ap (afresh C t m) (supposed-all t (standingAfter t [] cs) [] (standing-allowed t cs [] (none-allowed t))))
+pub after-opens : (m : ℕ) (cs : List Act) (t : Trace) → So (openable t m) → So (openable (recordedAfter t cs) m)
+unfolding recordedAfter
+after-opens m [] t o = o
+after-opens m (a ∷ cs) t o = after-opens m cs (recorded t a) (recorded-opens t m o a)
+
+-- supposing adds no record
+supposing-records : (qs : List Pair) (t : Trace) → recordedAfter t (supposeAll qs) ≡ t
+unfolding recordedAfter supposeAll
+supposing-records [] t = refl
+supposing-records (q ∷ qs) t = supposing-records qs t
+
+module _ (C : Closings) (t : Trace) (m : ℕ) (o : So (openable t m)) (cs : List Act) where
+  pub after-opened : after C (left (openOf C t m)) cs ≡ afresh C (recordedAfter t cs) m (standingAfter t [] cs)
+  after-opened = ap (λ s. after C s cs) (opened C t m o) ∙ after-afresh C m cs t o [] (none-allowed t)
+
+  pub after-intact : So (intact C (after C (left (openOf C t m)) cs))
+  after-intact =
+      subst (λ (s : Session). So (intact C s)) (sym after-opened)
+      (afresh-intact C (recordedAfter t cs) m (standingAfter t [] cs) (after-opens m cs t o) (standing-allowed cs t [] (none-allowed t)))
+
+pub after-again : (C : Closings) (t : Trace) (m : ℕ) → So (openable t m) → (cs : List Act)
+    → after C (left (openOf C t m)) cs ≡ after C (left (openOf C (recordedAfter t cs) m)) (supposeAll (standingAfter t [] cs))
+after-again C t m o cs =
+    let u = recordedAfter t cs in
+    let ps = standingAfter t [] cs in
+    after-opened C t m o cs
+    ∙ sym
+    (after-opened C u m (after-opens m cs t o) (supposeAll ps)
+    ∙ ap (λ v. afresh C v m (standingAfter u [] (supposeAll ps))) (supposing-records ps u)
+    ∙ ap (afresh C u m) (supposed-all u ps [] (standing-allowed cs t [] (none-allowed t))))
 
 -- an answer with a number is not done
 not-done : (a : Answer) (n : ℕ) → refusal a ≡ some n → isDone a ≡ false
@@ -176,7 +235,7 @@ not-done Done n e = let z : _≡_ {A = ℕ} 0 1 = cc in absurd (omega arith)
 not-done Held n e = refl
 not-done NotHeld n e = refl
 not-done Contradicted n e = refl
-not-done (NoSource x) n e = refl
+not-done (Waits x) n e = refl
 not-done (Refused r) n e = refl
 
 module _ (C : Closings) where
@@ -184,23 +243,27 @@ module _ (C : Closings) where
   unfolding openable
   open-blank t m n = sym (ap left (open-refused C t m (openingOf t m) refl n (blank C) refl))
 
-  pub after-refused : (t : Trace) (m : ℕ) → openable t m ≡ false → (cs : List Act) → after C (left (openOf C t m)) cs ≡ afresh C empty SC (standingAfter empty [] cs)
-  after-refused t m n cs = ap (λ s. after C s cs) (open-blank t m n) ∙ after-afresh C empty SC empty-opens cs [] (none-allowed empty)
+  pub after-refused : (t : Trace) (m : ℕ) → openable t m ≡ false → (cs : List Act) → after C (left (openOf C t m)) cs ≡ afresh C (recordedAfter empty cs) SC (standingAfter empty [] cs)
+  after-refused t m n cs = ap (λ s. after C s cs) (open-blank t m n) ∙ after-afresh C SC cs empty empty-opens [] (none-allowed empty)
 
   pub act-stays : (s : Session) (a : Act) → isDone (replyOf C s a .answer) ≡ false → left (replyOf C s a) ≡ s
-  unfolding supposeOf takeBackOf askOf
+  unfolding supposeOf takeBackOf askOf addOf waitingOf
   act-stays s (supposes x y) e = sym (ap left (suppose-refused C s x y (supposeTurn C s x y) refl e))
   act-stays s takesBack e = sym (ap left (back-refused C s (takeBackTurn C s) refl e))
   act-stays s (asks x y) e = refl
+  act-stays s (adds p) e = sym (ap left (add-refused C s p (addTurn C s p) refl e))
+  act-stays s awaits e = refl
 
   pub act-given : (s : Session) (a : Act) (n : ℕ) → refusal (replyOf C s a .answer) ≡ some n → left (replyOf C s a) ≡ s
   act-given s a n e = act-stays s a (not-done (replyOf C s a .answer) n e)
 
   pub act-unlike : (s : Session) → intact C s ≡ false → (a : Act) → left (replyOf C s a) ≡ s
-  unfolding askOf
+  unfolding askOf waitingOf
   act-unlike s n (supposes x y) =
       let e = pair-unlike C s x y n in
       let u = suppose-pair C s x y (ap isDone e) ∙ e in
       sym (ap left (suppose-refused C s x y (supposeTurn C s x y) refl (ap isDone u)))
   act-unlike s n takesBack = sym (ap left (back-refused C s (takeBackTurn C s) refl (ap isDone (back-unlike C s n))))
   act-unlike s n (asks x y) = refl
+  act-unlike s n (adds p) = sym (ap left (add-refused C s p (addTurn C s p) refl (ap isDone (add-unlike C s p n))))
+  act-unlike s n awaits = refl

@@ -2,18 +2,21 @@
 --
 --   after C s cs         == the session after the calls, turned back or not
 --   kept t ps a          == the pairs that stand after a call, where ps stood before it
---   standingAfter t ps cs == the same for any calls
+--   recorded t a         == the trace after a call: none takes a record back
+--   recordedAfter t cs, standingAfter t ps cs == the same for any calls
 --   supposeAll ps        == the calls that suppose the pairs of a list in turn
 use mathlib.Core.Bool.{cond, _&&_}
 use mathlib.Core.List.{List, [], _∷_, _++_}
 use Prim.Native.Nat.{_-_}
 use lib.Dec.{ltb}
 use lib.ListN.{length, take}
+use Rattle.trace.specs.Trace.{pushed}
 use Rattle.trace.specs.declared.Trace.{Trace}
 use Rattle.session.specs.Bounds.{PAIRS}
 use Rattle.session.specs.Stack.{supposable}
 use Rattle.session.specs.Closings.{Closings}
-use Rattle.session.specs.Numbers.{Act, supposes, takesBack, asks, replyOf}
+use Rattle.session.specs.Entries.{joins}
+use Rattle.session.specs.Numbers.{Act, supposes, takesBack, asks, adds, awaits, replyOf}
 use Rattle.session.specs.declared.Pair.{Pair}
 use Rattle.session.specs.declared.Session.{Session}
 
@@ -25,10 +28,23 @@ abbrev pub kept : Trace → List Pair → Act → List Pair
 kept t ps (supposes x y) = cond (supposable t (record { first = x; second = y }) && ltb (length ps) PAIRS) (ps ++ record { first = x; second = y } ∷ []) ps
 kept t ps takesBack = take (length ps - 1) ps
 kept t ps (asks x y) = ps
+kept t ps (adds o) = ps
+kept t ps awaits = ps
+
+abbrev pub recorded : Trace → Act → Trace
+recorded t (supposes x y) = t
+recorded t takesBack = t
+recorded t (asks x y) = t
+recorded t (adds o) = cond (joins t o) (pushed t o) t
+recorded t awaits = t
+
+unfoldable pub recordedAfter : Trace → List Act → Trace
+recordedAfter t [] = t
+recordedAfter t (a ∷ cs) = recordedAfter (recorded t a) cs
 
 unfoldable pub standingAfter : Trace → List Pair → List Act → List Pair
 standingAfter t ps [] = ps
-standingAfter t ps (a ∷ cs) = standingAfter t (kept t ps a) cs
+standingAfter t ps (a ∷ cs) = standingAfter (recorded t a) (kept t ps a) cs
 
 unfoldable pub supposeAll : List Pair → List Act
 supposeAll [] = []

@@ -1,4 +1,4 @@
-// A session on a trace and a model: pairs are supposed and taken back, and the edges that the rules force from them are held.
+// A session on a trace and a model: records are added, pairs are supposed and taken back, and the edges that the rules force from them are held.
 
 pub mod calls;
 
@@ -28,7 +28,7 @@ pub struct Session {
     pub held: [u64; rows::CELLS],
 }
 
-// Why a call is turned back; specs/Numbers.antt has document 01's numbers.
+// Why a call is turned back; specs/Numbers.antt has document 01's numbers. The last four are those of a record to be added.
 pub enum Reason {
     NoModel,
     NotWellFormed,
@@ -37,15 +37,19 @@ pub enum Reason {
     OneRecord,
     TooManyPairs,
     NoPair,
+    PastBound,
+    FirstValue,
+    TooMany,
+    Twice,
 }
 
-// What a call gets. A missing source comes with its record.
+// What a call gets. A load or swap that waits for its source is told by its record.
 pub enum Answer {
     Done,
     Held,
     NotHeld,
     Contradicted,
-    NoSource(usize),
+    Waits(usize),
     Refused(Reason),
 }
 

@@ -1,18 +1,23 @@
-// Talks with a session on a trace: each line of a script is a call, and its answer is printed behind it. After each call the session is
-// compared with one that the library opens afresh, with the pairs that should still stand supposed in turn; where it is another, that is
-// said. A script can also forge the session, and make calls at random.
+// Talks with a session on a trace: each line of a script is a call, and its answer is printed behind it; a trace's line adds its record. After each call
+// the session is compared with one that the library opens afresh on all the records, with the pairs that should still stand supposed in turn; where it is
+// another, that is said. A script can also forge the session, and make calls at random.
 use libc::STDOUT_FILENO;
 use pairs::kind;
+use reader::Form;
+use reader::Raw;
+use reader::forms::form;
 use session::Answer;
 use session::PAIRS;
 use session::Pair;
 use session::Reason;
 use session::Session;
 use session::Stack;
+use session::calls::add;
 use session::calls::ask;
 use session::calls::open;
 use session::calls::suppose;
 use session::calls::take_back;
+use session::calls::waiting;
 use text::templates::fit;
 use text::walk::line_end;
 use trace::FIRSTS;
@@ -21,7 +26,7 @@ use trace::RECORDS;
 use trace::Record;
 use trace::Trace;
 
-// A talk: what was opened, the pairs that should stand, the latest answer and the session. Of a forged session nothing is expected but that
+// A talk: the records that should be there, the pairs that should stand, the latest answer and the session. Of a forged session nothing is expected but that
 // it comes back as it was.
 struct Talk {
     trace: Trace,
@@ -82,6 +87,10 @@ fn number(r: Reason) -> u64 {
         Reason::OneRecord => 14,
         Reason::TooManyPairs => 15,
         Reason::NoPair => 16,
+        Reason::PastBound => 4,
+        Reason::FirstValue => 6,
+        Reason::TooMany => 7,
+        Reason::Twice => 8,
     }
 }
 
@@ -91,7 +100,7 @@ fn say_answer(a: Answer) {
         Answer::Held => say(b": held"),
         Answer::NotHeld => say(b": not held"),
         Answer::Contradicted => say(b": contradicted"),
-        Answer::NoSource(x) => say_number(b": refused 11 record ", long(x)),
+        Answer::Waits(x) => say_number(b": waits record ", long(x)),
         Answer::Refused(r) => say_number(b": refused ", number(r)),
     }
 }
@@ -306,6 +315,86 @@ fn asked(talk: Talk, x: usize, y: usize) -> Talk {
     }
 }
 
+// A number of a line as a byte; what no byte holds is past every bound either way.
+fn byte(n: u32) -> u8 {
+    if n < 256 { n as u8 } else { 255 }
+}
+
+// A value of a line; there is none past the largest.
+fn value(n: u32) -> u16 {
+    if n < 65536 { n as u16 } else { 65535 }
+}
+
+// The record of a line, its numbers within bounds or not.
+fn record_of(raw: Raw) -> Op {
+    match raw {
+        Raw::Load { thread, addr, read } => Op::Load {
+            thread: byte(thread),
+            addr: byte(addr),
+            read: value(read),
+        },
+        Raw::Store {
+            thread,
+            addr,
+            written,
+        } => Op::Store {
+            thread: byte(thread),
+            addr: byte(addr),
+            written: value(written),
+        },
+        Raw::Swap {
+            thread,
+            addr,
+            read,
+            second: _,
+            written,
+        } => Op::Swap {
+            thread: byte(thread),
+            addr: byte(addr),
+            read: value(read),
+            written: value(written),
+        },
+        Raw::Fence { thread } => Op::Fence {
+            thread: byte(thread),
+        },
+    }
+}
+
+fn added(talk: Talk, op: Op) -> Talk {
+    let r = add(talk.session, op);
+    let answer = r.answer;
+    let session = r.session;
+    let mut trace = talk.trace;
+    let due = talk.due;
+    if done(answer) {
+        trace = trace::pushed(trace, op);
+    }
+    Talk {
+        trace,
+        model: talk.model,
+        due,
+        answer,
+        session,
+        forged: talk.forged,
+    }
+}
+
+fn looked(talk: Talk) -> Talk {
+    let r = waiting(talk.session);
+    let answer = r.answer;
+    let session = r.session;
+    let trace = talk.trace;
+    let due = talk.due;
+    Talk {
+        trace,
+        model: talk.model,
+        due,
+        answer,
+        session,
+        forged: talk.forged,
+    }
+}
+
 // A trace damaged in one of four ways: a length of 4 billion, a value that nobody wrote, an unused place that is used, a thread past its bound.
 fn damaged(t: Trace, way: usize) -> Trace {
     let mut d = t;
@@ -462,7 +551,7 @@ fn counted(c: Counts, a: Answer, right: bool) -> Counts {
         Answer::Held => d.held = more(c.held),
         Answer::NotHeld => d.not_held = more(c.not_held),
         Answer::Contradicted => d.contradicted = more(c.contradicted),
-        Answer::NoSource(_) => d.refused = more(c.refused),
+        Answer::Waits(_) => d.done = more(c.done),
         Answer::Refused(_) => d.refused = more(c.refused),
     }
     d
@@ -519,7 +608,7 @@ fn told(talk: Talk, before: Session) -> Talk {
     talk
 }
 
-// A call that names two numbers.
+// A call that names two numbers, one that asks who waits, or a record.
 fn pair_call(talk: Talk, line: &[u8]) -> Talk {
     let before = talk.session;
     let f = fit(b"suppose # #", line, 0);
@@ -537,8 +626,17 @@ fn pair_call(talk: Talk, line: &[u8]) -> Talk {
         let n = f.numbers;
         return chance(talk, wide64(n[0]), wide64(n[1]));
     }
-    say(b": no such call");
-    talk
+    let f = fit(b"waiting", line, 0);
+    if f.fits {
+        return told(looked(talk), before);
+    }
+    match form(line) {
+        Form::Of(raw) => told(added(talk, record_of(raw)), before),
+        Form::Nothing => {
+            say(b": no such call");
+            talk
+        }
+    }
 }
 
 // One line of a script.

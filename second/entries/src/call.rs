@@ -1,6 +1,7 @@
 //! The calls of a case, kept so that they can be told where something differs.
 
 use second::bounds::MODELS;
+use second::desk::Fields;
 use std::fmt;
 
 #[derive(Clone, Debug)]
@@ -21,6 +22,8 @@ pub enum Call {
     Suppose { x: usize, y: usize },
     TakeBack,
     Ask { x: usize, y: usize },
+    Add { fields: Fields },
+    Waiting { room: usize },
 }
 
 /// Models that there are not.
@@ -30,7 +33,7 @@ pub const OTHER_MODELS: [u8; 5] = [0, LAST_MODEL + 1, LAST_MODEL + 2, 128, 255];
 pub const LAST_MODEL: u8 = MODELS as u8;
 
 /// The entries' names without the front that all share, in the order of the header.
-pub const ENTRIES: [&str; 16] = [
+pub const ENTRIES: [&str; 18] = [
     "report",
     "number",
     "line",
@@ -47,6 +50,8 @@ pub const ENTRIES: [&str; 16] = [
     "take_back",
     "ask",
     "accepts",
+    "add",
+    "waiting",
 ];
 
 impl Call {
@@ -69,6 +74,8 @@ impl Call {
             Call::TakeBack => 13,
             Call::Ask { .. } => 14,
             Call::Accepts { .. } => 15,
+            Call::Add { .. } => 16,
+            Call::Waiting { .. } => 17,
         }
     }
 
@@ -92,6 +99,8 @@ impl fmt::Display for Call {
             Call::Accepts { model, list } => write!(f, " under {model} of {list:?}"),
             Call::Open { model, room } => write!(f, " under {model} in {room} bytes"),
             Call::Suppose { x, y } | Call::Ask { x, y } => write!(f, " {x} {y}"),
+            Call::Add { fields } => write!(f, " {fields:?}"),
+            Call::Waiting { room } => write!(f, " into {room} bytes"),
             Call::Number | Call::Line | Call::Start | Call::End | Call::TakeBack => Ok(()),
         }
     }

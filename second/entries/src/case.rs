@@ -14,7 +14,7 @@ pub struct Counts {
     pub texts_failed: u64,
     /// Texts on which the second reading does not know a verdict; whatever else could be compared was right.
     pub not_known: u64,
-    /// Calls on sessions: opening, supposing, taking back, asking.
+    /// Calls on sessions: opening, supposing, taking back, asking, adding, looking for who waits.
     pub calls: u64,
     pub calls_failed: u64,
     /// Damaged sessions, and those of them that were a session all the same.

@@ -1,5 +1,6 @@
 //! The entries under test, whoever they belong to: the proved library, or in this package's tests a wrong one.
 
+use second::desk::Fields;
 use wheelotter::entries;
 
 pub trait Desk: Sync {
@@ -19,6 +20,8 @@ pub trait Desk: Sync {
     fn suppose(&self, session: &mut [u8], x: usize, y: usize) -> u8;
     fn take_back(&self, session: &mut [u8]) -> u8;
     fn ask(&self, session: &[u8], x: usize, y: usize) -> u8;
+    fn add(&self, session: &mut [u8], fields: &Fields) -> u8;
+    fn waiting(&self, session: &[u8], out: &mut [u8]) -> u8;
 }
 
 /// The proved library's.
@@ -72,5 +75,11 @@ impl Desk for Proved {
     }
     fn ask(&self, session: &[u8], x: usize, y: usize) -> u8 {
         entries::ask(session, x, y)
+    }
+    fn add(&self, session: &mut [u8], fields: &Fields) -> u8 {
+        entries::add(session, fields.kind, fields.thread, fields.address, fields.read, fields.written)
+    }
+    fn waiting(&self, session: &[u8], out: &mut [u8]) -> u8 {
+        entries::waiting(session, out)
     }
 }

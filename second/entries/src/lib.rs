@@ -11,6 +11,7 @@
 //! | `cuts` | a faulty trace cut down |
 //! | `papers` | the small reader of papers |
 //! | `sessions` | opening, and the calls on a session |
+//! | `records` | records that are added to one |
 //! | `damage` | bytes that were a session |
 //! | `compare` | a whole case |
 
@@ -23,5 +24,6 @@ pub mod desk;
 pub mod lent;
 pub mod machines;
 pub mod papers;
+pub mod records;
 pub mod sessions;
 pub mod texts;

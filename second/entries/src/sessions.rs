@@ -1,13 +1,15 @@
-//! Sessions on a text: opened in memory of any length, then driven by chance calls; in between, damaged copies are handed in.
+//! Sessions on a text: opened in memory of any length, then driven by chance calls, records that are added among them; in between, damaged copies
+//! are handed in.
 
 use crate::call::{Call, OTHER_MODELS};
 use crate::case::{Case, Step};
 use crate::damage::damaged;
 use crate::desk::Desk;
 use crate::lent::Lent;
+use crate::records::fields;
 use second::chance::Chance;
-use second::desk::{self, head_of, told, CONTRADICTED_AT, DONE, HEAD, NO_SESSION};
-use second::packed::{file_of, HEADER};
+use second::desk::{self, bytes_of, head_of, lay_waiting, told, CONTRADICTED_AT, DONE, HEAD, NO_ENTRY, NO_SESSION, PLACE};
+use second::packed::{file_of, HEADER, RECORD};
 use second::session::Talk;
 use second::trace::{Trace, MODELS, MOST_RECORDS};
 
@@ -88,6 +90,14 @@ fn noted<D: Desk>(case: &mut Case<'_, D>, call: Call, (wanted, mine): (u8, &Lent
 /// One call on the session that stands, which both sides have in the same bytes.
 fn step<D: Desk>(case: &mut Case<'_, D>, talk: &mut Talk, standing: &mut Lent, manner: &Manner) -> bool {
     let call = drawn(&mut case.chance, &talk.session().trace, manner.supposes);
+    match call {
+        Call::Add { .. } => return grown(case, call, talk, standing),
+        Call::Waiting { room } => {
+            let waits = talk.waiting();
+            return looked(case, room, standing.bytes(), |lent| lay_waiting(waits, lent));
+        }
+        _ => {}
+    }
     let mut theirs = standing.clone();
     let got = called(case.desk, &call, theirs.bytes_mut());
     let wanted = match call {
@@ -102,6 +112,32 @@ fn step<D: Desk>(case: &mut Case<'_, D>, talk: &mut Talk, standing: &mut Lent, m
     noted(case, call, (wanted, standing), (got, &theirs))
 }
 
+/// A record more, in memory that is eight bytes longer.
+fn grown<D: Desk>(case: &mut Case<'_, D>, call: Call, talk: &mut Talk, standing: &mut Lent) -> bool {
+    let Call::Add { fields } = call else { unreachable!("a record is added") };
+    let mut mine = Lent::of(&[standing.bytes(), &case.chance.bytes(RECORD)].concat());
+    let mut theirs = mine.clone();
+    let got = case.desk.add(theirs.bytes_mut(), &fields);
+    let wanted = match fields.record() {
+        None => NO_ENTRY,
+        Some(record) => talk.add(record).map_or_else(|number| number, |()| DONE),
+    };
+    if wanted == DONE {
+        mine.bytes_mut().copy_from_slice(&bytes_of(talk.session()));
+        *standing = mine.clone();
+    }
+    noted(case, call, (wanted, &mine), (got, &theirs))
+}
+
+/// Who waits, in memory that may be too short for the number.
+fn looked<D: Desk>(case: &mut Case<'_, D>, room: usize, session: &[u8], wanted: impl Fn(&mut [u8]) -> u8) -> bool {
+    let mut mine = Lent::drawn(&mut case.chance, room);
+    let mut theirs = mine.clone();
+    let got = case.desk.waiting(session, theirs.bytes_mut());
+    let wanted = wanted(mine.bytes_mut());
+    noted(case, Call::Waiting { room }, (wanted, &mine), (got, &theirs))
+}
+
 fn damaged_copy<D: Desk>(case: &mut Case<'_, D>, bytes: &[u8]) -> bool {
     let (what, bytes) = damaged(&mut case.chance, bytes);
     handed(case, Lent::of(&bytes), what)
@@ -111,17 +147,25 @@ fn damaged_copy<D: Desk>(case: &mut Case<'_, D>, bytes: &[u8]) -> bool {
 fn handed<D: Desk>(case: &mut Case<'_, D>, mut mine: Lent, what: &'static str) -> bool {
     let trace = case.page.trace().cloned().unwrap_or(Trace::empty());
     let call = drawn(&mut case.chance, &trace, 34);
+    case.steps.push(Step::Done(format!("a copy: {what}")));
+    case.counts.damaged += 1;
+    if let Call::Waiting { room } = call {
+        let bytes = mine.bytes().to_vec();
+        return looked(case, room, &bytes, |lent| desk::waiting(&bytes, lent));
+    }
+    if matches!(call, Call::Add { .. }) && case.chance.percent(85) {
+        mine = Lent::of(&[mine.bytes(), &case.chance.bytes(RECORD)].concat());
+    }
     let mut theirs = mine.clone();
     let got = called(case.desk, &call, theirs.bytes_mut());
     let wanted = match call {
         Call::Suppose { x, y } => desk::suppose(mine.bytes_mut(), x, y),
         Call::TakeBack => desk::take_back(mine.bytes_mut()),
         Call::Ask { x, y } => desk::ask(mine.bytes(), x, y),
+        Call::Add { ref fields } => desk::add(mine.bytes_mut(), fields),
         _ => unreachable!("not on a session"),
     };
-    case.counts.damaged += 1;
     case.counts.still_sessions += u64::from(wanted != NO_SESSION);
-    case.steps.push(Step::Done(format!("a copy: {what}")));
     noted(case, call, (wanted, &mine), (got, &theirs))
 }
 
@@ -130,11 +174,18 @@ fn called(desk: &impl Desk, call: &Call, session: &mut [u8]) -> u8 {
         Call::Suppose { x, y } => desk.suppose(session, x, y),
         Call::TakeBack => desk.take_back(session),
         Call::Ask { x, y } => desk.ask(session, x, y),
+        Call::Add { ref fields } => desk.add(session, fields),
         _ => unreachable!("not on a session"),
     }
 }
 
 fn drawn(chance: &mut Chance, trace: &Trace, supposes: usize) -> Call {
+    if chance.percent(22) {
+        return Call::Add { fields: fields(chance, trace) };
+    }
+    if chance.percent(6) {
+        return Call::Waiting { room: *chance.of(&[0, 1, PLACE, PLACE, PLACE, PLACE + 1, 64]) };
+    }
     let kind = chance.below(100);
     if kind >= supposes && chance.percent(35) {
         return Call::TakeBack;

@@ -6,16 +6,17 @@ use second::desk::{
     self, head_of, number_at, place_of, put_number, Page, CONTRADICTED_AT, DONE, HEAD, OPERATIONS_AT, PAIRS_AT, RULES_AT, VERDICT,
 };
 use second::desk::{lay_left, CUT, LEFT, OLDS_AT};
+use second::desk::{Fields, NOT_THROUGH, NO_ENTRY, NO_ORDER, PLACE, REPLAY, REPLAYED, STEPS_AT, STUCK, THROUGH, WAITS};
 use second::desk::{
     BAD_NUMBER, CIRCLE, CONTRADICTED, JUDGEMENT, LIMITED, NONE_LEFT, NOT_HELD, NO_ROOM, NO_SOURCE, ORDER, REPEAT, UNDECIDED, VALID,
     WRONG_LENGTH, WRONG_VALUE,
 };
-use second::desk::{ACCEPTED, NOT_ACCEPTED, NOT_THROUGH, NO_ORDER, PLACE, REPLAY, REPLAYED, STEPS_AT, STUCK, THROUGH};
+use second::desk::{ACCEPTED, NOT_ACCEPTED};
 use second::families::FAMILIES;
 use second::packed::{file_of, FIRST, HEADER, RECORD};
 use second::session::{self, Session, MOST_PAIRS};
 use second::smaller::{faulty, without, Part};
-use second::trace::{text_of, Model, Trace};
+use second::trace::{text_of, Model, Record, Trace};
 
 const STEPS: u64 = 20_000;
 
@@ -24,7 +25,7 @@ struct Faulty(&'static str);
 
 const RIGHT: &str = "none";
 
-const FAULTS: [&str; 96] = [
+const FAULTS: [&str; 107] = [
     "report: a letter too far",
     "report: short memory written",
     "report: length of one line",
@@ -100,7 +101,7 @@ const FAULTS: [&str; 96] = [
     "open: refused, and too short is written",
     "open: refused, and memory stays",
     "open: what lies behind is wiped",
-    "open: without a source",
+    "open: a missing source refused",
     "open: a circle refused",
     "suppose: a seventeenth pair",
     "suppose: equal before a fence",
@@ -113,6 +114,17 @@ const FAULTS: [&str; 96] = [
     "take back: ignored",
     "ask: backwards",
     "ask: contradicted holds nothing",
+    "add: a missing source refused",
+    "add: the table left alone",
+    "add: pairs dropped",
+    "add: refused, and memory wiped",
+    "add: numbers before 12",
+    "add: 8 by what was read",
+    "add: any kind past 3 is a fence",
+    "add: unused numbers are not looked at",
+    "add: a source settles nothing that waited",
+    "waiting: the last one",
+    "waiting: short memory written",
     "session: any table",
     "session: any byte for contradicted",
     "session: unused pairs are not looked at",
@@ -489,7 +501,7 @@ impl Desk for Faulty {
             session[needed..].fill(0);
         }
         match answer {
-            11 if self.is("open: without a source") => DONE,
+            DONE if self.is("open: a missing source refused") && desk::waiting(&session[..needed], &mut [0; PLACE]) == WAITS => 11,
             DONE if self.is("open: a circle refused") && session[CONTRADICTED_AT] == 1 => 11,
             answer => answer,
         }
@@ -543,6 +555,64 @@ impl Desk for Faulty {
             CONTRADICTED if self.is("ask: contradicted holds nothing") => NOT_HELD,
             answer => answer,
         }
+    }
+
+    fn add(&self, session: &mut [u8], fields: &Fields) -> u8 {
+        let front = session.len().saturating_sub(RECORD);
+        let Some(mut seen) = self.seen(&session[..front]) else { return 12 };
+        seen.extend(&session[front..]);
+        let mut fields = *fields;
+        if self.is("add: any kind past 3 is a fence") && fields.kind > 3 {
+            fields = Fields { kind: 3, address: 0, read: 0, written: 0, ..fields };
+        }
+        if self.is("add: unused numbers are not looked at") {
+            fields.read *= u16::from(fields.kind != 1);
+            fields.written *= u16::from(fields.kind != 0);
+        }
+        let (given, before) = (desk::taken(&session[..front]), seen.clone());
+        let answer = desk::add(&mut seen, &fields);
+        if self.is("add: numbers before 12") && answer == 12 && fields.record().is_none() {
+            return NO_ENTRY;
+        }
+        if answer != DONE && self.is("add: refused, and memory wiped") && answer != 12 {
+            session[front..].fill(0);
+        }
+        if answer != DONE {
+            return answer;
+        }
+        let given = given.expect("a session");
+        let record = fields.record().expect("a record");
+        let named = |other: &Record| other.address() == record.address() && other.read().is_some() && other.read() == record.written();
+        if self.is("add: 8 by what was read") && record.written().is_some() && given.trace.records().iter().any(named) {
+            return 8;
+        }
+        let waits = desk::waiting(&seen, &mut [0; PLACE]) == WAITS;
+        if self.is("add: a missing source refused") && waits && desk::waiting(&before[..front], &mut [0; PLACE]) == DONE {
+            return 11;
+        }
+        if self.is("add: the table left alone") {
+            seen[CONTRADICTED_AT..HEAD].copy_from_slice(&before[CONTRADICTED_AT..HEAD]);
+        }
+        if self.is("add: a source settles nothing that waited") && desk::waiting(&before[..front], &mut [0; PLACE]) == WAITS && !waits {
+            seen[CONTRADICTED_AT..HEAD].copy_from_slice(&before[CONTRADICTED_AT..HEAD]);
+        }
+        while self.is("add: pairs dropped") && desk::take_back(&mut seen) == DONE {}
+        session.copy_from_slice(&seen);
+        answer
+    }
+
+    fn waiting(&self, session: &[u8], out: &mut [u8]) -> u8 {
+        let Some(seen) = self.seen(session) else { return 12 };
+        let answer = desk::waiting(&seen, out);
+        if self.is("waiting: the last one") && answer == WAITS {
+            let trace = desk::taken(&seen).expect("a session").trace;
+            let lacks = |&x: &usize| trace.places[x].read().is_some() && !trace.reads_first(x) && trace.source(x).is_none();
+            put_number(out, (0..trace.count).rev().find(lacks).expect("one waits"));
+        }
+        if self.is("waiting: short memory written") && answer == NO_ROOM {
+            out.fill(0);
+        }
+        answer
     }
 }
 

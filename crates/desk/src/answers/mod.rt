@@ -56,3 +56,6 @@ pub const NO_ORDER: u8 = 82;
 pub const ACCEPTED: u8 = 90;
 
 pub const NOT_ACCEPTED: u8 = 91;
+
+// A session: a load or swap waits for its source.
+pub const WAITS: u8 = 92;

@@ -25,7 +25,7 @@ use reader::read_whole;
 use text::room::put;
 
 // How many bytes come with the end of a run: a place of two bytes.
-const PLACE: usize = 2;
+pub(crate) const PLACE: usize = 2;
 
 // How many bytes steps from an order have: how many there are, two bytes, and the list's places.
 const REPLAY: usize = 2 + STEPS;

@@ -1,5 +1,5 @@
-// The entries for a session in lent bytes: its head, then its trace's packed file. No bytes are believed: whatever opening and supposing do not make is
-// turned back as 12, and stays.
+// The entries for a session in lent bytes: its head, then its trace's packed file. No bytes are believed: whatever opening, adding and supposing do not
+// make is turned back as 12, and stays.
 ghost use mathlib.Core.Path.{_≡_};
 ghost use mathlib.Core.Bool.{false};
 ghost use mathlib.Core.List.{_++_};
@@ -18,6 +18,7 @@ use crate::answers::CONTRADICTED;
 use crate::answers::HELD;
 use crate::answers::NO_ROOM;
 use crate::answers::NOT_HELD;
+use crate::answers::WAITS;
 use crate::files;
 use crate::heads::HEAD;
 use crate::heads::agrees;
@@ -40,12 +41,12 @@ use session::calls::suppose;
 use session::calls::take_back;
 
 // Document 01's number of a session that is not one.
-const UNLIKE: u8 = 12;
+pub(crate) const UNLIKE: u8 = 12;
 
 // What lent bytes are: those of a session, or not, and then the session of the empty trace under model 1 stands beside it.
-struct Lent {
-    like: bool,
-    session: Session,
+pub(crate) struct Lent {
+    pub like: bool,
+    pub session: Session,
 }
 
 // What opening comes to, before there are bytes to hold it.
@@ -66,11 +67,15 @@ fn number(r: Reason) -> u8
         Reason::OneRecord => 14,
         Reason::TooManyPairs => 15,
         Reason::NoPair => 16,
+        Reason::PastBound => 4,
+        Reason::FirstValue => 6,
+        Reason::TooMany => 7,
+        Reason::Twice => 8,
     }
 }
 
 // An answer as a number.
-fn code(a: Answer) -> u8
+pub(crate) fn code(a: Answer) -> u8
     ensures { λ n. ⌜ n ≡ codeOf a ⌝ }
 {
     match a {
@@ -78,7 +83,7 @@ fn code(a: Answer) -> u8
         Answer::Held => HELD,
         Answer::NotHeld => NOT_HELD,
         Answer::Contradicted => CONTRADICTED,
-        Answer::NoSource(_) => 11,
+        Answer::Waits(_) => WAITS,
         Answer::Refused(r) => number(r),
     }
 }
@@ -103,7 +108,7 @@ fn unlike() -> Lent
 }
 
 // The session that lent bytes are, made afresh from their file, their model and their pairs, and held against them.
-fn kept(bytes: &[u8]) -> Lent
+pub(crate) fn kept(bytes: &[u8]) -> Lent
     ensures { λ r. ⌜ ((C : Closings) → r ≡ keptOf C (now (bytes .entry))) ⌝ }
 {
     if bytes.len() < HEAD {
@@ -160,7 +165,7 @@ fn opening(text: &[u8], model: u8) -> Opened
 }
 
 // A session's bytes at the front of lent bytes, where there is room for them, and whether there is.
-fn placed(s: Session, out: &mut [u8]) -> bool
+pub(crate) fn placed(s: Session, out: &mut [u8]) -> bool
     requires { ⌜ Fit s ⌝ }
     ensures { λ r. ⌜ (r ≡ leb (length (bytesOf s)) (length (now (out .entry)))) × (now (out .exit) ≡ putAt (bytesOf s) (now (out .entry)) 0) ⌝ }
 {

@@ -9,7 +9,7 @@ use crate::Entry;
 use trace::Op;
 
 // The record of these fields, if the kind is one of the four and what it does not carry is 0.
-fn op_in(kind: u8, thread: u8, addr: u8, zero: u8, read: u16, written: u16) -> Entry
+pub fn op_in(kind: u8, thread: u8, addr: u8, zero: u8, read: u16, written: u16) -> Entry
     ensures { λ r. ⌜ r ≡ opIn kind thread addr zero read written ⌝ }
 {
     if (kind == 0) & (zero == 0) & (written == 0) {

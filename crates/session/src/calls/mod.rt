@@ -9,7 +9,7 @@ ghost use Rattle.session.specs.Stack.{supposable, placed, stands, stacke
 ghost use Rattle.session.specs.Opening.{openingOf, isDone, openable};
 ghost use Rattle.session.specs.Closings.{Closings};
 ghost use Rattle.session.specs.Session.{afresh, intact, blank};
-ghost use Rattle.session.specs.Entries.{pairTurn, supposeTurn, takeBackTurn, toldOf, openOf, afreshOf, supposeOf, takeBackOf, askOf};
+ghost use Rattle.session.specs.Entries.{pairTurn, supposeTurn, takeBackTurn, faultAnswer, addTurn, waitsOf, toldOf, openOf, afreshOf, supposeOf, takeBackOf, askOf, addOf, waitingOf};
 use crate::Answer;
 use crate::PAIRS;
 use crate::Pair;
@@ -23,8 +23,12 @@ use orders::sources::missing;
 use pairs::SC;
 use pairs::modelled;
 use pairs::op_at;
+use trace::Fault;
+use trace::Op;
 use trace::Trace;
+use trace::form::fault_of;
 use trace::form::well_formed;
+use trace::pushed;
 
 // Whether a number is that of an operation.
 fn operation(t: Trace, x: usize) -> bool
@@ -114,10 +118,7 @@ fn opening(t: Trace, model: u8) -> Answer
     if !well_formed(t) {
         return Answer::Refused(Reason::NotWellFormed);
     }
-    match missing(t) {
-        Found::At(x) => Answer::NoSource(x),
-        Found::Nothing => Answer::Done,
-    }
+    Answer::Done
 }
 
 // Whether nothing was turned back.
@@ -129,7 +130,7 @@ fn done(a: Answer) -> bool
         Answer::Held => false,
         Answer::NotHeld => false,
         Answer::Contradicted => false,
-        Answer::NoSource(_) => false,
+        Answer::Waits(_) => false,
         Answer::Refused(_) => false,
     }
 }
@@ -219,6 +220,39 @@ fn take_back_turn(s: Session) -> Answer
         return Answer::Refused(Reason::NoPair);
     }
     Answer::Done
+}
+
+// A fault of one record more, as an answer.
+fn fault_answer(f: Fault) -> Answer
+    ensures { λ r. ⌜ r ≡ faultAnswer f ⌝ }
+{
+    match f {
+        Fault::Nothing => Answer::Done,
+        Fault::PastBound => Answer::Refused(Reason::PastBound),
+        Fault::FirstValue => Answer::Refused(Reason::FirstValue),
+        Fault::TooMany => Answer::Refused(Reason::TooMany),
+        Fault::Twice => Answer::Refused(Reason::Twice),
+    }
+}
+
+// Whether a session takes one record more, and why not.
+fn add_turn(s: Session, op: Op) -> Answer
+    ensures { λ r. ⌜ ((C : Closings) → r ≡ addTurn C s op) ⌝ }
+{
+    if !intact(s) {
+        return Answer::Refused(Reason::Unlike);
+    }
+    fault_answer(fault_of(s.trace, op))
+}
+
+// Which record waits for its source, as an answer.
+fn waits(found: Found) -> Answer
+    ensures { λ r. ⌜ r ≡ waitsOf found ⌝ }
+{
+    match found {
+        Found::At(x) => Answer::Waits(x),
+        Found::Nothing => Answer::Done,
+    }
 }
 
 // What the table of a session says of a pair.
@@ -318,5 +352,32 @@ pub fn ask(s: Session, x: usize, y: usize) -> Reply
         };
     }
     let answer = told(s, x, y);
+    Reply { answer, session: s }
+}
+
+// Adds a record to the session's trace; the pairs that stand stay.
+pub fn add(s: Session, op: Op) -> Reply
+    ensures { λ r. ⌜ ((C : Closings) → r ≡ addOf C s op) ⌝ }
+{
+    let answer = add_turn(s, op);
+    if !done(answer) {
+        return Reply { answer, session: s };
+    }
+    let t = pushed(s.trace, op);
+    let session = made(t, s.model, s.stack);
+    Reply { answer, session }
+}
+
+// The lowest record that waits for its source, or done where none does.
+pub fn waiting(s: Session) -> Reply
+    ensures { λ r. ⌜ ((C : Closings) → r ≡ waitingOf C s) ⌝ }
+{
+    if !intact(s) {
+        return Reply {
+            answer: Answer::Refused(Reason::Unlike),
+            session: s,
+        };
+    }
+    let answer = waits(missing(s.trace));
     Reply { answer, session: s }
 }

@@ -1,5 +1,5 @@
 -- `desk::sessions::wheelotter_suppose`: a pair more, on the session that the bytes are.
-use mathlib.Core.Path.{_∙_}
+use mathlib.Core.Path.{refl, _∙_}
 use borrow.Author.Tests.{not-true, not-false}
 use Rattle.session.proofs.Forcing.{closings-some}
 use Rattle.session.specs.Numbers.{supposes}
@@ -41,7 +41,7 @@ returns-2 c C =
     let s = k .before .before .before in
     let on = not-false _ (t .before .if1 .left) in (
       l .leave .ensures .0 ∙ act-answers C _ _ (k .kept .ensures C) on (supposes (s .args .x) (s .args .y)) _ (t .suppose .ensures C),
-      l .leave .ensures .1 ∙ act-lays C _ _ (k .kept .ensures C) on (supposes (s .args .x) (s .args .y)) _ (t .suppose .ensures C),
+      l .leave .ensures .1 ∙ act-lays C _ _ (k .kept .ensures C) on (supposes (s .args .x) (s .args .y)) _ (t .suppose .ensures C) refl,
     )
 
 pub wheelotter-suppose-spec : {M : Type 1} → statement M

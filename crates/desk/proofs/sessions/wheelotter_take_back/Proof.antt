@@ -1,5 +1,5 @@
 -- `desk::sessions::wheelotter_take_back`: without the latest pair, on the session that the bytes are.
-use mathlib.Core.Path.{_∙_}
+use mathlib.Core.Path.{refl, _∙_}
 use borrow.Author.Tests.{not-true, not-false}
 use Rattle.session.proofs.Forcing.{closings-some}
 use Rattle.session.specs.Numbers.{takesBack}
@@ -41,7 +41,7 @@ returns-2 c C =
     let s = k .before .before .before in
     let on = not-false _ (t .before .if1 .left) in (
       l .leave .ensures .0 ∙ act-answers C _ _ (k .kept .ensures C) on (takesBack) _ (t .take-back .ensures C),
-      l .leave .ensures .1 ∙ act-lays C _ _ (k .kept .ensures C) on (takesBack) _ (t .take-back .ensures C),
+      l .leave .ensures .1 ∙ act-lays C _ _ (k .kept .ensures C) on (takesBack) _ (t .take-back .ensures C) refl,
     )
 
 pub wheelotter-take-back-spec : {M : Type 1} → statement M
