@@ -14,6 +14,7 @@
 //! | `verdict` | the verdict, numbers 9 and 10 |
 //! | `plain` | the plain machine of document 02, number 25 |
 //! | `limited` | the verdict within a limit of steps |
+//! | `signatures` | what the loads saw, packed into words (request 13), numbers 23, 24 and 26 |
 //! | `smaller` | a faulty trace cut down (request 9), literally |
 //! | `papers` | lists of reasons why there is no order (request 11): a reader, and a writer for the comparison |
 //! | `session` | suppose, take back, ask, add, waiting, numbers 9 to 16 |
@@ -42,6 +43,7 @@ pub mod report;
 pub mod rules;
 pub mod script;
 pub mod session;
+pub mod signatures;
 pub mod smaller;
 pub mod stated;
 pub mod trace;
