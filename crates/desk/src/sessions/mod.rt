@@ -174,6 +174,7 @@ fn placed(s: Session, out: &mut [u8]) -> bool
         }
         Wrote::NotWellFormed => false,
         Wrote::NoRoom => false,
+        Wrote::Lost => false,
     }
 }
 
