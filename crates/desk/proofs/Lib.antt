@@ -10,6 +10,8 @@ pub mod Keeping
 pub mod Acting
 pub mod Opens
 pub mod Packing
+pub mod Counted
+pub mod Cores
 pub mod Heard
 pub mod Sourceless
 pub mod One

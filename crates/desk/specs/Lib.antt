@@ -13,3 +13,4 @@ pub mod Head
 pub mod Kept
 pub mod Acts
 pub mod Opened
+pub mod Packs

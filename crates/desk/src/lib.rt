@@ -5,6 +5,7 @@ mod files;
 mod heads;
 pub mod judgements;
 pub mod limits;
+pub mod packs;
 pub mod runs;
 pub mod sessions;
 pub mod texts;
