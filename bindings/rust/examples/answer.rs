@@ -1,8 +1,12 @@
 //! Reads a trace from standard input. Prints the answer to it, what is wrong with it and where, the verdict in numbers under each model, whether
-//! 1 2 3 0 is an order, how many steps the verdict takes within 20, what the machine does under SC and TSO, and a short talk with a session under TSO.
+//! 1 2 3 0 is an order, how many steps the verdict takes within 20, what the machine does under SC and TSO, how long its packed file is, and a short
+//! talk with a session under TSO.
 
 use std::io::{self, Read};
-use wheelotter::{check, judge, limited, report, run, steps, verdict, Answer, Asked, Judgement, Limited, Model, Ran, Session, Verdict, MODELS};
+use wheelotter::{
+    check, check_file, judge, limited, pack, report, run, steps, unpack, verdict, Answer, Asked, Judgement, Limited, Model, Ran, Session,
+    Verdict, ENTRIES, MODELS,
+};
 
 fn main() -> io::Result<()> {
     let mut text = Vec::new();
@@ -11,6 +15,7 @@ fn main() -> io::Result<()> {
     print_bad_line(&text);
     MODELS.iter().for_each(|&model| print_verdict(&text, model));
     [Model::Sc, Model::Tso].iter().for_each(|&model| print_machine(&text, model));
+    print_packed(&text);
     match Session::open(&text, Model::Tso) {
         Err(_) => println!("open: refused"),
         Ok(session) => {
@@ -74,6 +79,20 @@ fn print_machine(text: &[u8], model: Model) {
         Err(refused) => (refused as u8).to_string(),
     };
     println!("model {}: steps of 1 2 3 0:{found}; 0 0 1 1: {ran}", model as u8);
+}
+
+/// The packed file of the text, and its text.
+fn print_packed(text: &[u8]) {
+    let mut file = match pack(text) {
+        Ok(file) => file,
+        Err(refusal) => return println!("packed: {refusal}"),
+    };
+    println!("packed: {} bytes of {}", file.len(), text.len());
+    println!("unpacked: {} bytes", unpack(&file).map_or(0, |text| text.len()));
+    file[ENTRIES] = 4;
+    if let Err(refusal) = check_file(&file) {
+        println!("with another kind: number {} line {}", refusal.answer as u8, refusal.line);
+    }
 }
 
 fn done(answer: Result<(), Answer>) -> &'static str {

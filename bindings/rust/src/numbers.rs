@@ -60,6 +60,15 @@ pub const FIRST: usize = 3;
 /// A record in a packed file has so many bytes.
 pub const RECORD: usize = 8;
 
+/// Where a packed file or a text begins behind its length.
+pub const BYTES_AT: usize = 2;
+
+/// A buffer of this many bytes holds any packed file behind its length.
+pub const PACKED: usize = 2106;
+
+/// And of this many the text of any packed file.
+pub const UNPACKED: usize = 32770;
+
 /// What the judge names has so many bytes.
 pub const JUDGEMENT: usize = 4;
 
@@ -90,7 +99,7 @@ pub const MODELS: [Model; 4] = [Model::Sc, Model::Tso, Model::Pso, Model::Wmo];
 /// One table of answers for every entry; docs/GUIDE.md explains them. (10 is for traces that were not read from a text: no entry gives it.)
 #[derive(Clone, Copy, Debug, PartialEq, Eq)]
 pub enum Answer {
-    /// The text is good; or opened, supposed, taken back.
+    /// The text or file is good; or opened, supposed, taken back, packed, unpacked.
     Done = 0,
     /// Over 32,768 bytes.
     LongText = 1,
@@ -124,9 +133,15 @@ pub enum Answer {
     NoPair = 16,
     /// An init line behind a record, or a second one for its address.
     LateInit = 17,
+    /// No packed file: another mark, cut short, or left over.
+    NoFile = 18,
+    /// A packed file of another version.
+    OtherVersion = 19,
+    /// A kind past 3, a first value 0, addresses that do not rise, or an unused byte other than 0.
+    NoEntry = 20,
     /// The lent memory is too short, and stays as it was.
     NoRoom = 21,
-    /// A core appears in the text, and a lower one does not.
+    /// A core appears in the text or file, and a lower one does not.
     LostCore = 22,
     /// The first valid order.
     Order = 64,
@@ -168,7 +183,7 @@ pub enum Answer {
 
 /// In the order of their numbers.
 #[rustfmt::skip]
-pub(crate) const ANSWERS: [Answer; 37] = [
+pub(crate) const ANSWERS: [Answer; 40] = [
     Answer::Done,
     Answer::LongText,
     Answer::LongLine,
@@ -186,6 +201,9 @@ pub(crate) const ANSWERS: [Answer; 37] = [
     Answer::ManyPairs,
     Answer::NoPair,
     Answer::LateInit,
+    Answer::NoFile,
+    Answer::OtherVersion,
+    Answer::NoEntry,
     Answer::NoRoom,
     Answer::LostCore,
     Answer::Order,

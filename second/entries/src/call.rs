@@ -19,6 +19,10 @@ pub enum Call {
     Suppose { x: usize, y: usize },
     TakeBack,
     Ask { x: usize, y: usize },
+    Pack { room: usize },
+    Unpack { room: usize },
+    FileNumber,
+    FileLine,
 }
 
 /// Models that there are not.
@@ -27,9 +31,27 @@ pub const OTHER_MODELS: [u8; 5] = [0, LAST_MODEL + 1, LAST_MODEL + 2, 128, 255];
 /// The highest number of a model that there is; the lowest is 1.
 pub const LAST_MODEL: u8 = MODELS as u8;
 
-/// The entries' names without the front that all share, in the order of the header.
-pub const ENTRIES: [&str; 14] =
-    ["report", "number", "line", "start", "end", "verdict", "limited", "judge", "run", "steps", "open", "suppose", "take_back", "ask"];
+/// The entries' names without the front that all share.
+pub const ENTRIES: [&str; 18] = [
+    "report",
+    "number",
+    "line",
+    "start",
+    "end",
+    "verdict",
+    "limited",
+    "judge",
+    "run",
+    "steps",
+    "open",
+    "suppose",
+    "take_back",
+    "ask",
+    "pack",
+    "unpack",
+    "file_number",
+    "file_line",
+];
 
 impl Call {
     /// Which of `ENTRIES` is called.
@@ -49,12 +71,16 @@ impl Call {
             Call::Suppose { .. } => 11,
             Call::TakeBack => 12,
             Call::Ask { .. } => 13,
+            Call::Pack { .. } => 14,
+            Call::Unpack { .. } => 15,
+            Call::FileNumber => 16,
+            Call::FileLine => 17,
         }
     }
 
     /// What comes back is a row of the table of answers: few enough to be counted one by one.
     pub fn answers_by_table(&self) -> bool {
-        !matches!(self, Call::Report { .. } | Call::Line | Call::Start | Call::End)
+        !matches!(self, Call::Report { .. } | Call::Line | Call::Start | Call::End | Call::FileLine)
     }
 }
 
@@ -62,7 +88,7 @@ impl fmt::Display for Call {
     fn fmt(&self, f: &mut fmt::Formatter<'_>) -> fmt::Result {
         write!(f, "{}", ENTRIES[self.entry()])?;
         match self {
-            Call::Report { room } => write!(f, " into {room} bytes"),
+            Call::Report { room } | Call::Pack { room } | Call::Unpack { room } => write!(f, " into {room} bytes"),
             Call::Verdict { model, room } => write!(f, " under {model} into {room} bytes"),
             Call::Limited { model, limit, room } => write!(f, " under {model} within {limit} steps into {room} bytes"),
             Call::Judge { model, list, room } => write!(f, " under {model} of {list:?} into {room} bytes"),
@@ -70,7 +96,7 @@ impl fmt::Display for Call {
             Call::Steps { model, list, room } => write!(f, " under {model} of {list:?} into {room} bytes"),
             Call::Open { model, room } => write!(f, " under {model} in {room} bytes"),
             Call::Suppose { x, y } | Call::Ask { x, y } => write!(f, " {x} {y}"),
-            Call::Number | Call::Line | Call::Start | Call::End | Call::TakeBack => Ok(()),
+            Call::Number | Call::Line | Call::Start | Call::End | Call::TakeBack | Call::FileNumber | Call::FileLine => Ok(()),
         }
     }
 }

@@ -8,6 +8,7 @@
 //! | `case` | a case: its text, its calls, its counts, what differed |
 //! | `texts` | the entries that take a text |
 //! | `machines` | the plain machine's, and whether it agrees with the verdict |
+//! | `packs` | those over packed files |
 //! | `sessions` | opening, and the calls on a session |
 //! | `damage` | bytes that were a session |
 //! | `compare` | a whole case |
@@ -19,5 +20,6 @@ pub mod damage;
 pub mod desk;
 pub mod lent;
 pub mod machines;
+pub mod packs;
 pub mod sessions;
 pub mod texts;

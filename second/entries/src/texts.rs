@@ -4,7 +4,7 @@ use crate::call::{Call, LAST_MODEL, OTHER_MODELS};
 use crate::case::Case;
 use crate::desk::Desk;
 use crate::lent::Lent;
-use crate::machines;
+use crate::{machines, packs};
 use second::desk::{lay_verdict, number_at, JUDGEMENT, LIMITED, NONE_LEFT, OPERATIONS_AT, ORDER, RULES_AT, VERDICT};
 use second::lists::drawn;
 use second::report::NOT_KNOWN;
@@ -19,7 +19,8 @@ pub fn compare<D: Desk>(case: &mut Case<'_, D>) {
     let limits = limits(case);
     let judged = judged(case);
     let machines = machines::compare(case);
-    if !(readings && report && verdicts && limits && judged && machines) {
+    let packs = packs::compare(case);
+    if !(readings && report && verdicts && limits && judged && machines && packs) {
         case.counts.texts_failed += 1;
     } else if case.page.trace().is_some() && case.page.output().contains(NOT_KNOWN) {
         case.counts.not_known += 1;
