@@ -177,6 +177,23 @@ static size_t file_length(const uint8_t *file) {
     return WHEELOTTER_ENTRIES + WHEELOTTER_FIRST * (size_t)file[WHEELOTTER_FIRSTS] + WHEELOTTER_RECORD * (size_t)number(file + WHEELOTTER_COUNT);
 }
 
+/* The packed file of the text, and its text. */
+static void print_packed(void) {
+    static uint8_t packed[WHEELOTTER_PACKED], unpacked[WHEELOTTER_UNPACKED];
+    uint8_t answer = wheelotter_pack(text, text_len, packed, sizeof packed);
+    if (answer != WHEELOTTER_DONE) {
+        printf("packed: refused %u line %u\n", answer, (unsigned)wheelotter_line(text, text_len));
+        return;
+    }
+    uint8_t *file = packed + WHEELOTTER_BYTES_AT;
+    size_t len = number(packed);
+    printf("packed: %u bytes of %u\n", (unsigned)len, (unsigned)text_len);
+    wheelotter_unpack(file, len, unpacked, sizeof unpacked);
+    printf("unpacked: %u bytes\n", number(unpacked));
+    file[WHEELOTTER_ENTRIES] = 4;
+    printf("with another kind: number %u line %u\n", wheelotter_file_number(file, len), (unsigned)wheelotter_file_line(file, len));
+}
+
 /* Supposes 0 before 1, then 2 before 3, takes both back, and looks each time whether 3 before 2 is held. Then two records come: a load of core 0 that
  * waits, and its source. */
 static void talk(void) {
@@ -219,6 +236,7 @@ int main(void) {
     print_machine(WHEELOTTER_TSO);
     print_paper(WHEELOTTER_SC);
     print_paper(WHEELOTTER_TSO);
+    print_packed();
     talk();
     return 0;
 }

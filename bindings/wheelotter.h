@@ -23,7 +23,7 @@ extern "C" {
 #define WHEELOTTER_MODELS 4             /* so many, numbered from 1 */
 
 /* The answers of every function that gives back a uint8_t. (10 is for traces that were not read from a text: none gives it.) */
-#define WHEELOTTER_DONE 0               /* the text is good; or opened, supposed, taken back, added; or none waits */
+#define WHEELOTTER_DONE 0               /* the text or file is good; or opened, supposed, taken back, added, packed, unpacked; or none waits */
 #define WHEELOTTER_LONG_TEXT 1          /* over 32,768 bytes */
 #define WHEELOTTER_LONG_LINE 2          /* over 80 bytes */
 #define WHEELOTTER_NO_FORM 3            /* none of the forms, or no ending line feed */
@@ -40,9 +40,11 @@ extern "C" {
 #define WHEELOTTER_MANY_PAIRS 15        /* pair 17, counted from 1 */
 #define WHEELOTTER_NO_PAIR 16           /* take back, and no pair stands */
 #define WHEELOTTER_LATE_INIT 17         /* an init line behind a record, or a second one for its address */
-#define WHEELOTTER_NO_ENTRY 20          /* fields that are no record: a kind past 3, or a number that it does not carry and is not 0 */
+#define WHEELOTTER_NO_FILE 18           /* no packed file: another mark, cut short, or left over */
+#define WHEELOTTER_OTHER_VERSION 19     /* a packed file of another version */
+#define WHEELOTTER_NO_ENTRY 20          /* no entry of a file, and no record to add: a kind past 3, a first value 0, addresses that do not rise, an unused number other than 0 */
 #define WHEELOTTER_NO_ROOM 21           /* the lent memory is too short, and stays as it was */
-#define WHEELOTTER_LOST_CORE 22         /* a core appears in the text, and a lower one does not */
+#define WHEELOTTER_LOST_CORE 22         /* a core appears in the text or file, and a lower one does not */
 #define WHEELOTTER_ORDER 64             /* the first valid order */
 #define WHEELOTTER_CIRCLE 65            /* the rules run in a circle */
 #define WHEELOTTER_NONE_LEFT 66         /* every order was ruled out */
@@ -88,6 +90,9 @@ extern "C" {
 #define WHEELOTTER_ENTRIES 8            /* where the entries begin in a packed file */
 #define WHEELOTTER_FIRST 3              /* a first value in a packed file has so many bytes */
 #define WHEELOTTER_RECORD 8             /* a record in a packed file has so many bytes */
+#define WHEELOTTER_BYTES_AT 2           /* where a packed file or a text begins behind its length */
+#define WHEELOTTER_PACKED 2106          /* a buffer of this many bytes holds any packed file behind its length */
+#define WHEELOTTER_UNPACKED 32770       /* and of this many the text of any packed file */
 #define WHEELOTTER_JUDGEMENT 4          /* what the judge names has so many bytes */
 #define WHEELOTTER_PLACE 2              /* the place of an impossible step, and the number of a record that waits, has so many bytes */
 #define WHEELOTTER_STEPS 512            /* a list of possible steps has at most so many */
@@ -188,6 +193,32 @@ uint8_t wheelotter_smaller(const uint8_t *text, size_t text_len, uint8_t model, 
  *   WHEELOTTER_ACCEPTED                   it is, and there is no valid order;
  *   WHEELOTTER_NOT_ACCEPTED               it is not; there may be an order or not. */
 uint8_t wheelotter_accepts(const uint8_t *text, size_t text_len, uint8_t model, const uint16_t *list, size_t list_len);
+
+/* Writes the packed file of the trace that a text writes into out (docs/GUIDE.md has its layout), the rest stays:
+ *   0                      how many bytes the file has, in two bytes
+ *   WHEELOTTER_BYTES_AT    the file
+ * WHEELOTTER_PACKED bytes are always enough. Gives back
+ *   1 to 8, 17 or 22      the text is turned back (wheelotter_line tells the line); out stays as it was;
+ *   WHEELOTTER_NO_ROOM    else out is too short, and stays as it was;
+ *   WHEELOTTER_DONE. */
+uint8_t wheelotter_pack(const uint8_t *text, size_t text_len, uint8_t *out, size_t out_len);
+
+/* Writes the text of the trace that a packed file packs into out, init lines of the first values other than 0, addresses rising, and a line for each
+ * record; the rest stays:
+ *   0                      how many bytes the text has, in two bytes
+ *   WHEELOTTER_BYTES_AT    the text
+ * WHEELOTTER_UNPACKED bytes are always enough. Gives back
+ *   what wheelotter_file_number does    the file is turned back; out stays as it was;
+ *   WHEELOTTER_NO_ROOM                  else out is too short, and stays as it was;
+ *   WHEELOTTER_DONE. */
+uint8_t wheelotter_unpack(const uint8_t *file, size_t file_len, uint8_t *out, size_t out_len);
+
+/* The number of what is wrong with a packed file: WHEELOTTER_NO_FILE, WHEELOTTER_OTHER_VERSION, WHEELOTTER_NO_ENTRY, 4, 6, 7 or 8 as in a text, or
+ * WHEELOTTER_LOST_CORE; 0 for a good one. */
+uint8_t wheelotter_file_number(const uint8_t *file, size_t file_len);
+
+/* The line that comes with it: the record's number plus 1; 0 where no record is to blame. */
+size_t wheelotter_file_line(const uint8_t *file, size_t file_len);
 
 /* A session in bytes, WHEELOTTER_HEAD and as many more as its trace's packed file has:
  *   0                      the model

@@ -20,6 +20,7 @@
 //! | `session` | suppose, take back, ask, add, waiting, numbers 9 to 16 |
 //! | `report` | the lines of an answer |
 //! | `desk` | the entries of the library, in bytes (their form is ours; what they say is the document's) |
+//! | `packs` | those over packed files |
 //! | `bench` | the program at the bench |
 //! | `chance`, `machine`, `families`, `lists`, `files`, `script`, `plan` | texts, lists, files and session words to compare on (these are ours, not the document's) |
 //! | `stated` | the document's own traces with the outputs it states |
@@ -36,6 +37,7 @@ pub mod machine;
 pub mod orders;
 pub mod packed;
 pub mod papers;
+pub mod packs;
 pub mod plain;
 pub mod plan;
 pub mod reader;

@@ -1,9 +1,10 @@
 //! Reads a trace from standard input. Prints the answer to it, what is wrong with it and where, the verdict in numbers under each model, whether
-//! 1 2 3 0 is an order, how many steps the verdict takes within 20, what is left of it where it is faulty, what the machine does under SC and TSO, and a short talk with a session under TSO.
+//! 1 2 3 0 is an order, how many steps the verdict takes within 20, what is left of it where it is faulty, what the machine does under SC and TSO, how long its
+//! packed file is, whether a paper shows that there is no order, and a short talk with a session under TSO.
 
 use std::io::{self, Read};
-use wheelotter::{accepts, check, judge, limited, report, run, smaller, steps, verdict};
-use wheelotter::{Answer, Asked, Judgement, Limited, Model, Ran, Record, Session, Smaller, Verdict, MODELS};
+use wheelotter::{accepts, check, check_file, judge, limited, pack, report, run, smaller, steps, unpack, verdict};
+use wheelotter::{Answer, Asked, Judgement, Limited, Model, Ran, Record, Session, Smaller, Verdict, ENTRIES, MODELS};
 
 fn main() -> io::Result<()> {
     let mut text = Vec::new();
@@ -13,6 +14,7 @@ fn main() -> io::Result<()> {
     MODELS.iter().for_each(|&model| print_verdict(&text, model));
     [Model::Sc, Model::Tso].iter().for_each(|&model| print_machine(&text, model));
     [Model::Sc, Model::Tso].iter().for_each(|&model| print_paper(&text, model));
+    print_packed(&text);
     match Session::open(&text, Model::Tso) {
         Err(_) => println!("open: refused"),
         Ok(session) => {
@@ -94,6 +96,20 @@ fn print_paper(text: &[u8], model: Model) {
         Err(refusal) => format!("no paper, {}", refusal.answer as u8),
     };
     println!("model {}: {told}", model as u8);
+}
+
+/// The packed file of the text, and its text.
+fn print_packed(text: &[u8]) {
+    let mut file = match pack(text) {
+        Ok(file) => file,
+        Err(refusal) => return println!("packed: {refusal}"),
+    };
+    println!("packed: {} bytes of {}", file.len(), text.len());
+    println!("unpacked: {} bytes", unpack(&file).map_or(0, |text| text.len()));
+    file[ENTRIES] = 4;
+    if let Err(refusal) = check_file(&file) {
+        println!("with another kind: number {} line {}", refusal.answer as u8, refusal.line);
+    }
 }
 
 fn done(answer: Result<(), Answer>) -> &'static str {

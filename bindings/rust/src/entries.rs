@@ -40,6 +40,10 @@ mod linked {
         ) -> u8;
         pub fn wheelotter_smaller(text: *const u8, text_len: usize, model: u8, out: *mut u8, out_len: usize) -> u8;
         pub fn wheelotter_accepts(text: *const u8, text_len: usize, model: u8, list: *const u16, list_len: usize) -> u8;
+        pub fn wheelotter_pack(text: *const u8, text_len: usize, out: *mut u8, out_len: usize) -> u8;
+        pub fn wheelotter_unpack(file: *const u8, file_len: usize, out: *mut u8, out_len: usize) -> u8;
+        pub fn wheelotter_file_number(file: *const u8, file_len: usize) -> u8;
+        pub fn wheelotter_file_line(file: *const u8, file_len: usize) -> usize;
         pub fn wheelotter_open(text: *const u8, text_len: usize, model: u8, session: *mut u8, session_len: usize) -> u8;
         pub fn wheelotter_suppose(session: *mut u8, session_len: usize, x: usize, y: usize) -> u8;
         pub fn wheelotter_take_back(session: *mut u8, session_len: usize) -> u8;
@@ -123,6 +127,28 @@ pub fn smaller(text: &[u8], model: u8, out: &mut [u8]) -> u8 {
 /// Whether a list of numbers, from anyone, is a paper that shows that the trace of a text has no valid order under a model.
 pub fn accepts(text: &[u8], model: u8, list: &[u16]) -> u8 {
     unsafe { linked::wheelotter_accepts(text.as_ptr(), text.len(), model, list.as_ptr(), list.len()) }
+}
+
+/// The packed file of the trace that a text writes, at the front of `out`: its length in two bytes, the low one first, and from
+/// [`BYTES_AT`](crate::BYTES_AT) on the file. Where the text is turned back, or else `out` is too short, it stays as it was.
+pub fn pack(text: &[u8], out: &mut [u8]) -> u8 {
+    unsafe { linked::wheelotter_pack(text.as_ptr(), text.len(), out.as_mut_ptr(), out.len()) }
+}
+
+/// The text of the trace that a packed file packs, at the front of `out`: its length in two bytes, the low one first, and from
+/// [`BYTES_AT`](crate::BYTES_AT) on the text. Where the file is turned back, or else `out` is too short, it stays as it was.
+pub fn unpack(file: &[u8], out: &mut [u8]) -> u8 {
+    unsafe { linked::wheelotter_unpack(file.as_ptr(), file.len(), out.as_mut_ptr(), out.len()) }
+}
+
+/// The number of what is wrong with a packed file; 0 for a good one.
+pub fn file_number(file: &[u8]) -> u8 {
+    unsafe { linked::wheelotter_file_number(file.as_ptr(), file.len()) }
+}
+
+/// The line that comes with it, the record's number plus 1; 0 where no record is to blame.
+pub fn file_line(file: &[u8]) -> usize {
+    unsafe { linked::wheelotter_file_line(file.as_ptr(), file.len()) }
 }
 
 /// Opens a session on a text in the first [`HEAD`](crate::HEAD) and as many bytes more as the packed file of its trace has, at most

@@ -214,6 +214,53 @@ pub fn accepts<'a>(text: &'a [u8], model: Model, list: &[u16]) -> Result<bool, R
     }
 }
 
+/// Why a packed file is turned back: the number (4, 6, 7, 8, 18, 19, 20 or 22 in the table), and the line, which is the record's number plus 1, or 0
+/// where no record is to blame.
+#[derive(Clone, Copy, Debug, PartialEq, Eq)]
+pub struct FileRefusal {
+    pub answer: Answer,
+    pub line: usize,
+}
+
+impl fmt::Display for FileRefusal {
+    fn fmt(&self, f: &mut fmt::Formatter<'_>) -> fmt::Result {
+        write!(f, "refused {} line {}", self.answer as u8, self.line)
+    }
+}
+
+impl std::error::Error for FileRefusal {}
+
+/// The packed file of the trace that a text writes.
+pub fn pack(text: &[u8]) -> Result<Vec<u8>, Refusal<'_>> {
+    let mut out = vec![0; PACKED];
+    match Answer::of(entries::pack(text, &mut out)) {
+        Answer::Done => Ok(counted(&out)),
+        _ => check(text).map(|()| unreachable!("a good text has a file, and there is room for any")),
+    }
+}
+
+/// The text of the trace that a packed file packs.
+pub fn unpack(file: &[u8]) -> Result<Vec<u8>, FileRefusal> {
+    let mut out = vec![0; UNPACKED];
+    match Answer::of(entries::unpack(file, &mut out)) {
+        Answer::Done => Ok(counted(&out)),
+        answer => Err(FileRefusal { answer, line: entries::file_line(file) }),
+    }
+}
+
+/// Whether a packed file packs a trace, or why it is turned back.
+pub fn check_file(file: &[u8]) -> Result<(), FileRefusal> {
+    match Answer::of(entries::file_number(file)) {
+        Answer::Done => Ok(()),
+        answer => Err(FileRefusal { answer, line: entries::file_line(file) }),
+    }
+}
+
+/// The bytes behind their count.
+fn counted(out: &[u8]) -> Vec<u8> {
+    out[BYTES_AT..][..usize::from(u16::from_le_bytes([out[0], out[1]]))].to_vec()
+}
+
 /// What a session knows of two operations.
 #[derive(Clone, Copy, Debug, PartialEq, Eq)]
 pub enum Asked {

@@ -60,6 +60,15 @@ pub const FIRST: usize = 3;
 /// A record in a packed file has so many bytes.
 pub const RECORD: usize = 8;
 
+/// Where a packed file or a text begins behind its length.
+pub const BYTES_AT: usize = 2;
+
+/// A buffer of this many bytes holds any packed file behind its length.
+pub const PACKED: usize = 2106;
+
+/// And of this many the text of any packed file.
+pub const UNPACKED: usize = 32770;
+
 /// What the judge names has so many bytes.
 pub const JUDGEMENT: usize = 4;
 
@@ -99,7 +108,7 @@ pub const MODELS: [Model; 4] = [Model::Sc, Model::Tso, Model::Pso, Model::Wmo];
 /// One table of answers for every entry; docs/GUIDE.md explains them. (10 is for traces that were not read from a text: no entry gives it.)
 #[derive(Clone, Copy, Debug, PartialEq, Eq)]
 pub enum Answer {
-    /// The text is good; or opened, supposed, taken back, added; or none waits.
+    /// The text or file is good; or opened, supposed, taken back, added, packed, unpacked; or none waits.
     Done = 0,
     /// Over 32,768 bytes.
     LongText = 1,
@@ -133,11 +142,15 @@ pub enum Answer {
     NoPair = 16,
     /// An init line behind a record, or a second one for its address.
     LateInit = 17,
-    /// Fields that are no record: a kind past 3, or a number that it does not carry and is not 0.
+    /// No packed file: another mark, cut short, or left over.
+    NoFile = 18,
+    /// A packed file of another version.
+    OtherVersion = 19,
+    /// No entry of a file, and no record to add: a kind past 3, a first value 0, addresses that do not rise, an unused number other than 0.
     NoEntry = 20,
     /// The lent memory is too short, and stays as it was.
     NoRoom = 21,
-    /// A core appears in the text, and a lower one does not.
+    /// A core appears in the text or file, and a lower one does not.
     LostCore = 22,
     /// The first valid order.
     Order = 64,
@@ -189,7 +202,7 @@ pub enum Answer {
 
 /// In the order of their numbers.
 #[rustfmt::skip]
-pub(crate) const ANSWERS: [Answer; 43] = [
+pub(crate) const ANSWERS: [Answer; 45] = [
     Answer::Done,
     Answer::LongText,
     Answer::LongLine,
@@ -207,6 +220,8 @@ pub(crate) const ANSWERS: [Answer; 43] = [
     Answer::ManyPairs,
     Answer::NoPair,
     Answer::LateInit,
+    Answer::NoFile,
+    Answer::OtherVersion,
     Answer::NoEntry,
     Answer::NoRoom,
     Answer::LostCore,

@@ -1,12 +1,13 @@
 //! Each kind of answer through the safe functions, worked out from document 01.
 
 use wheelotter::{
-    accepts, check, entries, judge, limited, report, run, smaller, steps, verdict, Answer, Asked, Judgement, Limited, Model, Ran, Record, Refusal,
-    Session, Smaller, Verdict,
+    accepts, check, check_file, entries, judge, limited, pack, report, run, smaller, steps, unpack, verdict, Answer, Asked, FileRefusal,
+    Judgement, Limited, Model, Ran, Record, Refusal, Session, Smaller, Verdict,
 };
 use wheelotter::{
-    COUNT, COUNTED, ENTRIES, FILE, FIRST, FIRSTS, HEAD, JUDGEMENT, LEFT, LIMITED, MARK, MODELS, OLDS, OPERATIONS, PAIRS, PLACE, RECORD,
-    RECORDS, REPLAY, REPORT, RULES, SESSION, SMALLER, STANDING, STEPS, STEPS_AT, TABLE, TEXT, VERDICT,
+    BYTES_AT, COUNT, COUNTED, ENTRIES, FILE, FIRST, FIRSTS, HEAD, JUDGEMENT, LEFT, LIMITED, MARK, MODELS, OLDS, OPERATIONS,
+    PACKED as PACKED_ROOM, PAIRS, PLACE, RECORD, RECORDS, REPLAY, REPORT, RULES, SESSION, SMALLER, STANDING, STEPS, STEPS_AT, TABLE, TEXT,
+    UNPACKED, VERDICT,
 };
 
 const BUFFERS: &[u8] = b"0: M[0] := 1\n0: M[1] == 0\n1: M[1] := 1\n1: M[0] == 0\n";
@@ -37,6 +38,7 @@ fn the_numbers_of_the_header() {
     assert_eq!([number("OLDS"), number("LEFT"), number("SMALLER")], [OLDS, LEFT, SMALLER]);
     assert_eq!([number("SESSION"), number("FILE"), number("FIRSTS"), number("COUNT")], [SESSION, FILE, FIRSTS, COUNT]);
     assert_eq!([number("ENTRIES"), number("FIRST"), number("RECORD")], [ENTRIES, FIRST, RECORD]);
+    assert_eq!([number("BYTES_AT"), number("PACKED"), number("UNPACKED")], [BYTES_AT, PACKED_ROOM, UNPACKED]);
     assert_eq!(["SC", "TSO", "PSO", "WMO"].map(number), MODELS.map(|model| model as usize));
     assert_eq!(number("MODELS"), MODELS.len());
     for answer in (0..=255).filter_map(Answer::numbered) {
@@ -54,6 +56,31 @@ fn texts() {
     assert_eq!(check(b"0: sync\n8: sync\n"), Err(Refusal { answer: Answer::PastBound, line: 2, part: b"8: sync" }));
     assert_eq!(check(&[b'\n'; TEXT + 1]), Err(Refusal { answer: Answer::LongText, line: 0, part: b"" }));
     assert_eq!(check(b"0").map_err(|refusal| refusal.to_string()), Err("refused 3 line 1".to_string()));
+}
+
+#[test]
+fn packed_files() {
+    assert_eq!(pack(BUFFERS).as_deref(), Ok(PACKED));
+    assert_eq!(unpack(PACKED).as_deref(), Ok(BUFFERS));
+    assert_eq!(unpack(b"PYR\x01\0\0\0\0").as_deref(), Ok(&b""[..]), "the file of no records");
+    assert_eq!(pack(b"0: sync\n2: sync\n").map_err(|refusal| refusal.answer), Err(Answer::LostCore));
+    let told = |place: usize, byte: u8| {
+        let mut file = PACKED.to_vec();
+        file[place] = byte;
+        let refusal = check_file(&file).expect_err("turned back");
+        assert_eq!(unpack(&file), Err(refusal));
+        (refusal.answer, refusal.line)
+    };
+    assert_eq!([told(0, 0), told(6, 3)], [(Answer::NoFile, 0); 2]);
+    assert_eq!(told(4, 1), (Answer::OtherVersion, 0));
+    assert_eq!(told(ENTRIES + RECORD, 4), (Answer::NoEntry, 2));
+    assert_eq!(told(ENTRIES + 2, 16), (Answer::PastBound, 1));
+    assert_eq!(told(ENTRIES + 6, 0), (Answer::FirstWritten, 1));
+    assert_eq!(told(ENTRIES + 2 * RECORD + 2, 0), (Answer::WrittenBefore, 3));
+    let one: Vec<u8> = PACKED.iter().enumerate().map(|(i, &byte)| if i % RECORD == 1 && i > ENTRIES { 1 } else { byte }).collect();
+    assert_eq!(check_file(&one), Err(FileRefusal { answer: Answer::LostCore, line: 0 }));
+    let mut short = [7; 2 + 39];
+    assert_eq!((entries::pack(BUFFERS, &mut short), short), (Answer::NoRoom as u8, [7; 2 + 39]));
 }
 
 #[test]

@@ -23,7 +23,7 @@ use Rattle.laws.proofs.Alike.{alike-iff}
 use Rattle.laws.proofs.Rows.{row-long, row-place}
 use Rattle.packed.specs.Layout.{fileOf}
 use Rattle.packed.specs.Read.{readFile}
-use Rattle.packed.specs.declared.Reason.the-variants.{PastBound, FirstValue, TooMany, Twice, NoFile, OtherVersion, NoEntry}
+use Rattle.packed.specs.declared.Reason.the-variants.{PastBound, FirstValue, TooMany, Twice, NoFile, OtherVersion, NoEntry, Lost}
 use Rattle.packed.specs.declared.Answer.{Answer}
 use Rattle.packed.specs.declared.Answer.the-variants as told
 use Rattle.packed.specs.declared.Reading.{Reading}
@@ -125,6 +125,7 @@ good-answer r z = ap (λ (a : Answer). record { answer = a; trace = r .trace }) 
     go (told.Refused NoFile n) e = absurd (omega arith)
     go (told.Refused OtherVersion n) e = absurd (omega arith)
     go (told.Refused NoEntry n) e = absurd (omega arith)
+    go (told.Refused Lost n) e = absurd (omega arith)
 
 -- an intact session on the trace of a good file
 pub record On (C : Closings) (s : Session) (file : List ℕ) : Type 0 where

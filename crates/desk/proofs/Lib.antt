@@ -13,6 +13,8 @@ pub mod Acting
 pub mod Grown
 pub mod Opens
 pub mod Packing
+pub mod Counted
+pub mod Cores
 pub mod Heard
 pub mod Sourceless
 pub mod One

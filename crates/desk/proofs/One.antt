@@ -37,6 +37,14 @@ use Rattle.desk.proofs.runs.wheelotter_steps.Reads as steps
 use Rattle.desk.proofs.runs.wheelotter_steps.Kinds as steps-kinds
 use Rattle.desk.proofs.cuts.wheelotter_smaller.Reads as smaller
 use Rattle.desk.proofs.cuts.wheelotter_smaller.Kinds as smaller-kinds
+use Rattle.desk.proofs.packs.wheelotter_pack.Reads as pack
+use Rattle.desk.proofs.packs.wheelotter_pack.Kinds as pack-kinds
+use Rattle.desk.proofs.packs.wheelotter_unpack.Reads as unpack
+use Rattle.desk.proofs.packs.wheelotter_unpack.Kinds as unpack-kinds
+use Rattle.desk.proofs.packs.wheelotter_file_number.Reads as file-number
+use Rattle.desk.proofs.packs.wheelotter_file_number.Kinds as file-number-kinds
+use Rattle.desk.proofs.packs.wheelotter_file_line.Reads as file-line
+use Rattle.desk.proofs.packs.wheelotter_file_line.Kinds as file-line-kinds
 use Rattle.desk.proofs.sessions.wheelotter_open.Reads as opens
 use Rattle.desk.proofs.sessions.wheelotter_open.Kinds as open-kinds
 use Rattle.desk.proofs.sessions.wheelotter_suppose.Reads as suppose
@@ -112,6 +120,24 @@ smaller-settles κs a x y s t p q = smaller-one (now (a .0)) (a .1 .0) (now (a .
 
 pub smaller-leaves : Leaves 2 smaller-kinds.ps smaller-kinds.r (λ κs s. now (s .1 .1 .0)) smaller.Post
 smaller-leaves κs a x y s t p q = smaller-one (now (a .0)) (a .1 .0) (now (a .1 .1 .0)) (now (s .1 .1 .0)) (now (t .1 .1 .0)) x y p q .1
+
+pub pack-settles : Settles 2 pack-kinds.ps pack-kinds.r pack.Post
+pack-settles κs a x y s t p q = p .0 ∙ sym (q .0)
+
+pub pack-leaves : Leaves 2 pack-kinds.ps pack-kinds.r (λ κs s. now (s .1 .0)) pack.Post
+pack-leaves κs a x y s t p q = p .1 ∙ sym (q .1)
+
+pub unpack-settles : Settles 2 unpack-kinds.ps unpack-kinds.r unpack.Post
+unpack-settles κs a x y s t p q = p .0 ∙ sym (q .0)
+
+pub unpack-leaves : Leaves 2 unpack-kinds.ps unpack-kinds.r (λ κs s. now (s .1 .0)) unpack.Post
+unpack-leaves κs a x y s t p q = p .1 ∙ sym (q .1)
+
+pub file-number-settles : Settles 1 file-number-kinds.ps file-number-kinds.r file-number.Post
+file-number-settles κs a x y s t p q = p ∙ sym q
+
+pub file-line-settles : Settles 1 file-line-kinds.ps file-line-kinds.r file-line.Post
+file-line-settles κs a x y s t p q = p ∙ sym q
 
 pub open-settles : Settles 2 open-kinds.ps open-kinds.r opens.Post
 open-settles κs a x y s t p q = p .0 ∙ sym (q .0)

@@ -20,7 +20,7 @@ use Rattle.trace.specs.declared.Trace.{Trace}
 use Rattle.packed.specs.Layout.{fileOf}
 use Rattle.packed.specs.Write.{wroteOf, leftOf}
 use Rattle.packed.specs.declared.Wrote.{Wrote}
-use Rattle.packed.specs.declared.Wrote.the-variants.{Length, NotWellFormed, NoRoom}
+use Rattle.packed.specs.declared.Wrote.the-variants.{Length, NotWellFormed, NoRoom, Lost}
 use Rattle.session.specs.declared.Session.{Session}
 use Rattle.session.proofs.Openings.{openable-iff}
 use Rattle.desk.specs.Head.{Fit, HEAD, headOf, bytesOf}
@@ -31,6 +31,7 @@ abbrev pub found : Wrote → Bool
 found (Length n) = true
 found NotWellFormed = false
 found NoRoom = false
+found Lost = false
 
 module _ (s : Session) (f : Fit s) (b : List ℕ) where
   -- its file

@@ -16,3 +16,4 @@ pub mod Acts
 pub mod Grown
 pub mod Opened
 pub mod Cuts
+pub mod Packs

@@ -8,6 +8,7 @@ mod heads;
 pub mod judgements;
 pub mod limits;
 pub mod paper;
+pub mod packs;
 pub mod runs;
 pub mod sessions;
 pub mod texts;

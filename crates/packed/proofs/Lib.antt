@@ -7,4 +7,5 @@ pub mod Firsts
 pub mod Records
 pub mod RoundTrip
 pub mod Cases
+pub mod Whole
 pub mod One

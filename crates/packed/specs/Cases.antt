@@ -11,25 +11,29 @@
 --   entryAt b k    == the record that record k's bytes are, if any
 --   Took b k t     == all first values and the first k records are good, and give the trace t
 --   Back b reason line == the file is turned back for a reason, with a line
+--   BackWhole b reason line == the same, held to lost cores too: where every record is good, and a core is lost
 use mathlib.Core.Path.{_≡_}
 use mathlib.Core.Logic.{_≢_, _⊎_}
+use mathlib.Core.Bool.{So}
 use mathlib.Core.List.{List}
 use Prim.Native.Nat.{ℕ, zero, suc, _+_, _*_, _<_, _≤_}
 use lib.ListN.{length, getD, set, drop, replicate}
 use Rattle.trace.specs.Bounds.{RECORDS, ADDRESSES}
 use Rattle.trace.specs.Trace.{pushed}
 use Rattle.trace.specs.Fault.{Earns}
+use Rattle.trace.specs.WellFormed.{wellFormed}
+use Rattle.trace.specs.Cores.{Whole}
 use Rattle.trace.specs.declared.Op.{Op}
 use Rattle.trace.specs.declared.Trace.{Trace}
 use Rattle.trace.specs.declared.Fault.{Fault}
 use Rattle.trace.specs.declared.Fault.the-variants as fault
-use Rattle.packed.specs.Layout.{VERSION, HEAD, FIRST, RECORD, twoIn, sizeOf}
+use Rattle.packed.specs.Layout.{VERSION, HEAD, FIRST, RECORD, twoIn, sizeOf, fileOf}
 use Rattle.packed.specs.Entry.{entryIn}
 use Rattle.packed.specs.Read.{turnOf, begun}
 use Rattle.packed.specs.declared.Entry.{Entry}
 use Rattle.packed.specs.declared.Entry.the-variants.{Of, Nothing}
 use Rattle.packed.specs.declared.Reason.{Reason}
-use Rattle.packed.specs.declared.Reason.the-variants.{PastBound, TooMany, NoFile, OtherVersion, NoEntry}
+use Rattle.packed.specs.declared.Reason.the-variants.{PastBound, TooMany, NoFile, OtherVersion, NoEntry, Lost}
 use Rattle.packed.specs.declared.Turn.the-variants.{Refused}
 
 abbrev pub Marked : List ℕ → Type 0
@@ -84,3 +88,8 @@ pub data Back (b : List ℕ) : Reason → ℕ → Type 0 where
   pastFirst : (i : ℕ) → Framed b → i < firstsIn b → ((j : ℕ) → j < i → GoodFirst b j) → (NoFirst b i → ⊥) → ADDRESSES ≤ addressAt b i → Back b PastBound 0
   noRecord : (k : ℕ) (t : Trace) → Framed b → k < recordsIn b → Took b k t → entryAt b k ≡ Nothing → Back b NoEntry (k + 1)
   badRecord : (k : ℕ) (t : Trace) (o : Op) (f : Fault) {reason : Reason} → Framed b → k < recordsIn b → Took b k t → entryAt b k ≡ Of o → Earns f t o → turnOf o f ≡ Refused reason → Back b reason (k + 1)
+
+-- 22 comes last, outside a record: the file is that of a well formed trace, in which a thread appears and a lower one does not
+pub data BackWhole (b : List ℕ) : Reason → ℕ → Type 0 where
+  before : {reason : Reason} {line : ℕ} → Back b reason line → BackWhole b reason line
+  skipped : (t : Trace) → So (wellFormed t) → b ≡ fileOf t → (Whole t → ⊥) → BackWhole b Lost 0

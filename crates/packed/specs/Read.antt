@@ -29,7 +29,7 @@ use Rattle.packed.specs.Entry.{entryIn}
 use Rattle.packed.specs.declared.Entry.{Entry}
 use Rattle.packed.specs.declared.Entry.the-variants.{Of, Nothing}
 use Rattle.packed.specs.declared.Reason.{Reason}
-use Rattle.packed.specs.declared.Reason.the-variants.{PastBound, FirstValue, TooMany, Twice, NoFile, OtherVersion, NoEntry}
+use Rattle.packed.specs.declared.Reason.the-variants.{PastBound, FirstValue, TooMany, Twice, NoFile, OtherVersion, NoEntry, Lost}
 use Rattle.packed.specs.declared.Turn.{Turn}
 use Rattle.packed.specs.declared.Turn.the-variants as turn
 use Rattle.packed.specs.declared.Answer.{Answer}
@@ -44,6 +44,7 @@ numberOf Twice = 8
 numberOf NoFile = 18
 numberOf OtherVersion = 19
 numberOf NoEntry = 20
+numberOf Lost = 22
 
 abbrev pub turnOf : Op → Fault → Turn
 turnOf o fault.Nothing = turn.Taken o

@@ -29,7 +29,7 @@ pub enum Entry {
     Nothing,
 }
 
-// Why a file is turned back. The first four are a text's too.
+// Why a file is turned back. The first four are a text's too, and so is the last, which only `read_whole` gives: a core is lost.
 pub enum Reason {
     PastBound,
     FirstValue,
@@ -38,6 +38,7 @@ pub enum Reason {
     NoFile,
     OtherVersion,
     NoEntry,
+    Lost,
 }
 
 // What one record gets.
@@ -58,11 +59,12 @@ pub struct Reading {
     pub trace: Trace,
 }
 
-// What the writer says: how many bytes it wrote, or why none.
+// What the writer says: how many bytes it wrote, or why none. Only `write_whole` says that a core is lost.
 pub enum Wrote {
     Length(usize),
     NotWellFormed,
     NoRoom,
+    Lost,
 }
 
 // Document 02's number of a reason.
@@ -77,5 +79,6 @@ pub fn number(reason: Reason) -> u8
         Reason::NoFile => 18,
         Reason::OtherVersion => 19,
         Reason::NoEntry => 20,
+        Reason::Lost => 22,
     }
 }

@@ -24,6 +24,10 @@ pub enum Call {
     Ask { x: usize, y: usize },
     Add { fields: Fields },
     Waiting { room: usize },
+    Pack { room: usize },
+    Unpack { room: usize },
+    FileNumber,
+    FileLine,
 }
 
 /// Models that there are not.
@@ -32,8 +36,8 @@ pub const OTHER_MODELS: [u8; 5] = [0, LAST_MODEL + 1, LAST_MODEL + 2, 128, 255];
 /// The highest number of a model that there is; the lowest is 1.
 pub const LAST_MODEL: u8 = MODELS as u8;
 
-/// The entries' names without the front that all share, in the order of the header.
-pub const ENTRIES: [&str; 18] = [
+/// The entries' names without the front that all share.
+pub const ENTRIES: [&str; 22] = [
     "report",
     "number",
     "line",
@@ -52,6 +56,10 @@ pub const ENTRIES: [&str; 18] = [
     "accepts",
     "add",
     "waiting",
+    "pack",
+    "unpack",
+    "file_number",
+    "file_line",
 ];
 
 impl Call {
@@ -76,12 +84,16 @@ impl Call {
             Call::Accepts { .. } => 15,
             Call::Add { .. } => 16,
             Call::Waiting { .. } => 17,
+            Call::Pack { .. } => 18,
+            Call::Unpack { .. } => 19,
+            Call::FileNumber => 20,
+            Call::FileLine => 21,
         }
     }
 
     /// What comes back is a row of the table of answers: few enough to be counted one by one.
     pub fn answers_by_table(&self) -> bool {
-        !matches!(self, Call::Report { .. } | Call::Line | Call::Start | Call::End)
+        !matches!(self, Call::Report { .. } | Call::Line | Call::Start | Call::End | Call::FileLine)
     }
 }
 
@@ -89,7 +101,7 @@ impl fmt::Display for Call {
     fn fmt(&self, f: &mut fmt::Formatter<'_>) -> fmt::Result {
         write!(f, "{}", ENTRIES[self.entry()])?;
         match self {
-            Call::Report { room } => write!(f, " into {room} bytes"),
+            Call::Report { room } | Call::Pack { room } | Call::Unpack { room } => write!(f, " into {room} bytes"),
             Call::Verdict { model, room } => write!(f, " under {model} into {room} bytes"),
             Call::Limited { model, limit, room } => write!(f, " under {model} within {limit} steps into {room} bytes"),
             Call::Judge { model, list, room } => write!(f, " under {model} of {list:?} into {room} bytes"),
@@ -101,7 +113,7 @@ impl fmt::Display for Call {
             Call::Suppose { x, y } | Call::Ask { x, y } => write!(f, " {x} {y}"),
             Call::Add { fields } => write!(f, " {fields:?}"),
             Call::Waiting { room } => write!(f, " into {room} bytes"),
-            Call::Number | Call::Line | Call::Start | Call::End | Call::TakeBack => Ok(()),
+            Call::Number | Call::Line | Call::Start | Call::End | Call::TakeBack | Call::FileNumber | Call::FileLine => Ok(()),
         }
     }
 }

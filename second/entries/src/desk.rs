@@ -22,6 +22,10 @@ pub trait Desk: Sync {
     fn ask(&self, session: &[u8], x: usize, y: usize) -> u8;
     fn add(&self, session: &mut [u8], fields: &Fields) -> u8;
     fn waiting(&self, session: &[u8], out: &mut [u8]) -> u8;
+    fn pack(&self, text: &[u8], out: &mut [u8]) -> u8;
+    fn unpack(&self, file: &[u8], out: &mut [u8]) -> u8;
+    fn file_number(&self, file: &[u8]) -> u8;
+    fn file_line(&self, file: &[u8]) -> usize;
 }
 
 /// The proved library's.
@@ -81,5 +85,17 @@ impl Desk for Proved {
     }
     fn waiting(&self, session: &[u8], out: &mut [u8]) -> u8 {
         entries::waiting(session, out)
+    }
+    fn pack(&self, text: &[u8], out: &mut [u8]) -> u8 {
+        entries::pack(text, out)
+    }
+    fn unpack(&self, file: &[u8], out: &mut [u8]) -> u8 {
+        entries::unpack(file, out)
+    }
+    fn file_number(&self, file: &[u8]) -> u8 {
+        entries::file_number(file)
+    }
+    fn file_line(&self, file: &[u8]) -> usize {
+        entries::file_line(file)
     }
 }

@@ -10,6 +10,7 @@
 //! | `machines` | the plain machine's, and whether it agrees with the verdict |
 //! | `cuts` | a faulty trace cut down |
 //! | `papers` | the small reader of papers |
+//! | `packs` | those over packed files |
 //! | `sessions` | opening, and the calls on a session |
 //! | `records` | records that are added to one |
 //! | `damage` | bytes that were a session |
@@ -25,5 +26,6 @@ pub mod lent;
 pub mod machines;
 pub mod papers;
 pub mod records;
+pub mod packs;
 pub mod sessions;
 pub mod texts;

@@ -5,8 +5,7 @@ use crate::case::Case;
 use crate::cuts;
 use crate::desk::Desk;
 use crate::lent::Lent;
-use crate::machines;
-use crate::papers;
+use crate::{machines, packs, papers};
 use second::desk::{lay_verdict, number_at, JUDGEMENT, LIMITED, NONE_LEFT, OPERATIONS_AT, ORDER, RULES_AT, VERDICT};
 use second::lists::drawn;
 use second::report::NOT_KNOWN;
@@ -23,7 +22,8 @@ pub fn compare<D: Desk>(case: &mut Case<'_, D>) {
     let machines = machines::compare(case);
     let cuts = cuts::compare(case);
     let papers = papers::compare(case);
-    if !(readings && report && verdicts && limits && judged && machines && cuts && papers) {
+    let packs = packs::compare(case);
+    if !(readings && report && verdicts && limits && judged && machines && cuts && papers && packs) {
         case.counts.texts_failed += 1;
     } else if case.page.trace().is_some() && case.page.output().contains(NOT_KNOWN) {
         case.counts.not_known += 1;

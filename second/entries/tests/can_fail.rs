@@ -14,6 +14,7 @@ use second::desk::{
 use second::desk::{ACCEPTED, NOT_ACCEPTED};
 use second::families::FAMILIES;
 use second::packed::{file_of, FIRST, HEADER, RECORD};
+use second::packs::{self, BYTES_AT};
 use second::session::{self, Session, MOST_PAIRS};
 use second::smaller::{faulty, without, Part};
 use second::trace::{text_of, Model, Record, Trace};
@@ -25,7 +26,7 @@ struct Faulty(&'static str);
 
 const RIGHT: &str = "none";
 
-const FAULTS: [&str; 107] = [
+const FAULTS: [&str; 117] = [
     "report: a letter too far",
     "report: short memory written",
     "report: length of one line",
@@ -133,6 +134,16 @@ const FAULTS: [&str; 107] = [
     "session: pairs in order only",
     "session: what lies behind its file is not looked at",
     "session: no core may be missing",
+    "pack: one byte less is enough",
+    "pack: room before the text",
+    "pack: what lies behind is wiped",
+    "pack: the count's high byte first",
+    "unpack: the file's length",
+    "unpack: refused, and memory wiped",
+    "file: any threads",
+    "file: 4 before 20",
+    "file: the line is the record",
+    "file: the length before the version",
 ];
 
 impl Faulty {
@@ -613,6 +624,63 @@ impl Desk for Faulty {
             out.fill(0);
         }
         answer
+    }
+
+    fn pack(&self, text: &[u8], out: &mut [u8]) -> u8 {
+        let page = self.page(text);
+        let needed = BYTES_AT + page.trace().map_or(HEADER, |trace| file_of(trace).len());
+        if self.is("pack: one byte less is enough") && out.len() + 1 == needed {
+            return page.number();
+        }
+        if self.is("pack: room before the text") && out.len() < needed {
+            return NO_ROOM;
+        }
+        let answer = packs::pack(&page, out);
+        if answer == DONE && self.is("pack: what lies behind is wiped") {
+            out[needed..].fill(0);
+        }
+        if answer == DONE && self.is("pack: the count's high byte first") {
+            out[..BYTES_AT].reverse();
+        }
+        answer
+    }
+
+    fn unpack(&self, file: &[u8], out: &mut [u8]) -> u8 {
+        let answer = packs::unpack(file, out);
+        if answer == DONE && self.is("unpack: the file's length") {
+            put_number(out, file.len());
+        }
+        if answer != DONE && self.is("unpack: refused, and memory wiped") {
+            out.fill(0);
+        }
+        answer
+    }
+
+    fn file_number(&self, file: &[u8]) -> u8 {
+        let swapped = file.len() >= HEADER && file.len() != HEADER + FIRST * usize::from(file[5]) + RECORD * number_at(&file[6..]);
+        let past = |entry: &[u8]| entry[1] > 7 || entry[2] > 15;
+        match packs::number(file) {
+            22 if self.is("file: any threads") => DONE,
+            19 if self.is("file: the length before the version") && swapped => 18,
+            20 if self.is("file: 4 before 20") && packs::line(file) > 0 => {
+                let records = &file[HEADER + FIRST * usize::from(file[5])..];
+                if past(&records[RECORD * (packs::line(file) - 1)..][..RECORD]) {
+                    4
+                } else {
+                    20
+                }
+            }
+            number => number,
+        }
+    }
+
+    fn file_line(&self, file: &[u8]) -> usize {
+        let line = packs::line(file);
+        if self.is("file: the line is the record") {
+            line.saturating_sub(1)
+        } else {
+            line
+        }
     }
 }
 

@@ -179,6 +179,7 @@ pub(crate) fn placed(s: Session, out: &mut [u8]) -> bool
         }
         Wrote::NotWellFormed => false,
         Wrote::NoRoom => false,
+        Wrote::Lost => false,
     }
 }
 

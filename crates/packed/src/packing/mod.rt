@@ -9,6 +9,7 @@ ghost use Rattle.trace.specs.WellFormed.{wellFormed};
 ghost use Rattle.text.specs.Room.{putAt};
 ghost use Rattle.packed.specs.Layout.{HEAD, FIRST, RECORD, firstOf, firstsOf, many, recordsOf, sizeOf, headOf, fileOf};
 ghost use Rattle.packed.specs.Write.{wroteOf, leftOf};
+ghost use Rattle.packed.specs.Whole.{wroteWhole, leftWhole};
 use crate::FIRST;
 use crate::HEAD;
 use crate::RECORD;
@@ -17,6 +18,7 @@ use crate::entries::record_of;
 use text::room::put;
 use trace::FIRSTS;
 use trace::Trace;
+use trace::cores::lost;
 use trace::form::well_formed;
 
 // How many first values are other than 0.
@@ -115,4 +117,17 @@ pub fn write(t: Trace, out: &mut [u8]) -> Wrote
     }
     lay(t, firsts, out);
     Wrote::Length(size)
+}
+
+// The same as `write`, but a trace that lost a core has no file: 10 comes before that, and no room after it.
+pub fn write_whole(t: Trace, out: &mut [u8]) -> Wrote
+    ensures { λ r. ⌜ (r ≡ wroteWhole t (now (out .entry))) × (now (out .exit) ≡ leftWhole t (now (out .entry))) ⌝ }
+{
+    if lost(t) {
+        if well_formed(t) {
+            return Wrote::Lost;
+        }
+        return Wrote::NotWellFormed;
+    }
+    write(t, out)
 }

@@ -5,6 +5,7 @@ ghost use lib.ListN.{length, drop, replicate};
 ghost use Rattle.trace.specs.Bounds.{ADDRESSES, RECORDS};
 ghost use Rattle.packed.specs.Layout.{BYTE, HEAD, FIRST, RECORD, sizeOf};
 ghost use Rattle.packed.specs.Read.{turnOf, turned, back, readFirsts, readRecords, readEntries, marked, readFile};
+ghost use Rattle.packed.specs.Whole.{readWhole};
 ghost use Rattle.trace.specs.Fault.{faultOf};
 use crate::Answer;
 use crate::Entry;
@@ -23,6 +24,7 @@ use trace::Op;
 use trace::RECORDS;
 use trace::Record;
 use trace::Trace;
+use trace::cores::lost;
 use trace::empty;
 use trace::form::fault_of;
 
@@ -170,4 +172,21 @@ pub fn read(bytes: &[u8]) -> Reading
         return back(Reason::TooMany, RECORDS + 1);
     }
     entries_in(bytes, firsts, records)
+}
+
+// The same as `read`, but where every record is good no core may be lost.
+pub fn read_whole(bytes: &[u8]) -> Reading
+    ensures { λ r. ⌜ r ≡ readWhole (now (bytes .entry)) ⌝ }
+{
+    let reading = read(bytes);
+    let answer = reading.answer;
+    match answer {
+        Answer::Good => {
+            if lost(reading.trace) {
+                return back(Reason::Lost, 0);
+            }
+            reading
+        }
+        Answer::Refused { .. } => reading,
+    }
 }

@@ -32,6 +32,9 @@ enum-told-2 c = search needs
 enum-told-3 : tie.Need-enum-told-3
 enum-told-3 c = search needs
 
+enum-told-4 : tie.Need-enum-told-4
+enum-told-4 c = search needs
+
 same-length : tie.Need-same-length
 same-length c = search needs
 
@@ -64,6 +67,16 @@ returns-4 c =
     let s = i .before .before in
     placed-none (s .args .s) (s .pre) (s .args .out .now) (i .if1 .left) _ (w .write .ensures .0) _ (w .write .ensures .1) (ap found (c .enum-told3 .given .1))
 
+same-length-4 : tie.Need-same-length-4
+same-length-4 c = search needs
+
+returns-5 : tie.Need-returns-5
+returns-5 c =
+    let w = c .before .before .before .before in
+    let i = w .before .before in
+    let s = i .before .before in
+    placed-none (s .args .s) (s .pre) (s .args .out .now) (i .if1 .left) _ (w .write .ensures .0) _ (w .write .ensures .1) (ap found (c .enum-told4 .given .1))
+
 pub placed-spec : {M : Type 1} → statement M
 placed-spec =
     tie.close
@@ -77,9 +90,12 @@ placed-spec =
     lay-requires
     enum-told-2
     enum-told-3
+    enum-told-4
     same-length
     returns-2
     same-length-2
     returns-3
     same-length-3
-    returns-4)
+    returns-4
+    same-length-4
+    returns-5)
