@@ -52,7 +52,9 @@ pub fn pack(trace: &Trace, reads: impl Fn(usize) -> u64) -> Result<Vec<u64>, Ref
     if let Some(load) = loads(trace).into_iter().find(|&load| digit(load).is_none()) {
         return Err((OUTSIDE, load));
     }
-    let word = |of: &Vec<usize>| of.iter().rev().fold(0u128, |word, &load| word * list(trace, load).len() as u128 + digit(load).expect("listed") as u128);
+    let word = |of: &Vec<usize>| {
+        of.iter().rev().fold(0u128, |word, &load| word * list(trace, load).len() as u128 + digit(load).expect("listed") as u128)
+    };
     Ok(layout(trace).iter().map(|of| u64::try_from(word(of)).expect("below the product")).collect())
 }
 

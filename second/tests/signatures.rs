@@ -63,7 +63,8 @@ fn there_and_back() {
             });
         }
         let trace = Trace::of(&records);
-        let reads: Vec<u64> = (0..trace.count).map(|x| if trace.places[x].read().is_some() { *chance.of(&list(&trace, x)) } else { 0 }).collect();
+        let reads: Vec<u64> =
+            (0..trace.count).map(|x| if trace.places[x].read().is_some() { *chance.of(&list(&trace, x)) } else { 0 }).collect();
         let words = pack(&trace, |load| reads[load]).expect("listed");
         let wanted: Vec<u64> = loads(&trace).iter().map(|&load| reads[load]).collect();
         assert_eq!(unpack(&trace, &words), Ok(wanted));

@@ -7,11 +7,11 @@ use second::desk::{
 };
 use second::desk::{lay_left, CUT, LEFT, OLDS_AT};
 use second::desk::{Fields, NOT_THROUGH, NO_ENTRY, NO_ORDER, PLACE, REPLAY, REPLAYED, STEPS_AT, STUCK, THROUGH, WAITS};
+use second::desk::{ACCEPTED, NOT_ACCEPTED};
 use second::desk::{
     BAD_NUMBER, CIRCLE, CONTRADICTED, JUDGEMENT, LIMITED, NONE_LEFT, NOT_HELD, NO_ROOM, NO_SOURCE, ORDER, REPEAT, UNDECIDED, VALID,
     WRONG_LENGTH, WRONG_VALUE,
 };
-use second::desk::{ACCEPTED, NOT_ACCEPTED};
 use second::families::FAMILIES;
 use second::packed::{file_of, FIRST, HEADER, RECORD};
 use second::packs::{self, BYTES_AT};

@@ -70,7 +70,9 @@ fn numbered(records: &mut [Record]) {
         }
         let new = seen.iter().position(|&other| other == thread).unwrap_or(0) as u64;
         match record {
-            Record::Load { thread, .. } | Record::Store { thread, .. } | Record::Swap { thread, .. } | Record::Fence { thread } => *thread = new,
+            Record::Load { thread, .. } | Record::Store { thread, .. } | Record::Swap { thread, .. } | Record::Fence { thread } => {
+                *thread = new
+            }
         }
     }
 }
