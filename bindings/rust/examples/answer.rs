@@ -2,7 +2,8 @@
 //! 1 2 3 0 is an order, how many steps the verdict takes within 20, what the machine does under SC and TSO, and a short talk with a session under TSO.
 
 use std::io::{self, Read};
-use wheelotter::{check, judge, limited, report, run, steps, verdict, Answer, Asked, Judgement, Limited, Model, Ran, Session, Verdict, MODELS};
+use wheelotter::{check, judge, limited, reads, report, run, signature, steps, verdict};
+use wheelotter::{Answer, Asked, Judgement, Limited, Model, NoSignature, Ran, Session, Verdict, MODELS};
 
 fn main() -> io::Result<()> {
     let mut text = Vec::new();
@@ -11,6 +12,7 @@ fn main() -> io::Result<()> {
     print_bad_line(&text);
     MODELS.iter().for_each(|&model| print_verdict(&text, model));
     [Model::Sc, Model::Tso].iter().for_each(|&model| print_machine(&text, model));
+    print_signature(&text);
     match Session::open(&text, Model::Tso) {
         Err(_) => println!("open: refused"),
         Ok(session) => {
@@ -74,6 +76,15 @@ fn print_machine(text: &[u8], model: Model) {
         Err(refused) => (refused as u8).to_string(),
     };
     println!("model {}: steps of 1 2 3 0:{found}; 0 0 1 1: {ran}", model as u8);
+}
+
+/// The words of what the loads read, and the reads that come back from them.
+fn print_signature(text: &[u8]) {
+    match signature(text).and_then(|words| reads(text, &words).map(|reads| (words, reads))) {
+        Ok((words, reads)) => println!("signature:{}; reads:{}", listed(&words), listed(&reads)),
+        Err(NoSignature::Text(answer)) => println!("signature: refused {}", answer as u8),
+        Err(other) => println!("signature: {other:?}"),
+    }
 }
 
 fn done(answer: Result<(), Answer>) -> &'static str {

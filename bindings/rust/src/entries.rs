@@ -38,6 +38,17 @@ mod linked {
             out: *mut u8,
             out_len: usize,
         ) -> u8;
+        pub fn wheelotter_words(text: *const u8, text_len: usize) -> usize;
+        pub fn wheelotter_loads(text: *const u8, text_len: usize) -> usize;
+        pub fn wheelotter_pack(text: *const u8, text_len: usize, words: *mut u64, words_len: usize) -> usize;
+        pub fn wheelotter_unpack(
+            text: *const u8,
+            text_len: usize,
+            words: *const u64,
+            words_len: usize,
+            reads: *mut u16,
+            reads_len: usize,
+        ) -> usize;
         pub fn wheelotter_open(text: *const u8, text_len: usize, model: u8, session: *mut u8, session_len: usize) -> u8;
         pub fn wheelotter_suppose(session: *mut u8, session_len: usize, x: usize, y: usize) -> u8;
         pub fn wheelotter_take_back(session: *mut u8, session_len: usize) -> u8;
@@ -107,6 +118,28 @@ pub fn run(text: &[u8], model: u8, steps: &[u8], out: &mut [u8]) -> u8 {
 /// else `out` is shorter, it stays as it was.
 pub fn steps(text: &[u8], model: u8, order: &[u16], out: &mut [u8]) -> u8 {
     unsafe { linked::wheelotter_steps(text.as_ptr(), text.len(), model, order.as_ptr(), order.len(), out.as_mut_ptr(), out.len()) }
+}
+
+/// How many words of 64 bits the reads of a text's program take; 0 where the text is turned back.
+pub fn words(text: &[u8]) -> usize {
+    unsafe { linked::wheelotter_words(text.as_ptr(), text.len()) }
+}
+
+/// How many loads and swaps it has; 0 where the text is turned back.
+pub fn loads(text: &[u8]) -> usize {
+    unsafe { linked::wheelotter_loads(text.as_ptr(), text.len()) }
+}
+
+/// Packs the reads that a text records into `words`, as many as [`words`] says. 0; or what is wrong with the text; or 26 where `words` are not as many; or
+/// 23 and 256 times the lowest record whose read is not in its list. Beside any but 0 `words` stay as they were.
+pub fn pack(text: &[u8], words: &mut [u64]) -> usize {
+    unsafe { linked::wheelotter_pack(text.as_ptr(), text.len(), words.as_mut_ptr(), words.len()) }
+}
+
+/// Unpacks words of a text's program into `reads`, one for each load and swap by record number, as many as [`loads`] says. 0; or what is wrong with the
+/// text; or 26 where words or reads are not as many; or 24 and 256 times the lowest word that is too large. Beside any but 0 `reads` stay as they were.
+pub fn unpack(text: &[u8], words: &[u64], reads: &mut [u16]) -> usize {
+    unsafe { linked::wheelotter_unpack(text.as_ptr(), text.len(), words.as_ptr(), words.len(), reads.as_mut_ptr(), reads.len()) }
 }
 
 /// Opens a session on a text in the first [`HEAD`](crate::HEAD) and as many bytes more as the packed file of its trace has, at most

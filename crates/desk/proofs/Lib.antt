@@ -12,4 +12,5 @@ pub mod Opens
 pub mod Packing
 pub mod Heard
 pub mod Sourceless
+pub mod Signing
 pub mod One

@@ -39,6 +39,14 @@ use Rattle.desk.proofs.sessions.wheelotter_take_back.Reads as take-back
 use Rattle.desk.proofs.sessions.wheelotter_take_back.Kinds as take-back-kinds
 use Rattle.desk.proofs.sessions.wheelotter_ask.Reads as ask
 use Rattle.desk.proofs.sessions.wheelotter_ask.Kinds as ask-kinds
+use Rattle.desk.proofs.signatures.wheelotter_words.Reads as signed-words
+use Rattle.desk.proofs.signatures.wheelotter_words.Kinds as signed-words-kinds
+use Rattle.desk.proofs.signatures.wheelotter_loads.Reads as signed-loads
+use Rattle.desk.proofs.signatures.wheelotter_loads.Kinds as signed-loads-kinds
+use Rattle.desk.proofs.signatures.wheelotter_pack.Reads as signed-pack
+use Rattle.desk.proofs.signatures.wheelotter_pack.Kinds as signed-pack-kinds
+use Rattle.desk.proofs.signatures.wheelotter_unpack.Reads as signed-unpack
+use Rattle.desk.proofs.signatures.wheelotter_unpack.Kinds as signed-unpack-kinds
 
 pub report-settles : Settles 2 report-kinds.ps report-kinds.r report.Post
 report-settles κs a x y s t p q = reported-one (now (a .0)) (now (a .1 .0)) (now (s .1 .0)) (now (t .1 .0)) x y p q .0
@@ -114,3 +122,21 @@ take-back-leaves κs a x y s t p q = p closings-some .1 ∙ sym (q closings-some
 
 pub ask-settles : Settles 1 ask-kinds.ps ask-kinds.r ask.Post
 ask-settles κs a x y s t p q = p closings-some ∙ sym (q closings-some)
+
+pub words-settles : Settles 1 signed-words-kinds.ps signed-words-kinds.r signed-words.Post
+words-settles κs a x y s t p q = p ∙ sym q
+
+pub loads-settles : Settles 1 signed-loads-kinds.ps signed-loads-kinds.r signed-loads.Post
+loads-settles κs a x y s t p q = p ∙ sym q
+
+pub pack-settles : Settles 2 signed-pack-kinds.ps signed-pack-kinds.r signed-pack.Post
+pack-settles κs a x y s t p q = p .0 ∙ sym (q .0)
+
+pub pack-leaves : Leaves 2 signed-pack-kinds.ps signed-pack-kinds.r (λ κs s. now (s .1 .0)) signed-pack.Post
+pack-leaves κs a x y s t p q = p .1 ∙ sym (q .1)
+
+pub unpack-settles : Settles 3 signed-unpack-kinds.ps signed-unpack-kinds.r signed-unpack.Post
+unpack-settles κs a x y s t p q = p .0 ∙ sym (q .0)
+
+pub unpack-leaves : Leaves 3 signed-unpack-kinds.ps signed-unpack-kinds.r (λ κs s. now (s .1 .1 .0)) signed-unpack.Post
+unpack-leaves κs a x y s t p q = p .1 ∙ sym (q .1)

@@ -9,6 +9,7 @@ pub mod Limits
 pub mod Heard
 pub mod Judged
 pub mod Runs
+pub mod Signed
 pub mod Head
 pub mod Kept
 pub mod Acts

@@ -7,5 +7,6 @@ pub mod judgements;
 pub mod limits;
 pub mod runs;
 pub mod sessions;
+pub mod signatures;
 pub mod texts;
 pub mod verdicts;

@@ -19,6 +19,10 @@ pub enum Call {
     Suppose { x: usize, y: usize },
     TakeBack,
     Ask { x: usize, y: usize },
+    Words,
+    Loads,
+    Pack { room: usize },
+    Unpack { words: Vec<u64>, room: usize },
 }
 
 /// Models that there are not.
@@ -28,8 +32,10 @@ pub const OTHER_MODELS: [u8; 5] = [0, LAST_MODEL + 1, LAST_MODEL + 2, 128, 255];
 pub const LAST_MODEL: u8 = MODELS as u8;
 
 /// The entries' names without the front that all share, in the order of the header.
-pub const ENTRIES: [&str; 14] =
-    ["report", "number", "line", "start", "end", "verdict", "limited", "judge", "run", "steps", "open", "suppose", "take_back", "ask"];
+pub const ENTRIES: [&str; 18] = [
+    "report", "number", "line", "start", "end", "verdict", "limited", "judge", "run", "steps", "open", "suppose", "take_back", "ask", "words",
+    "loads", "pack", "unpack",
+];
 
 impl Call {
     /// Which of `ENTRIES` is called.
@@ -49,12 +55,16 @@ impl Call {
             Call::Suppose { .. } => 11,
             Call::TakeBack => 12,
             Call::Ask { .. } => 13,
+            Call::Words => 14,
+            Call::Loads => 15,
+            Call::Pack { .. } => 16,
+            Call::Unpack { .. } => 17,
         }
     }
 
     /// What comes back is a row of the table of answers: few enough to be counted one by one.
     pub fn answers_by_table(&self) -> bool {
-        !matches!(self, Call::Report { .. } | Call::Line | Call::Start | Call::End)
+        !matches!(self, Call::Report { .. } | Call::Line | Call::Start | Call::End | Call::Words | Call::Loads)
     }
 }
 
@@ -70,7 +80,9 @@ impl fmt::Display for Call {
             Call::Steps { model, list, room } => write!(f, " under {model} of {list:?} into {room} bytes"),
             Call::Open { model, room } => write!(f, " under {model} in {room} bytes"),
             Call::Suppose { x, y } | Call::Ask { x, y } => write!(f, " {x} {y}"),
-            Call::Number | Call::Line | Call::Start | Call::End | Call::TakeBack => Ok(()),
+            Call::Pack { room } => write!(f, " into {room} words"),
+            Call::Unpack { words, room } => write!(f, " of {words:?} into {room} reads"),
+            Call::Number | Call::Line | Call::Start | Call::End | Call::TakeBack | Call::Words | Call::Loads => Ok(()),
         }
     }
 }

@@ -17,6 +17,10 @@ pub trait Desk: Sync {
     fn suppose(&self, session: &mut [u8], x: usize, y: usize) -> u8;
     fn take_back(&self, session: &mut [u8]) -> u8;
     fn ask(&self, session: &[u8], x: usize, y: usize) -> u8;
+    fn words(&self, text: &[u8]) -> usize;
+    fn loads(&self, text: &[u8]) -> usize;
+    fn pack(&self, text: &[u8], words: &mut [u64]) -> usize;
+    fn unpack(&self, text: &[u8], words: &[u64], reads: &mut [u16]) -> usize;
 }
 
 /// The proved library's.
@@ -64,5 +68,17 @@ impl Desk for Proved {
     }
     fn ask(&self, session: &[u8], x: usize, y: usize) -> u8 {
         entries::ask(session, x, y)
+    }
+    fn words(&self, text: &[u8]) -> usize {
+        entries::words(text)
+    }
+    fn loads(&self, text: &[u8]) -> usize {
+        entries::loads(text)
+    }
+    fn pack(&self, text: &[u8], words: &mut [u64]) -> usize {
+        entries::pack(text, words)
+    }
+    fn unpack(&self, text: &[u8], words: &[u64], reads: &mut [u16]) -> usize {
+        entries::unpack(text, words, reads)
     }
 }

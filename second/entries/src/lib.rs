@@ -8,6 +8,7 @@
 //! | `case` | a case: its text, its calls, its counts, what differed |
 //! | `texts` | the entries that take a text |
 //! | `machines` | the plain machine's, and whether it agrees with the verdict |
+//! | `signed` | words and reads of a text's program |
 //! | `sessions` | opening, and the calls on a session |
 //! | `damage` | bytes that were a session |
 //! | `compare` | a whole case |
@@ -20,4 +21,5 @@ pub mod desk;
 pub mod lent;
 pub mod machines;
 pub mod sessions;
+pub mod signed;
 pub mod texts;

@@ -13,6 +13,7 @@ use second::desk::{NOT_THROUGH, NO_ORDER, PLACE, REPLAY, REPLAYED, STEPS_AT, STU
 use second::families::FAMILIES;
 use second::packed::{file_of, FIRST, HEADER, RECORD};
 use second::session::{self, Session, MOST_PAIRS};
+use second::signatures::{layout, list, loads, pack_into, unpack_into};
 use second::trace::Model;
 
 const STEPS: u64 = 20_000;
@@ -22,7 +23,7 @@ struct Faulty(&'static str);
 
 const RIGHT: &str = "none";
 
-const FAULTS: [&str; 84] = [
+const FAULTS: [&str; 95] = [
     "report: a letter too far",
     "report: short memory written",
     "report: length of one line",
@@ -107,6 +108,17 @@ const FAULTS: [&str; 84] = [
     "session: pairs in order only",
     "session: what lies behind its file is not looked at",
     "session: no core may be missing",
+    "words: one for every thread",
+    "loads: stores too",
+    "pack: last load least",
+    "pack: own writes listed",
+    "pack: first value last",
+    "pack: threads in one word",
+    "pack: written before it is checked",
+    "pack: 23 before 26",
+    "unpack: the largest word refused",
+    "unpack: too large a word taken",
+    "unpack: reads by thread",
 ];
 
 impl Faulty {
@@ -487,6 +499,84 @@ impl Desk for Faulty {
             CONTRADICTED if self.is("ask: contradicted holds nothing") => NOT_HELD,
             answer => answer,
         }
+    }
+
+    fn words(&self, text: &[u8]) -> usize {
+        match self.page(text).trace() {
+            Some(_) if self.is("words: one for every thread") => 8,
+            Some(trace) => layout(trace).len(),
+            None => 0,
+        }
+    }
+
+    fn loads(&self, text: &[u8]) -> usize {
+        match self.page(text).trace() {
+            Some(trace) if self.is("loads: stores too") => trace.operations().len(),
+            Some(trace) => loads(trace).len(),
+            None => 0,
+        }
+    }
+
+    fn pack(&self, text: &[u8], words: &mut [u64]) -> usize {
+        let page = self.page(text);
+        let Some(trace) = page.trace() else { return page.number().into() };
+        let before = words.to_vec();
+        let answer = pack_into(trace, words);
+        if self.is("pack: written before it is checked") && answer % 256 == 23 {
+            words.fill(0);
+        }
+        if self.is("pack: 23 before 26") && answer == 26 {
+            let mut right = vec![0; layout(trace).len()];
+            let other = pack_into(trace, &mut right);
+            return if other == 0 { answer } else { other };
+        }
+        if answer != 0 {
+            return answer;
+        }
+        // the digits once more, wrongly
+        let read = |load: usize| trace.places[load].read().expect("a load reads");
+        let place = |load: usize| list(trace, load).iter().position(|&value| value == read(load)).expect("listed") as u128;
+        let range = |load: usize| list(trace, load).len() as u128;
+        for (of, word) in layout(trace).iter().zip(words.iter_mut()) {
+            if self.is("pack: last load least") {
+                *word = of.iter().fold(0u128, |word, &load| word * range(load) + place(load)) as u64;
+            }
+            if self.is("pack: first value last") {
+                let turned = |load: usize| (place(load) + range(load) - 1) % range(load);
+                *word = of.iter().rev().fold(0u128, |word, &load| word * range(load) + turned(load)) as u64;
+            }
+            if self.is("pack: own writes listed") && of.iter().any(|&load| trace.places[load].written().is_some()) {
+                *word = word.wrapping_add(1);
+            }
+        }
+        if self.is("pack: threads in one word") && words.len() > 1 {
+            words.copy_from_slice(&before);
+            words[0] = 0;
+        }
+        answer
+    }
+
+    fn unpack(&self, text: &[u8], words: &[u64], reads: &mut [u16]) -> usize {
+        let page = self.page(text);
+        let Some(trace) = page.trace() else { return page.number().into() };
+        let answer = unpack_into(trace, words, reads);
+        if self.is("unpack: the largest word refused") && answer == 0 {
+            let top = |of: &Vec<usize>| of.iter().map(|&load| list(trace, load).len() as u128).product::<u128>() - 1;
+            if let Some(place) = layout(trace).iter().zip(words).position(|(of, &word)| top(of) > 0 && u128::from(word) == top(of)) {
+                return 24 + 256 * place;
+            }
+        }
+        if self.is("unpack: too large a word taken") && answer % 256 == 24 {
+            return 0;
+        }
+        if self.is("unpack: reads by thread") && answer == 0 {
+            let numbers = loads(trace);
+            let mut sorted: Vec<usize> = (0..numbers.len()).collect();
+            sorted.sort_by_key(|&k| trace.places[numbers[k]].thread());
+            let right = reads.to_vec();
+            sorted.iter().enumerate().for_each(|(to, &from)| reads[to] = right[from]);
+        }
+        answer
     }
 }
 
