@@ -108,9 +108,9 @@ static void print_signature(void) {
     uint16_t reads[WHEELOTTER_RECORDS];
     size_t count = wheelotter_words(text, text_len);
     size_t loads = wheelotter_loads(text, text_len);
-    size_t answer = wheelotter_pack(text, text_len, words, count);
+    size_t answer = wheelotter_signature(text, text_len, words, count);
     if (answer == 0) {
-        answer = wheelotter_unpack(text, text_len, words, count, reads, loads);
+        answer = wheelotter_reads(text, text_len, words, count, reads, loads);
     }
     printf("signature:");
     if (answer != 0) {

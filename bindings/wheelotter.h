@@ -169,7 +169,7 @@ size_t wheelotter_loads(const uint8_t *text, size_t text_len);
  *   23 + 256 * record                      a read is not in its list: the lowest record;
  *   0                                      the words are packed, thread by thread.
  * Beside any but 0 the words stay as they were. */
-size_t wheelotter_pack(const uint8_t *text, size_t text_len, uint64_t *words, size_t words_len);
+size_t wheelotter_signature(const uint8_t *text, size_t text_len, uint64_t *words, size_t words_len);
 
 /* Unpacks words of the program that a text writes into reads, one for each load and swap by record number, as many as wheelotter_loads says. Gives back
  *   1 to 8, 17 or 22                       the text is turned back;
@@ -177,7 +177,7 @@ size_t wheelotter_pack(const uint8_t *text, size_t text_len, uint64_t *words, si
  *   24 + 256 * word                        a word is too large for its digits: the lowest;
  *   0                                      the reads are unpacked.
  * Beside any but 0 the reads stay as they were. */
-size_t wheelotter_unpack(const uint8_t *text, size_t text_len, const uint64_t *words, size_t words_len, uint16_t *reads, size_t reads_len);
+size_t wheelotter_reads(const uint8_t *text, size_t text_len, const uint64_t *words, size_t words_len, uint16_t *reads, size_t reads_len);
 
 /* A session in bytes, WHEELOTTER_HEAD and as many more as its trace's packed file has:
  *   0                      the model

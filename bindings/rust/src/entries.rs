@@ -40,8 +40,8 @@ mod linked {
         ) -> u8;
         pub fn wheelotter_words(text: *const u8, text_len: usize) -> usize;
         pub fn wheelotter_loads(text: *const u8, text_len: usize) -> usize;
-        pub fn wheelotter_pack(text: *const u8, text_len: usize, words: *mut u64, words_len: usize) -> usize;
-        pub fn wheelotter_unpack(
+        pub fn wheelotter_signature(text: *const u8, text_len: usize, words: *mut u64, words_len: usize) -> usize;
+        pub fn wheelotter_reads(
             text: *const u8,
             text_len: usize,
             words: *const u64,
@@ -132,14 +132,14 @@ pub fn loads(text: &[u8]) -> usize {
 
 /// Packs the reads that a text records into `words`, as many as [`words`] says. 0; or what is wrong with the text; or 26 where `words` are not as many; or
 /// 23 and 256 times the lowest record whose read is not in its list. Beside any but 0 `words` stay as they were.
-pub fn pack(text: &[u8], words: &mut [u64]) -> usize {
-    unsafe { linked::wheelotter_pack(text.as_ptr(), text.len(), words.as_mut_ptr(), words.len()) }
+pub fn signature(text: &[u8], words: &mut [u64]) -> usize {
+    unsafe { linked::wheelotter_signature(text.as_ptr(), text.len(), words.as_mut_ptr(), words.len()) }
 }
 
 /// Unpacks words of a text's program into `reads`, one for each load and swap by record number, as many as [`loads`] says. 0; or what is wrong with the
 /// text; or 26 where words or reads are not as many; or 24 and 256 times the lowest word that is too large. Beside any but 0 `reads` stay as they were.
-pub fn unpack(text: &[u8], words: &[u64], reads: &mut [u16]) -> usize {
-    unsafe { linked::wheelotter_unpack(text.as_ptr(), text.len(), words.as_ptr(), words.len(), reads.as_mut_ptr(), reads.len()) }
+pub fn reads(text: &[u8], words: &[u64], reads: &mut [u16]) -> usize {
+    unsafe { linked::wheelotter_reads(text.as_ptr(), text.len(), words.as_ptr(), words.len(), reads.as_mut_ptr(), reads.len()) }
 }
 
 /// Opens a session on a text in the first [`HEAD`](crate::HEAD) and as many bytes more as the packed file of its trace has, at most

@@ -202,13 +202,13 @@ fn signed<T>(code: usize, list: Vec<T>) -> Result<Vec<T>, NoSignature> {
 /// What the loads of a text read, in words, thread by thread.
 pub fn signature(text: &[u8]) -> Result<Vec<u64>, NoSignature> {
     let mut words = vec![0; entries::words(text)];
-    signed(entries::pack(text, &mut words), words)
+    signed(entries::signature(text, &mut words), words)
 }
 
 /// What the loads of a text's program read, by record number, where they have these words; what the text itself records as read is not looked at.
 pub fn reads(text: &[u8], words: &[u64]) -> Result<Vec<u16>, NoSignature> {
     let mut reads = vec![0; entries::loads(text)];
-    signed(entries::unpack(text, words, &mut reads), reads)
+    signed(entries::reads(text, words, &mut reads), reads)
 }
 
 /// What a session knows of two operations.

@@ -21,8 +21,8 @@ pub enum Call {
     Ask { x: usize, y: usize },
     Words,
     Loads,
-    Pack { room: usize },
-    Unpack { words: Vec<u64>, room: usize },
+    Signature { room: usize },
+    Reads { words: Vec<u64>, room: usize },
 }
 
 /// Models that there are not.
@@ -34,7 +34,7 @@ pub const LAST_MODEL: u8 = MODELS as u8;
 /// The entries' names without the front that all share, in the order of the header.
 pub const ENTRIES: [&str; 18] = [
     "report", "number", "line", "start", "end", "verdict", "limited", "judge", "run", "steps", "open", "suppose", "take_back", "ask", "words",
-    "loads", "pack", "unpack",
+    "loads", "signature", "reads",
 ];
 
 impl Call {
@@ -57,8 +57,8 @@ impl Call {
             Call::Ask { .. } => 13,
             Call::Words => 14,
             Call::Loads => 15,
-            Call::Pack { .. } => 16,
-            Call::Unpack { .. } => 17,
+            Call::Signature { .. } => 16,
+            Call::Reads { .. } => 17,
         }
     }
 
@@ -80,8 +80,8 @@ impl fmt::Display for Call {
             Call::Steps { model, list, room } => write!(f, " under {model} of {list:?} into {room} bytes"),
             Call::Open { model, room } => write!(f, " under {model} in {room} bytes"),
             Call::Suppose { x, y } | Call::Ask { x, y } => write!(f, " {x} {y}"),
-            Call::Pack { room } => write!(f, " into {room} words"),
-            Call::Unpack { words, room } => write!(f, " of {words:?} into {room} reads"),
+            Call::Signature { room } => write!(f, " into {room} words"),
+            Call::Reads { words, room } => write!(f, " of {words:?} into {room} reads"),
             Call::Number | Call::Line | Call::Start | Call::End | Call::TakeBack | Call::Words | Call::Loads => Ok(()),
         }
     }

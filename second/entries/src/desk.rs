@@ -19,8 +19,8 @@ pub trait Desk: Sync {
     fn ask(&self, session: &[u8], x: usize, y: usize) -> u8;
     fn words(&self, text: &[u8]) -> usize;
     fn loads(&self, text: &[u8]) -> usize;
-    fn pack(&self, text: &[u8], words: &mut [u64]) -> usize;
-    fn unpack(&self, text: &[u8], words: &[u64], reads: &mut [u16]) -> usize;
+    fn signature(&self, text: &[u8], words: &mut [u64]) -> usize;
+    fn reads(&self, text: &[u8], words: &[u64], reads: &mut [u16]) -> usize;
 }
 
 /// The proved library's.
@@ -75,10 +75,10 @@ impl Desk for Proved {
     fn loads(&self, text: &[u8]) -> usize {
         entries::loads(text)
     }
-    fn pack(&self, text: &[u8], words: &mut [u64]) -> usize {
-        entries::pack(text, words)
+    fn signature(&self, text: &[u8], words: &mut [u64]) -> usize {
+        entries::signature(text, words)
     }
-    fn unpack(&self, text: &[u8], words: &[u64], reads: &mut [u16]) -> usize {
-        entries::unpack(text, words, reads)
+    fn reads(&self, text: &[u8], words: &[u64], reads: &mut [u16]) -> usize {
+        entries::reads(text, words, reads)
     }
 }

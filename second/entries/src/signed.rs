@@ -52,8 +52,8 @@ fn packed<D: Desk>(case: &mut Case<'_, D>) -> bool {
         Some(trace) => pack_into(trace, &mut mine[1..=room]),
         None => case.page.number().into(),
     };
-    let got = case.desk.pack(case.text, &mut theirs[1..=room]);
-    case.same(Call::Pack { room }, (wanted, &bytes(&mine, u64::to_le_bytes)), (got, &bytes(&theirs, u64::to_le_bytes)))
+    let got = case.desk.signature(case.text, &mut theirs[1..=room]);
+    case.same(Call::Signature { room }, (wanted, &bytes(&mine, u64::to_le_bytes)), (got, &bytes(&theirs, u64::to_le_bytes)))
 }
 
 /// The words of some reads, nearly so, and any words whatever.
@@ -93,7 +93,7 @@ fn unpacked<D: Desk>(case: &mut Case<'_, D>) -> bool {
         Some(trace) => unpack_into(trace, &words, &mut mine[1..=room]),
         None => case.page.number().into(),
     };
-    let got = case.desk.unpack(case.text, &words, &mut theirs[1..=room]);
+    let got = case.desk.reads(case.text, &words, &mut theirs[1..=room]);
     let kept = before == words;
-    case.same(Call::Unpack { words, room }, (wanted, &bytes(&mine, u16::to_le_bytes)), (got, &bytes(&theirs, u16::to_le_bytes))) && kept
+    case.same(Call::Reads { words, room }, (wanted, &bytes(&mine, u16::to_le_bytes)), (got, &bytes(&theirs, u16::to_le_bytes))) && kept
 }

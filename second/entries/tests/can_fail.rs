@@ -110,15 +110,15 @@ const FAULTS: [&str; 95] = [
     "session: no core may be missing",
     "words: one for every thread",
     "loads: stores too",
-    "pack: last load least",
-    "pack: own writes listed",
-    "pack: first value last",
-    "pack: threads in one word",
-    "pack: written before it is checked",
-    "pack: 23 before 26",
-    "unpack: the largest word refused",
-    "unpack: too large a word taken",
-    "unpack: reads by thread",
+    "signature: last load least",
+    "signature: own writes listed",
+    "signature: first value last",
+    "signature: threads in one word",
+    "signature: written before it is checked",
+    "signature: 23 before 26",
+    "reads: the largest word refused",
+    "reads: too large a word taken",
+    "reads: reads by thread",
 ];
 
 impl Faulty {
@@ -517,15 +517,15 @@ impl Desk for Faulty {
         }
     }
 
-    fn pack(&self, text: &[u8], words: &mut [u64]) -> usize {
+    fn signature(&self, text: &[u8], words: &mut [u64]) -> usize {
         let page = self.page(text);
         let Some(trace) = page.trace() else { return page.number().into() };
         let before = words.to_vec();
         let answer = pack_into(trace, words);
-        if self.is("pack: written before it is checked") && answer % 256 == 23 {
+        if self.is("signature: written before it is checked") && answer % 256 == 23 {
             words.fill(0);
         }
-        if self.is("pack: 23 before 26") && answer == 26 {
+        if self.is("signature: 23 before 26") && answer == 26 {
             let mut right = vec![0; layout(trace).len()];
             let other = pack_into(trace, &mut right);
             return if other == 0 { answer } else { other };
@@ -538,38 +538,38 @@ impl Desk for Faulty {
         let place = |load: usize| list(trace, load).iter().position(|&value| value == read(load)).expect("listed") as u128;
         let range = |load: usize| list(trace, load).len() as u128;
         for (of, word) in layout(trace).iter().zip(words.iter_mut()) {
-            if self.is("pack: last load least") {
+            if self.is("signature: last load least") {
                 *word = of.iter().fold(0u128, |word, &load| word * range(load) + place(load)) as u64;
             }
-            if self.is("pack: first value last") {
+            if self.is("signature: first value last") {
                 let turned = |load: usize| (place(load) + range(load) - 1) % range(load);
                 *word = of.iter().rev().fold(0u128, |word, &load| word * range(load) + turned(load)) as u64;
             }
-            if self.is("pack: own writes listed") && of.iter().any(|&load| trace.places[load].written().is_some()) {
+            if self.is("signature: own writes listed") && of.iter().any(|&load| trace.places[load].written().is_some()) {
                 *word = word.wrapping_add(1);
             }
         }
-        if self.is("pack: threads in one word") && words.len() > 1 {
+        if self.is("signature: threads in one word") && words.len() > 1 {
             words.copy_from_slice(&before);
             words[0] = 0;
         }
         answer
     }
 
-    fn unpack(&self, text: &[u8], words: &[u64], reads: &mut [u16]) -> usize {
+    fn reads(&self, text: &[u8], words: &[u64], reads: &mut [u16]) -> usize {
         let page = self.page(text);
         let Some(trace) = page.trace() else { return page.number().into() };
         let answer = unpack_into(trace, words, reads);
-        if self.is("unpack: the largest word refused") && answer == 0 {
+        if self.is("reads: the largest word refused") && answer == 0 {
             let top = |of: &Vec<usize>| of.iter().map(|&load| list(trace, load).len() as u128).product::<u128>() - 1;
             if let Some(place) = layout(trace).iter().zip(words).position(|(of, &word)| top(of) > 0 && u128::from(word) == top(of)) {
                 return 24 + 256 * place;
             }
         }
-        if self.is("unpack: too large a word taken") && answer % 256 == 24 {
+        if self.is("reads: too large a word taken") && answer % 256 == 24 {
             return 0;
         }
-        if self.is("unpack: reads by thread") && answer == 0 {
+        if self.is("reads: reads by thread") && answer == 0 {
             let numbers = loads(trace);
             let mut sorted: Vec<usize> = (0..numbers.len()).collect();
             sorted.sort_by_key(|&k| trace.places[numbers[k]].thread());

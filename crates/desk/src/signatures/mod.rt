@@ -58,7 +58,7 @@ pub extern "C" fn wheelotter_loads(text: &[u8]) -> usize
 
 // Packs the reads that a text records into lent words; beside what is wrong with the text and beside a refusal the words stay as they were.
 #[no_mangle]
-pub extern "C" fn wheelotter_pack(text: &[u8], words: &mut [u64]) -> usize
+pub extern "C" fn wheelotter_signature(text: &[u8], words: &mut [u64]) -> usize
     ensures { λ r. ⌜ (r ≡ packCode (now (text .entry)) (length (now (words .entry)))) × (now (words .exit) ≡ packAfter (now (text .entry)) (now (words .entry))) ⌝ }
 {
     let reading = read_whole(text);
@@ -73,7 +73,7 @@ pub extern "C" fn wheelotter_pack(text: &[u8], words: &mut [u64]) -> usize
 
 // Unpacks words of the program that a text writes into lent reads, whatever the text itself records as read.
 #[no_mangle]
-pub extern "C" fn wheelotter_unpack(text: &[u8], words: &[u64], reads: &mut [u16]) -> usize
+pub extern "C" fn wheelotter_reads(text: &[u8], words: &[u64], reads: &mut [u16]) -> usize
     ensures { λ r. ⌜ (r ≡ unpackCode (now (text .entry)) (now (words .entry)) (length (now (reads .entry)))) × (now (reads .exit) ≡ unpackAfter (now (text .entry)) (now (words .entry)) (now (reads .entry))) ⌝ }
 {
     let reading = read_whole(text);

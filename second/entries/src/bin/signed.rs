@@ -85,8 +85,8 @@ fn right(trace: &Trace, reads: &[u64]) -> bool {
     let text = text_of(trace);
     let mut words = vec![0; layout(trace).len()];
     let mut back = vec![0; loads(trace).len()];
-    let packed = entries::words(&text) == words.len() && entries::loads(&text) == back.len() && entries::pack(&text, &mut words) == 0;
-    let unpacked = entries::unpack(&text, &words, &mut back) == 0;
+    let packed = entries::words(&text) == words.len() && entries::loads(&text) == back.len() && entries::signature(&text, &mut words) == 0;
+    let unpacked = entries::reads(&text, &words, &mut back) == 0;
     let wanted: Vec<u64> = loads(trace).iter().map(|&load| reads[load]).collect();
     packed
         && unpacked
