@@ -116,6 +116,31 @@ static void print_paper(uint8_t model) {
     }
 }
 
+/* The words of what the loads read, and the reads that come back from them. */
+static void print_signature(void) {
+    uint64_t words[WHEELOTTER_RECORDS];
+    uint16_t reads[WHEELOTTER_RECORDS];
+    size_t count = wheelotter_words(text, text_len);
+    size_t loads = wheelotter_loads(text, text_len);
+    size_t answer = wheelotter_signature(text, text_len, words, count);
+    if (answer == 0) {
+        answer = wheelotter_reads(text, text_len, words, count, reads, loads);
+    }
+    printf("signature:");
+    if (answer != 0) {
+        printf(" refused %u\n", (unsigned)answer % 256);
+        return;
+    }
+    for (size_t i = 0; i < count; i++) {
+        printf(" %llu", (unsigned long long)words[i]);
+    }
+    printf("; reads:");
+    for (size_t i = 0; i < loads; i++) {
+        printf(" %u", reads[i]);
+    }
+    printf("\n");
+}
+
 /* The verdict within 20 steps. */
 static void print_limited(uint8_t model) {
     uint8_t out[WHEELOTTER_LIMITED];
@@ -237,6 +262,7 @@ int main(void) {
     print_paper(WHEELOTTER_SC);
     print_paper(WHEELOTTER_TSO);
     print_packed();
+    print_signature();
     talk();
     return 0;
 }

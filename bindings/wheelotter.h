@@ -220,6 +220,27 @@ uint8_t wheelotter_file_number(const uint8_t *file, size_t file_len);
 /* The line that comes with it: the record's number plus 1; 0 where no record is to blame. */
 size_t wheelotter_file_line(const uint8_t *file, size_t file_len);
 
+/* Signatures: what the loads of a test program saw, in words of 64 bits. The program is a text's trace, whatever it records as read. How many words and
+ * how many reads it has; 0 where the text is turned back. */
+size_t wheelotter_words(const uint8_t *text, size_t text_len);
+size_t wheelotter_loads(const uint8_t *text, size_t text_len);
+
+/* Packs the reads that a text records into words, as many as wheelotter_words says. Gives back
+ *   1 to 8, 17 or 22                       the text is turned back;
+ *   26                                     words are not as many;
+ *   23 + 256 * record                      a read is not in its list: the lowest record;
+ *   0                                      the words are packed, thread by thread.
+ * Beside any but 0 the words stay as they were. */
+size_t wheelotter_signature(const uint8_t *text, size_t text_len, uint64_t *words, size_t words_len);
+
+/* Unpacks words of the program that a text writes into reads, one for each load and swap by record number, as many as wheelotter_loads says. Gives back
+ *   1 to 8, 17 or 22                       the text is turned back;
+ *   26                                     words or reads are not as many;
+ *   24 + 256 * word                        a word is too large for its digits: the lowest;
+ *   0                                      the reads are unpacked.
+ * Beside any but 0 the reads stay as they were. */
+size_t wheelotter_reads(const uint8_t *text, size_t text_len, const uint64_t *words, size_t words_len, uint16_t *reads, size_t reads_len);
+
 /* A session in bytes, WHEELOTTER_HEAD and as many more as its trace's packed file has:
  *   0                      the model
  *   1                      how many pairs stand, at most WHEELOTTER_PAIRS

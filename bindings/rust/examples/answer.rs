@@ -3,8 +3,8 @@
 //! packed file is, whether a paper shows that there is no order, and a short talk with a session under TSO.
 
 use std::io::{self, Read};
-use wheelotter::{accepts, check, check_file, judge, limited, pack, report, run, smaller, steps, unpack, verdict};
-use wheelotter::{Answer, Asked, Judgement, Limited, Model, Ran, Record, Session, Smaller, Verdict, ENTRIES, MODELS};
+use wheelotter::{accepts, check, check_file, judge, limited, pack, reads, report, run, signature, smaller, steps, unpack, verdict};
+use wheelotter::{Answer, Asked, Judgement, Limited, Model, NoSignature, Ran, Record, Session, Smaller, Verdict, ENTRIES, MODELS};
 
 fn main() -> io::Result<()> {
     let mut text = Vec::new();
@@ -15,6 +15,7 @@ fn main() -> io::Result<()> {
     [Model::Sc, Model::Tso].iter().for_each(|&model| print_machine(&text, model));
     [Model::Sc, Model::Tso].iter().for_each(|&model| print_paper(&text, model));
     print_packed(&text);
+    print_signature(&text);
     match Session::open(&text, Model::Tso) {
         Err(_) => println!("open: refused"),
         Ok(session) => {
@@ -109,6 +110,15 @@ fn print_packed(text: &[u8]) {
     file[ENTRIES] = 4;
     if let Err(refusal) = check_file(&file) {
         println!("with another kind: number {} line {}", refusal.answer as u8, refusal.line);
+    }
+}
+
+/// The words of what the loads read, and the reads that come back from them.
+fn print_signature(text: &[u8]) {
+    match signature(text).and_then(|words| reads(text, &words).map(|reads| (words, reads))) {
+        Ok((words, reads)) => println!("signature:{}; reads:{}", listed(&words), listed(&reads)),
+        Err(NoSignature::Text(answer)) => println!("signature: refused {}", answer as u8),
+        Err(other) => println!("signature: {other:?}"),
     }
 }
 

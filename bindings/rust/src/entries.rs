@@ -44,6 +44,17 @@ mod linked {
         pub fn wheelotter_unpack(file: *const u8, file_len: usize, out: *mut u8, out_len: usize) -> u8;
         pub fn wheelotter_file_number(file: *const u8, file_len: usize) -> u8;
         pub fn wheelotter_file_line(file: *const u8, file_len: usize) -> usize;
+        pub fn wheelotter_words(text: *const u8, text_len: usize) -> usize;
+        pub fn wheelotter_loads(text: *const u8, text_len: usize) -> usize;
+        pub fn wheelotter_signature(text: *const u8, text_len: usize, words: *mut u64, words_len: usize) -> usize;
+        pub fn wheelotter_reads(
+            text: *const u8,
+            text_len: usize,
+            words: *const u64,
+            words_len: usize,
+            reads: *mut u16,
+            reads_len: usize,
+        ) -> usize;
         pub fn wheelotter_open(text: *const u8, text_len: usize, model: u8, session: *mut u8, session_len: usize) -> u8;
         pub fn wheelotter_suppose(session: *mut u8, session_len: usize, x: usize, y: usize) -> u8;
         pub fn wheelotter_take_back(session: *mut u8, session_len: usize) -> u8;
@@ -149,6 +160,28 @@ pub fn file_number(file: &[u8]) -> u8 {
 /// The line that comes with it, the record's number plus 1; 0 where no record is to blame.
 pub fn file_line(file: &[u8]) -> usize {
     unsafe { linked::wheelotter_file_line(file.as_ptr(), file.len()) }
+}
+
+/// How many words of 64 bits the reads of a text's program take; 0 where the text is turned back.
+pub fn words(text: &[u8]) -> usize {
+    unsafe { linked::wheelotter_words(text.as_ptr(), text.len()) }
+}
+
+/// How many loads and swaps it has; 0 where the text is turned back.
+pub fn loads(text: &[u8]) -> usize {
+    unsafe { linked::wheelotter_loads(text.as_ptr(), text.len()) }
+}
+
+/// Packs the reads that a text records into `words`, as many as [`words`] says. 0; or what is wrong with the text; or 26 where `words` are not as many; or
+/// 23 and 256 times the lowest record whose read is not in its list. Beside any but 0 `words` stay as they were.
+pub fn signature(text: &[u8], words: &mut [u64]) -> usize {
+    unsafe { linked::wheelotter_signature(text.as_ptr(), text.len(), words.as_mut_ptr(), words.len()) }
+}
+
+/// Unpacks words of a text's program into `reads`, one for each load and swap by record number, as many as [`loads`] says. 0; or what is wrong with the
+/// text; or 26 where words or reads are not as many; or 24 and 256 times the lowest word that is too large. Beside any but 0 `reads` stay as they were.
+pub fn reads(text: &[u8], words: &[u64], reads: &mut [u16]) -> usize {
+    unsafe { linked::wheelotter_reads(text.as_ptr(), text.len(), words.as_ptr(), words.len(), reads.as_mut_ptr(), reads.len()) }
 }
 
 /// Opens a session on a text in the first [`HEAD`](crate::HEAD) and as many bytes more as the packed file of its trace has, at most

@@ -261,6 +261,41 @@ fn counted(out: &[u8]) -> Vec<u8> {
     out[BYTES_AT..][..usize::from(u16::from_le_bytes([out[0], out[1]]))].to_vec()
 }
 
+/// Why nothing was packed, or unpacked.
+#[derive(Clone, Copy, Debug, PartialEq, Eq)]
+pub enum NoSignature {
+    /// What is wrong with the text.
+    Text(Answer),
+    /// The lowest record whose read is not in its list.
+    Outside(usize),
+    /// The lowest word that is too large for its digits.
+    TooLarge(usize),
+    /// The words are not as many as the program has.
+    WrongLength,
+}
+
+fn signed<T>(code: usize, list: Vec<T>) -> Result<Vec<T>, NoSignature> {
+    match (code % 256, code / 256) {
+        (0, _) => Ok(list),
+        (23, record) => Err(NoSignature::Outside(record)),
+        (24, word) => Err(NoSignature::TooLarge(word)),
+        (26, _) => Err(NoSignature::WrongLength),
+        (number, _) => Err(NoSignature::Text(Answer::of(number as u8))),
+    }
+}
+
+/// What the loads of a text read, in words, thread by thread.
+pub fn signature(text: &[u8]) -> Result<Vec<u64>, NoSignature> {
+    let mut words = vec![0; entries::words(text)];
+    signed(entries::signature(text, &mut words), words)
+}
+
+/// What the loads of a text's program read, by record number, where they have these words; what the text itself records as read is not looked at.
+pub fn reads(text: &[u8], words: &[u64]) -> Result<Vec<u16>, NoSignature> {
+    let mut reads = vec![0; entries::loads(text)];
+    signed(entries::reads(text, words, &mut reads), reads)
+}
+
 /// What a session knows of two operations.
 #[derive(Clone, Copy, Debug, PartialEq, Eq)]
 pub enum Asked {

@@ -17,4 +17,5 @@ pub mod Counted
 pub mod Cores
 pub mod Heard
 pub mod Sourceless
+pub mod Signing
 pub mod One

@@ -57,6 +57,14 @@ use Rattle.desk.proofs.growing.wheelotter_add.Reads as add
 use Rattle.desk.proofs.growing.wheelotter_add.Kinds as add-kinds
 use Rattle.desk.proofs.growing.wheelotter_waiting.Reads as waiting
 use Rattle.desk.proofs.growing.wheelotter_waiting.Kinds as waiting-kinds
+use Rattle.desk.proofs.signatures.wheelotter_words.Reads as signed-words
+use Rattle.desk.proofs.signatures.wheelotter_words.Kinds as signed-words-kinds
+use Rattle.desk.proofs.signatures.wheelotter_loads.Reads as signed-loads
+use Rattle.desk.proofs.signatures.wheelotter_loads.Kinds as signed-loads-kinds
+use Rattle.desk.proofs.signatures.wheelotter_signature.Reads as signed-pack
+use Rattle.desk.proofs.signatures.wheelotter_signature.Kinds as signed-pack-kinds
+use Rattle.desk.proofs.signatures.wheelotter_reads.Reads as signed-unpack
+use Rattle.desk.proofs.signatures.wheelotter_reads.Kinds as signed-unpack-kinds
 
 pub report-settles : Settles 2 report-kinds.ps report-kinds.r report.Post
 report-settles κs a x y s t p q = reported-one (now (a .0)) (now (a .1 .0)) (now (s .1 .0)) (now (t .1 .0)) x y p q .0
@@ -171,3 +179,21 @@ waiting-settles κs a x y s t p q = p closings-some .0 ∙ sym (q closings-some 
 
 pub waiting-leaves : Leaves 2 waiting-kinds.ps waiting-kinds.r (λ κs s. now (s .1 .0)) waiting.Post
 waiting-leaves κs a x y s t p q = p closings-some .1 ∙ sym (q closings-some .1)
+
+pub words-settles : Settles 1 signed-words-kinds.ps signed-words-kinds.r signed-words.Post
+words-settles κs a x y s t p q = p ∙ sym q
+
+pub loads-settles : Settles 1 signed-loads-kinds.ps signed-loads-kinds.r signed-loads.Post
+loads-settles κs a x y s t p q = p ∙ sym q
+
+pub signature-settles : Settles 2 signed-pack-kinds.ps signed-pack-kinds.r signed-pack.Post
+signature-settles κs a x y s t p q = p .0 ∙ sym (q .0)
+
+pub signature-leaves : Leaves 2 signed-pack-kinds.ps signed-pack-kinds.r (λ κs s. now (s .1 .0)) signed-pack.Post
+signature-leaves κs a x y s t p q = p .1 ∙ sym (q .1)
+
+pub reads-settles : Settles 3 signed-unpack-kinds.ps signed-unpack-kinds.r signed-unpack.Post
+reads-settles κs a x y s t p q = p .0 ∙ sym (q .0)
+
+pub reads-leaves : Leaves 3 signed-unpack-kinds.ps signed-unpack-kinds.r (λ κs s. now (s .1 .1 .0)) signed-unpack.Post
+reads-leaves κs a x y s t p q = p .1 ∙ sym (q .1)

@@ -10,6 +10,7 @@ pub mod Heard
 pub mod Judged
 pub mod Paper
 pub mod Runs
+pub mod Signed
 pub mod Head
 pub mod Kept
 pub mod Acts

@@ -11,5 +11,6 @@ pub mod paper;
 pub mod packs;
 pub mod runs;
 pub mod sessions;
+pub mod signatures;
 pub mod texts;
 pub mod verdicts;

@@ -28,6 +28,10 @@ pub enum Call {
     Unpack { room: usize },
     FileNumber,
     FileLine,
+    Words,
+    Loads,
+    Signature { room: usize },
+    Reads { words: Vec<u64>, room: usize },
 }
 
 /// Models that there are not.
@@ -37,7 +41,7 @@ pub const OTHER_MODELS: [u8; 5] = [0, LAST_MODEL + 1, LAST_MODEL + 2, 128, 255];
 pub const LAST_MODEL: u8 = MODELS as u8;
 
 /// The entries' names without the front that all share.
-pub const ENTRIES: [&str; 22] = [
+pub const ENTRIES: [&str; 26] = [
     "report",
     "number",
     "line",
@@ -60,6 +64,10 @@ pub const ENTRIES: [&str; 22] = [
     "unpack",
     "file_number",
     "file_line",
+    "words",
+    "loads",
+    "signature",
+    "reads",
 ];
 
 impl Call {
@@ -88,12 +96,16 @@ impl Call {
             Call::Unpack { .. } => 19,
             Call::FileNumber => 20,
             Call::FileLine => 21,
+            Call::Words => 22,
+            Call::Loads => 23,
+            Call::Signature { .. } => 24,
+            Call::Reads { .. } => 25,
         }
     }
 
     /// What comes back is a row of the table of answers: few enough to be counted one by one.
     pub fn answers_by_table(&self) -> bool {
-        !matches!(self, Call::Report { .. } | Call::Line | Call::Start | Call::End | Call::FileLine)
+        !matches!(self, Call::Report { .. } | Call::Line | Call::Start | Call::End | Call::FileLine | Call::Words | Call::Loads)
     }
 }
 
@@ -113,7 +125,17 @@ impl fmt::Display for Call {
             Call::Suppose { x, y } | Call::Ask { x, y } => write!(f, " {x} {y}"),
             Call::Add { fields } => write!(f, " {fields:?}"),
             Call::Waiting { room } => write!(f, " into {room} bytes"),
-            Call::Number | Call::Line | Call::Start | Call::End | Call::TakeBack | Call::FileNumber | Call::FileLine => Ok(()),
+            Call::Signature { room } => write!(f, " into {room} words"),
+            Call::Reads { words, room } => write!(f, " of {words:?} into {room} reads"),
+            Call::Number
+            | Call::Line
+            | Call::Start
+            | Call::End
+            | Call::TakeBack
+            | Call::FileNumber
+            | Call::FileLine
+            | Call::Words
+            | Call::Loads => Ok(()),
         }
     }
 }

@@ -72,7 +72,8 @@ pub struct Case<'a, D: Desk> {
 impl<D: Desk> Case<'_, D> {
     /// Notes a call with what was wanted and what came; true where they are the same, memory and all.
     pub fn same(&mut self, call: Call, (wanted, mine): (usize, &Lent), (got, theirs): (usize, &Lent)) -> bool {
-        let answer = call.answers_by_table().then_some(wanted);
+        // a record or a word above the number is told, not counted
+        let answer = call.answers_by_table().then_some(wanted % 256);
         *self.counts.answers.entry((call.entry(), answer)).or_default() += 1;
         let same = wanted == got && mine == theirs;
         if !same {

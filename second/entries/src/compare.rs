@@ -2,7 +2,7 @@
 
 use crate::case::{Case, Counts};
 use crate::desk::Desk;
-use crate::{sessions, texts};
+use crate::{sessions, signed, texts};
 use second::chance::Chance;
 use second::desk::Page;
 use second::families::{text, Family};
@@ -17,6 +17,7 @@ pub fn compared(desk: &impl Desk, family: &Family, seed: u64, number: u64, most_
     let page = Page::new(&text, most_steps);
     let mut case = Case { desk, text: &text, page, chance, counts: Counts::default(), steps: Vec::new(), differences: Vec::new() };
     texts::compare(&mut case);
+    signed::compare(&mut case);
     sessions::compare(&mut case);
     if before != case.text {
         case.counts.texts_failed += 1;

@@ -26,6 +26,10 @@ pub trait Desk: Sync {
     fn unpack(&self, file: &[u8], out: &mut [u8]) -> u8;
     fn file_number(&self, file: &[u8]) -> u8;
     fn file_line(&self, file: &[u8]) -> usize;
+    fn words(&self, text: &[u8]) -> usize;
+    fn loads(&self, text: &[u8]) -> usize;
+    fn signature(&self, text: &[u8], words: &mut [u64]) -> usize;
+    fn reads(&self, text: &[u8], words: &[u64], reads: &mut [u16]) -> usize;
 }
 
 /// The proved library's.
@@ -97,5 +101,17 @@ impl Desk for Proved {
     }
     fn file_line(&self, file: &[u8]) -> usize {
         entries::file_line(file)
+    }
+    fn words(&self, text: &[u8]) -> usize {
+        entries::words(text)
+    }
+    fn loads(&self, text: &[u8]) -> usize {
+        entries::loads(text)
+    }
+    fn signature(&self, text: &[u8], words: &mut [u64]) -> usize {
+        entries::signature(text, words)
+    }
+    fn reads(&self, text: &[u8], words: &[u64], reads: &mut [u16]) -> usize {
+        entries::reads(text, words, reads)
     }
 }

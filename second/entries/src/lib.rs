@@ -11,6 +11,7 @@
 //! | `cuts` | a faulty trace cut down |
 //! | `papers` | the small reader of papers |
 //! | `packs` | those over packed files |
+//! | `signed` | words and reads of a text's program |
 //! | `sessions` | opening, and the calls on a session |
 //! | `records` | records that are added to one |
 //! | `damage` | bytes that were a session |
@@ -28,4 +29,5 @@ pub mod packs;
 pub mod papers;
 pub mod records;
 pub mod sessions;
+pub mod signed;
 pub mod texts;

@@ -16,6 +16,7 @@ use second::families::FAMILIES;
 use second::packed::{file_of, FIRST, HEADER, RECORD};
 use second::packs::{self, BYTES_AT};
 use second::session::{self, Session, MOST_PAIRS};
+use second::signatures::{layout, list, loads, pack_into, unpack_into};
 use second::smaller::{faulty, without, Part};
 use second::trace::{text_of, Model, Record, Trace};
 
@@ -26,7 +27,7 @@ struct Faulty(&'static str);
 
 const RIGHT: &str = "none";
 
-const FAULTS: [&str; 117] = [
+const FAULTS: [&str; 128] = [
     "report: a letter too far",
     "report: short memory written",
     "report: length of one line",
@@ -144,6 +145,17 @@ const FAULTS: [&str; 117] = [
     "file: 4 before 20",
     "file: the line is the record",
     "file: the length before the version",
+    "words: one for every thread",
+    "loads: stores too",
+    "signature: last load least",
+    "signature: own writes listed",
+    "signature: first value last",
+    "signature: threads in one word",
+    "signature: written before it is checked",
+    "signature: 23 before 26",
+    "reads: the largest word refused",
+    "reads: too large a word taken",
+    "reads: reads by thread",
 ];
 
 impl Faulty {
@@ -681,6 +693,84 @@ impl Desk for Faulty {
         } else {
             line
         }
+    }
+
+    fn words(&self, text: &[u8]) -> usize {
+        match self.page(text).trace() {
+            Some(_) if self.is("words: one for every thread") => 8,
+            Some(trace) => layout(trace).len(),
+            None => 0,
+        }
+    }
+
+    fn loads(&self, text: &[u8]) -> usize {
+        match self.page(text).trace() {
+            Some(trace) if self.is("loads: stores too") => trace.operations().len(),
+            Some(trace) => loads(trace).len(),
+            None => 0,
+        }
+    }
+
+    fn signature(&self, text: &[u8], words: &mut [u64]) -> usize {
+        let page = self.page(text);
+        let Some(trace) = page.trace() else { return page.number().into() };
+        let before = words.to_vec();
+        let answer = pack_into(trace, words);
+        if self.is("signature: written before it is checked") && answer % 256 == 23 {
+            words.fill(0);
+        }
+        if self.is("signature: 23 before 26") && answer == 26 {
+            let mut right = vec![0; layout(trace).len()];
+            let other = pack_into(trace, &mut right);
+            return if other == 0 { answer } else { other };
+        }
+        if answer != 0 {
+            return answer;
+        }
+        // the digits once more, wrongly
+        let read = |load: usize| trace.places[load].read().expect("a load reads");
+        let place = |load: usize| list(trace, load).iter().position(|&value| value == read(load)).expect("listed") as u128;
+        let range = |load: usize| list(trace, load).len() as u128;
+        for (of, word) in layout(trace).iter().zip(words.iter_mut()) {
+            if self.is("signature: last load least") {
+                *word = of.iter().fold(0u128, |word, &load| word * range(load) + place(load)) as u64;
+            }
+            if self.is("signature: first value last") {
+                let turned = |load: usize| (place(load) + range(load) - 1) % range(load);
+                *word = of.iter().rev().fold(0u128, |word, &load| word * range(load) + turned(load)) as u64;
+            }
+            if self.is("signature: own writes listed") && of.iter().any(|&load| trace.places[load].written().is_some()) {
+                *word = word.wrapping_add(1);
+            }
+        }
+        if self.is("signature: threads in one word") && words.len() > 1 {
+            words.copy_from_slice(&before);
+            words[0] = 0;
+        }
+        answer
+    }
+
+    fn reads(&self, text: &[u8], words: &[u64], reads: &mut [u16]) -> usize {
+        let page = self.page(text);
+        let Some(trace) = page.trace() else { return page.number().into() };
+        let answer = unpack_into(trace, words, reads);
+        if self.is("reads: the largest word refused") && answer == 0 {
+            let top = |of: &Vec<usize>| of.iter().map(|&load| list(trace, load).len() as u128).product::<u128>() - 1;
+            if let Some(place) = layout(trace).iter().zip(words).position(|(of, &word)| top(of) > 0 && u128::from(word) == top(of)) {
+                return 24 + 256 * place;
+            }
+        }
+        if self.is("reads: too large a word taken") && answer % 256 == 24 {
+            return 0;
+        }
+        if self.is("reads: reads by thread") && answer == 0 {
+            let numbers = loads(trace);
+            let mut sorted: Vec<usize> = (0..numbers.len()).collect();
+            sorted.sort_by_key(|&k| trace.places[numbers[k]].thread());
+            let right = reads.to_vec();
+            sorted.iter().enumerate().for_each(|(to, &from)| reads[to] = right[from]);
+        }
+        answer
     }
 }
 
