@@ -50,7 +50,10 @@ fn numbers(bytes: &[u8], list: &mut [u16]) -> Listed
         let value = run.value;
         if at < end {
             if 65535 < value {
-                return Listed { count: 0, good: false };
+                return Listed {
+                    count: 0,
+                    good: false,
+                };
             }
             put(list, count, value as u16);
             count += 1;
@@ -58,13 +61,19 @@ fn numbers(bytes: &[u8], list: &mut [u16]) -> Listed
         } else {
             let b = bytes[at];
             if (b != b' ') & (b != b'\n') {
-                return Listed { count: 0, good: false };
+                return Listed {
+                    count: 0,
+                    good: false,
+                };
             }
             at += 1;
         }
     }
     if list.len() < count {
-        return Listed { count: 0, good: false };
+        return Listed {
+            count: 0,
+            good: false,
+        };
     }
     Listed { count, good: true }
 }

@@ -41,9 +41,11 @@ unspell e e′ l es q =
     let q₁ = ap (drop 1) q in
     let q₂ = ap (drop 2) q in
     let q₃ = ap (drop 3) q in
-    let c = cancel (e .rests) (e′ .rests) l (spell es) (ap (λ l. getD l 3 0) q) (ap (drop 4) q) in
-    (ap₂ (λ (p : ℕ × ℕ) (s : ℕ × List ℕ). record { rule = p .0; from = p .1; to = s .0; rests = s .1 })
-    (ap₂ (λ a b. (a, b)) (ap (λ l. getD l 0 0) q) (ap (λ l. getD l 1 0) q)) (ap₂ (λ a b. (a, b)) (ap (λ l. getD l 2 0) q) (c .0)), c .1)
+    let c = cancel (e .rests) (e′ .rests) l (spell es) (ap (λ l. getD l 3 0) q) (ap (drop 4) q) in (
+      ap₂ (λ (p : ℕ × ℕ) (s : ℕ × List ℕ). record { rule = p .0; from = p .1; to = s .0; rests = s .1 })
+          (ap₂ (λ a b. (a, b)) (ap (λ l. getD l 0 0) q) (ap (λ l. getD l 1 0) q)) (ap₂ (λ a b. (a, b)) (ap (λ l. getD l 2 0) q) (c .0)),
+      c .1,
+    )
 
 module _ (l : List ℕ) (at k : ℕ) where
   abbrev pub entryAt : Entry

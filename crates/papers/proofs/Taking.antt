@@ -110,16 +110,16 @@ module _ (t : Trace) (h : t .len ≤ RECORDS) where
       (λ g. let h = left (source? f S x && writer? f y x) (not (eqb y S)) g in
       joins-in l S y (source-in S x (left (source? f S x) (writer? f y x) h) .0) (writer-in y x (right (source? f S x) (writer? f y x) h))) in
       ap₂ (λ (p q : ℕ → Bool). getD (
-        false
-        ∷ K x y
-        ∷ (source? f x y && not (f .earlier x y))
-        ∷ any (f .records) (λ L. source? f y L && writer? f x L && not (eqb x y) && f .earlier x L)
-        ∷ first? f y x
-        ∷ (first? f x y && f .earlier x y)
-        ∷ any (f .records) p
-        ∷ any (f .records) q
-        ∷ nothing x y
-        ∷ []
+      false
+      ∷ K x y
+      ∷ (source? f x y && not (f .earlier x y))
+      ∷ any (f .records) (λ L. source? f y L && writer? f x L && not (eqb x y) && f .earlier x L)
+      ∷ first? f y x
+      ∷ (first? f x y && f .earlier x y)
+      ∷ any (f .records) p
+      ∷ any (f .records) q
+      ∷ nothing x y
+      ∷ []
       ) r false) (fun-ext six) (fun-ext seven)
 
 -- the branch with one entry more

@@ -160,7 +160,18 @@ pub enum Turn {
 }
 
 // Takes an entry into the branch that the arrays hold, or closes the branch with it.
-fn take_entry(t: Trace, model: u8, rule: usize, x: u16, y: u16, rests: &[u16], from: &mut [u16], to: &mut [u16], other: &mut [u8], count: usize) -> Turn
+fn take_entry(
+    t: Trace,
+    model: u8,
+    rule: usize,
+    x: u16,
+    y: u16,
+    rests: &[u16],
+    from: &mut [u16],
+    to: &mut [u16],
+    other: &mut [u8],
+    count: usize,
+) -> Turn
     requires { ⌜ (t .len ≤ RECORDS) × (count ≤ BRANCH) × (length (now from) ≡ BRANCH) × (length (now to) ≡ BRANCH) × (length (now other) ≡ BRANCH) ⌝ }
     ensures { λ r. ⌜ Taken (frameOf t) (keptOf model t) (now (from .entry)) (now (to .entry)) (now (other .entry)) count (record { rule = rule; from = x; to = y; rests = now (rests .entry) }) r (now (from .exit)) (now (to .exit)) (now (other .exit)) ⌝ }
 {
@@ -197,7 +208,14 @@ fn take_entry(t: Trace, model: u8, rule: usize, x: u16, y: u16, rests: &[u16], f
 }
 
 // Whether the list closes the one branch that holds nothing. The arrays have a place for each entry of the longest branch.
-fn closing(t: Trace, model: u8, list: &[u16], from: &mut [u16], to: &mut [u16], other: &mut [u8]) -> bool
+fn closing(
+    t: Trace,
+    model: u8,
+    list: &[u16],
+    from: &mut [u16],
+    to: &mut [u16],
+    other: &mut [u8],
+) -> bool
     requires { ⌜ (t .len ≤ RECORDS) × (length (now from) ≡ BRANCH) × (length (now to) ≡ BRANCH) × (length (now other) ≡ BRANCH) ⌝ }
     ensures { λ r. ⌜ So r ↔ Paper (frameOf t) (keptOf model t) (now (list .entry)) ⌝ }
 {
@@ -211,7 +229,18 @@ fn closing(t: Trace, model: u8, list: &[u16], from: &mut [u16], to: &mut [u16], 
         }
         let end = at + 4 + k;
         let rule = wide(list[at]);
-        let turn = take_entry(t, model, rule, list[at + 1], list[at + 2], &list[at + 4..end], from, to, other, count);
+        let turn = take_entry(
+            t,
+            model,
+            rule,
+            list[at + 1],
+            list[at + 2],
+            &list[at + 4..end],
+            from,
+            to,
+            other,
+            count,
+        );
         match turn {
             Turn::Goes(next) => {
                 count = next;
