@@ -16,6 +16,7 @@ mod records;
 mod replay;
 mod report;
 mod show;
+mod shrink;
 mod spread;
 mod status;
 mod sum;
@@ -42,6 +43,7 @@ enum Command {
     Talk(talk::Options),
     Replay(replay::Options),
     Import(import::Options),
+    Shrink(shrink::Options),
 }
 
 fn done(command: &Command) -> status::Done {
@@ -54,6 +56,7 @@ fn done(command: &Command) -> status::Done {
         Command::Talk(options) => talk::talk(options),
         Command::Replay(options) => replay::replay(options),
         Command::Import(options) => import::import(options),
+        Command::Shrink(options) => shrink::shrink(options),
     }
 }
 

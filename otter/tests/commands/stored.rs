@@ -74,6 +74,11 @@ fn import() {
 }
 
 #[test]
+fn shrink() {
+    page("shrink.txt");
+}
+
+#[test]
 fn help() {
     page("help.txt");
 }
