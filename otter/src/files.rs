@@ -7,12 +7,12 @@ use std::os::unix::ffi::OsStringExt;
 use std::path::{Path, PathBuf};
 
 /// What traces in a directory are called.
-const TRACES: [&str; 1] = ["txt"];
+const TRACES: [&str; 2] = ["txt", "pyr"];
 
 /// Files and directories, and how to take a part of them.
 #[derive(clap::Args)]
 pub struct Files {
-    /// Traces, and directories that are looked through for *.txt, names sorted; - is one trace on standard input
+    /// Traces, and directories that are looked through for *.txt and *.pyr, names sorted; - is one trace on standard input
     #[arg(value_name = "FILE|DIR")]
     paths: Vec<PathBuf>,
     /// More of them from LIST, a path to a line; - is standard input

@@ -1,6 +1,6 @@
 //! What the library says of one trace, in words and for machines.
 
-use crate::input;
+use crate::input::{self, Turned};
 use crate::meaning::{meaning, refused};
 use crate::memory::Memory;
 use serde_json::{json, Map, Value};
@@ -107,24 +107,28 @@ fn found<'a>(text: &'a [u8], models: &[Memory], steps: Option<u64>) -> Result<Ve
 }
 
 impl Judged {
-    pub fn text(text: &[u8], models: &[Memory], steps: Option<u64>) -> Judged {
-        found(text, models, steps).map_or_else(
-            |refusal| Judged::Refused {
-                words: refused(&refusal),
-                number: refusal.answer as u8,
-                line: refusal.line,
-                part: String::from_utf8_lossy(refusal.part).into_owned(),
-                meaning: meaning(refusal.answer),
-            },
-            Judged::Found,
-        )
+    fn refused(turned: Turned) -> Judged {
+        Judged::Refused {
+            words: refused(&turned),
+            number: turned.answer as u8,
+            line: turned.line,
+            part: String::from_utf8_lossy(&turned.part).into_owned(),
+            meaning: meaning(turned.answer),
+        }
     }
 
-    /// With what was read; nothing where it could not be.
+    /// With the text of the trace; none where it could not be read.
     pub fn file(path: &Path, models: &[Memory], steps: Option<u64>) -> (Judged, Vec<u8>) {
-        match input::read(path) {
-            Ok(text) => (Judged::text(&text, models, steps), text),
-            Err(error) => (Judged::Unreadable(error.to_string()), Vec::new()),
+        let bytes = match input::read(path) {
+            Ok(bytes) => bytes,
+            Err(error) => return (Judged::Unreadable(error.to_string()), Vec::new()),
+        };
+        match input::text(bytes) {
+            Err(turned) => (Judged::refused(turned), Vec::new()),
+            Ok(text) => {
+                let judged = found(&text, models, steps).map_or_else(|refusal| Judged::refused(refusal.into()), Judged::Found);
+                (judged, text)
+            }
         }
     }
 

@@ -11,6 +11,7 @@ mod judged;
 mod keys;
 mod meaning;
 mod memory;
+mod pack;
 mod picture;
 mod records;
 mod replay;
@@ -44,6 +45,8 @@ enum Command {
     Replay(replay::Options),
     Import(import::Options),
     Shrink(shrink::Options),
+    Pack(pack::Pack),
+    Unpack(pack::Unpack),
 }
 
 fn done(command: &Command) -> status::Done {
@@ -57,6 +60,8 @@ fn done(command: &Command) -> status::Done {
         Command::Replay(options) => replay::replay(options),
         Command::Import(options) => import::import(options),
         Command::Shrink(options) => shrink::shrink(options),
+        Command::Pack(options) => pack::pack(options),
+        Command::Unpack(options) => pack::unpack(options),
     }
 }
 

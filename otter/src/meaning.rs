@@ -1,6 +1,7 @@
 //! What the numbers mean, in the words of docs/GUIDE.md's tables; a test holds them against that page.
 
-use wheelotter::{Answer, Refusal};
+use crate::input::Turned;
+use wheelotter::Answer;
 
 /// What is wrong, for every number with which the library turns something back.
 pub fn meaning(answer: Answer) -> &'static str {
@@ -21,6 +22,9 @@ pub fn meaning(answer: Answer) -> &'static str {
         Answer::ManyPairs => "a 17th pair",
         Answer::NoPair => "take back, and no pair stands",
         Answer::LateInit => "memory begins once, before all records",
+        Answer::NoFile => "no mark, cut short or left over",
+        Answer::OtherVersion => "another version",
+        Answer::NoEntry => "an entry that no file has",
         Answer::LostCore => "a core is lost",
         Answer::Stuck => "a step is impossible",
         _ => "see docs/GUIDE.md",
@@ -28,10 +32,10 @@ pub fn meaning(answer: Answer) -> &'static str {
 }
 
 /// A refusal in one line: the number, the line, the meaning and the line itself.
-pub fn refused(refusal: &Refusal) -> String {
-    let part = match refusal.line {
-        0 => String::new(),
-        _ => format!(": {}", String::from_utf8_lossy(refusal.part).escape_debug()),
+pub fn refused(turned: &Turned) -> String {
+    let part = match turned.part.is_empty() {
+        true => String::new(),
+        false => format!(": {}", String::from_utf8_lossy(&turned.part).escape_debug()),
     };
-    format!("{refusal} ({}){part}", meaning(refusal.answer))
+    format!("refused {} line {} ({}){part}", turned.answer as u8, turned.line, meaning(turned.answer))
 }

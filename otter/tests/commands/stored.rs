@@ -79,6 +79,11 @@ fn shrink() {
 }
 
 #[test]
+fn pack() {
+    page("pack.txt");
+}
+
+#[test]
 fn help() {
     page("help.txt");
 }
