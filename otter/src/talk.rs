@@ -33,6 +33,8 @@ Lines:
   between X Y   which way round are X and Y held?
   held X        all that is held before X and behind it
   pairs         the pairs that stand
+  add LINE      a record more, as a line of a trace
+  waiting       the lowest record that waits for its source
   list          the records with their numbers
   save FILE     keep the session
   load FILE     take up a session that was kept, of the same trace
@@ -40,7 +42,7 @@ Lines:
   quit          end; so does the end of the input";
 
 /// The words that Tab completes.
-const WORDS: &[&str] = &["suppose", "back", "ask", "between", "held", "pairs", "list", "save", "load", "help", "quit"];
+const WORDS: &[&str] = &["suppose", "back", "ask", "between", "held", "pairs", "add", "waiting", "list", "save", "load", "help", "quit"];
 
 /// What a line is answered with; an Err is a line that was turned back, and the session is as it was.
 type Reply = Result<String, String>;
@@ -68,6 +70,8 @@ impl Talk {
             ["between", x, y] => self.between(number(x)?, number(y)?),
             ["held", x] => self.held(number(x)?),
             ["pairs"] => Ok(self.pairs()),
+            ["add", ..] => self.add(line.trim_start_matches("add").trim()),
+            ["waiting"] => self.waiting(),
             ["list"] => Ok(self.list()),
             ["save", file] => {
                 fs::write(file, self.session.as_bytes()).map(|()| "saved".to_string()).map_err(|error| format!("no: {file}: {error}"))
@@ -115,6 +119,28 @@ impl Talk {
         Ok(format!("before {x}:{}; behind {x}:{}", listed(before), listed(behind)))
     }
 
+    /// A record behind the others. Its form is asked of the library as a text of this one line; whatever else is wrong with it, the session tells.
+    fn add(&mut self, line: &str) -> Reply {
+        let text = format!("{line}\n");
+        let forms = [Answer::LongLine, Answer::NoForm, Answer::PastBound, Answer::TwoAddresses];
+        match wheelotter::check(text.as_bytes()) {
+            Err(refusal) if forms.contains(&refusal.answer) => return Err(turned_back(refusal.answer)),
+            _ => {}
+        }
+        let Some(record) = records(&text).first().copied() else { return Err(turned_back(Answer::LateInit)) };
+        self.session.add(given(&record)).map_err(turned_back)?;
+        self.records.push(record);
+        let contradicted = if self.session.as_bytes()[MARK] == 1 { ", contradicted" } else { "" };
+        Ok(format!("record {}{contradicted}", self.records.len() - 1))
+    }
+
+    fn waiting(&self) -> Reply {
+        Ok(match self.session.waiting().map_err(turned_back)? {
+            Some(record) => format!("record {record} waits for its source"),
+            None => "none waits".to_string(),
+        })
+    }
+
     /// As the session's bytes have them.
     fn pairs(&self) -> String {
         let bytes = self.session.as_bytes();
@@ -143,6 +169,17 @@ impl Talk {
         }
         self.session = session;
         Ok(format!("loaded: {}", self.pairs()))
+    }
+}
+
+/// A record as the library takes it: a number past its type's bound is past the record's, and the text was turned back for it.
+fn given(record: &Record) -> wheelotter::Record {
+    let (thread, address) = (record.core as u8, record.address as u8);
+    match (record.read, record.written) {
+        (None, None) => wheelotter::Record::Fence { thread },
+        (Some(read), None) => wheelotter::Record::Load { thread, address, read: read as u16 },
+        (None, Some(written)) => wheelotter::Record::Store { thread, address, written: written as u16 },
+        (Some(read), Some(written)) => wheelotter::Record::Swap { thread, address, read: read as u16, written: written as u16 },
     }
 }
 
