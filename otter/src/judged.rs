@@ -117,6 +117,10 @@ impl Judged {
         }
     }
 
+    pub fn text(text: &[u8], models: &[Memory], steps: Option<u64>) -> Judged {
+        found(text, models, steps).map_or_else(|refusal| Judged::refused(refusal.into()), Judged::Found)
+    }
+
     /// With the text of the trace; none where it could not be read.
     pub fn file(path: &Path, models: &[Memory], steps: Option<u64>) -> (Judged, Vec<u8>) {
         let bytes = match input::read(path) {
@@ -125,10 +129,7 @@ impl Judged {
         };
         match input::text(bytes) {
             Err(turned) => (Judged::refused(turned), Vec::new()),
-            Ok(text) => {
-                let judged = found(&text, models, steps).map_or_else(|refusal| Judged::refused(refusal.into()), Judged::Found);
-                (judged, text)
-            }
+            Ok(text) => (Judged::text(&text, models, steps), text),
         }
     }
 

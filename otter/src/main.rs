@@ -11,6 +11,7 @@ mod judged;
 mod keys;
 mod meaning;
 mod memory;
+mod night;
 mod pack;
 mod picture;
 mod records;
@@ -45,6 +46,7 @@ enum Command {
     Replay(replay::Options),
     Import(import::Options),
     Shrink(shrink::Options),
+    Night(night::Options),
     Pack(pack::Pack),
     Unpack(pack::Unpack),
 }
@@ -60,6 +62,7 @@ fn done(command: &Command) -> status::Done {
         Command::Replay(options) => replay::replay(options),
         Command::Import(options) => import::import(options),
         Command::Shrink(options) => shrink::shrink(options),
+        Command::Night(options) => night::night(options),
         Command::Pack(options) => pack::pack(options),
         Command::Unpack(options) => pack::unpack(options),
     }

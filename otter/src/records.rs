@@ -40,3 +40,32 @@ impl fmt::Display for Record {
         }
     }
 }
+
+/// The test program of a trace: the text without what was read.
+pub fn program(text: &[u8]) -> Vec<u8> {
+    let mut program = Vec::with_capacity(text.len());
+    for byte in text {
+        if !(byte.is_ascii_digit() && read_before(&program)) {
+            program.push(*byte);
+        }
+    }
+    program
+}
+
+/// Whether a number behind these bytes is one that was read.
+fn read_before(program: &[u8]) -> bool {
+    program.ends_with(b"== ")
+}
+
+#[cfg(test)]
+mod tests {
+    use super::program;
+
+    #[test]
+    fn a_program_has_no_reads() {
+        assert_eq!(
+            program(b"0: M[1] := 12\n0: M[1] == 12\n1: { M[1] == 12; M[1] := 3 }\n"),
+            b"0: M[1] := 12\n0: M[1] == \n1: { M[1] == ; M[1] := 3 }\n"
+        );
+    }
+}

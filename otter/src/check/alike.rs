@@ -1,6 +1,7 @@
 //! Faults that look alike.
 
 use crate::judged::Judged;
+use crate::records::program;
 use std::collections::HashMap;
 use std::io::{self, Write};
 use std::path::{Path, PathBuf};
@@ -17,22 +18,6 @@ struct Seen {
 pub struct Alike {
     seen: Vec<Seen>,
     places: HashMap<(String, Vec<u8>), usize>,
-}
-
-/// The test program of a trace: the text without what was read.
-fn program(text: &[u8]) -> Vec<u8> {
-    let mut program = Vec::with_capacity(text.len());
-    for byte in text {
-        if !(byte.is_ascii_digit() && read_before(&program)) {
-            program.push(*byte);
-        }
-    }
-    program
-}
-
-/// Whether a number behind these bytes is one that was read.
-fn read_before(program: &[u8]) -> bool {
-    program.ends_with(b"== ")
 }
 
 impl Alike {
@@ -53,18 +38,5 @@ impl Alike {
             writeln!(out, "{:>6} times {}, first in {}", seen.count, seen.words, seen.first.display())?;
         }
         Ok(())
-    }
-}
-
-#[cfg(test)]
-mod tests {
-    use super::program;
-
-    #[test]
-    fn a_program_has_no_reads() {
-        assert_eq!(
-            program(b"0: M[1] := 12\n0: M[1] == 12\n1: { M[1] == 12; M[1] := 3 }\n"),
-            b"0: M[1] := 12\n0: M[1] == \n1: { M[1] == ; M[1] := 3 }\n"
-        );
     }
 }

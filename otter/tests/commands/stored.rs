@@ -84,6 +84,11 @@ fn pack() {
 }
 
 #[test]
+fn night() {
+    page("night.txt");
+}
+
+#[test]
 fn help() {
     page("help.txt");
 }
