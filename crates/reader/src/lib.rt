@@ -232,10 +232,14 @@ pub fn read_whole(text: &[u8]) -> Reading
     let answer = reading.answer;
     match answer {
         Answer::Good => {
-            if lost(reading.trace) {
+            let recorded = reading.trace;
+            if lost(recorded) {
                 let answer = Answer::Lost;
-                let trace = empty();
-                return Reading { answer, trace };
+                let none = empty();
+                return Reading {
+                    answer,
+                    trace: none,
+                };
             }
             reading
         }

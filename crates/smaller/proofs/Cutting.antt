@@ -2,6 +2,7 @@
 --
 --   fault?       == a trace has a valid order, or none
 --   faulty-found == the search tells it
+--   not-there    == a test that fails beside one that passes
 --   goes-at      == what goes with a record, as the rows have it
 --   tried-no, tried-yes, tried-kept == a look at a record that is not there; one that takes its record, and one that does not
 --   Passed, passed-none, passed-more, passed-all == one look at each record, up to all of them
@@ -56,6 +57,9 @@ faulty-found t w m k o q = go (o .found) (q .first (and-iff same-iff same-iff .1
     go : (b : Bool) → Least (Valid (frameOf t) (keptOf m t)) (found? b (take (o .len) (o .operations))) → So (not b) ↔ NoOrder t m
     go true l = (λ t. absurd (false≢true t), λ n. absurd (n _ (l .0)))
     go false l = (λ _. l, λ _. refl)
+
+pub not-there : (a b : Bool) → So b → (a && b) ≡ false → a ≡ false
+not-there a b h e = elim (test a) [ inl s ↦ absurd (false≢true (sym e ∙ and-iff same-iff same-iff .1 (s, h))) | inr n ↦ n ]
 
 module _ (t : Trace) (w : So (wellFormed t)) (m : ℕ) where
   pub goes-at : (rows : List ℕ) → Chains (frameOf t) rows → (i x : ℕ) → (eqb i x || bit rows i x) ≡ goes? (frameOf t) i x

@@ -2,22 +2,28 @@
 --
 --   put-some     == a number put into a set where a test passed
 --   lays-none, lays-more == how the pairs of a source and its reader are laid, a reader at a time
+--   put-source   == a source writes, so that asking it whether it does changes nothing
 --   lays-chains  == whoever goes with a record, from the chains of these pairs
 --   padded-more  == one number more in an array
 use mathlib.Core.Path.{_≡_, refl, sym, ap, _∙_, subst}
 use mathlib.Core.Logic.{_≢_, _↔_, inl, inr}
-use mathlib.Core.Bool.{Bool, true, false, So, false≢true}
+use mathlib.Core.Bool.{Bool, true, false, So, cond, false≢true}
 use mathlib.Core.List.{List, [], _∷_, _++_, append-assoc}
 use Prim.Native.Nat.{ℕ, suc, _+_, _-_, _≤_, _<_}
 use native.Mathlib.Decide.{decLt}
 use native.Mathlib.Omega.{arith}
+use lib.Dec.{ltb}
 use lib.ListN.{length, set, replicate, length-append}
 use lib.Seq.{set-at}
 use Rattle.laws.specs.Relation.{Chain}
 use Rattle.laws.proofs.Relation.{chain-mono}
-use Rattle.laws.proofs.Tests.{test, test-one, last?, same-iff}
+use Rattle.laws.proofs.Tests.{test, test-one, last?, and-iff, same-iff}
 use Rattle.trace.specs.Bounds.{RECORDS}
+use Rattle.trace.specs.Op.{writes}
+use Rattle.trace.specs.Trace.{at}
 use Rattle.trace.specs.Frame.{Frame, Good, Source}
+use Rattle.trace.specs.Meaning.{frameOf}
+use Rattle.trace.specs.declared.Trace.{Trace}
 use Rattle.rows.specs.Bounds.{CELLS, WORDS}
 use Rattle.rows.specs.Rows.{bit}
 use Rattle.rows.specs.Empty.{emptyOf}
@@ -96,6 +102,18 @@ module _ (f : Frame) (g : Good f) where
       λ k. c .1 (chain-mono (λ S L s. p .pairs S L .1 (omega (arith, g .below L (g .reads L (s .reads))), s)) i x k),
     );
   }
+
+-- whoever is a source writes
+pub put-source : (t : Trace) (n : ℕ) (rows : List ℕ) → putIf rows (writes (at t (sourceOf (frameOf t) n))) (sourceOf (frameOf t) n) n ≡ putOf rows (sourceOf (frameOf t) n) n
+unfolding putIf frameOf
+put-source t n rows = elim (decLt (sourceOf (frameOf t) n) RECORDS) [
+  | yes b ↦ ap (λ (w : Bool). putIf rows w (sourceOf (frameOf t) n) n) (and-iff {a = ltb (sourceOf (frameOf t) n) (t .len)} {b = writes (at t (sourceOf (frameOf t) n))} same-iff same-iff .0 (source-of-is (frameOf t) n b .writer .writes) .1)
+  | no b ↦ go (omega arith) (writes (at t (sourceOf (frameOf t) n)))
+]
+  where
+    go : RECORDS ≤ sourceOf (frameOf t) n → (w : Bool) → putIf rows w (sourceOf (frameOf t) n) n ≡ putOf rows (sourceOf (frameOf t) n) n
+    go h true = refl
+    go h false = sym (put-left rows (sourceOf (frameOf t) n) n h)
 
 -- an array that is not full has a 0 behind its list
 unused : (n k : ℕ) → k < n → replicate {A = ℕ} (n - k) 0 ≡ 0 ∷ replicate (n - (k + 1)) 0

@@ -19,6 +19,9 @@ use second::session::{self, Session, MOST_PAIRS};
 use second::signatures::{layout, list, loads, pack_into, unpack_into};
 use second::smaller::{faulty, without, Part};
 use second::trace::{text_of, Model, Record, Trace};
+use std::sync::atomic::{AtomicUsize, Ordering};
+use std::sync::Mutex;
+use std::thread;
 
 const STEPS: u64 = 20_000;
 
@@ -847,7 +850,22 @@ fn the_right_answers_pass() {
 
 #[test]
 fn every_fault_is_found() {
-    let missed: Vec<&str> = FAULTS.into_iter().filter(|fault| first_difference(&Faulty(fault), 400).is_none()).collect();
+    // every processor takes the next fault that nobody has looked at
+    let next = AtomicUsize::new(0);
+    let missed = Mutex::new(Vec::new());
+    let search = || {
+        while let Some(fault) = FAULTS.get(next.fetch_add(1, Ordering::Relaxed)) {
+            if first_difference(&Faulty(fault), 400).is_none() {
+                missed.lock().expect("no search panics").push(*fault);
+            }
+        }
+    };
+    thread::scope(|scope| {
+        for _ in 0..thread::available_parallelism().map_or(1, usize::from) {
+            scope.spawn(search);
+        }
+    });
+    let missed = missed.into_inner().expect("no search panics");
     assert!(missed.is_empty(), "not found: {missed:?}");
 }
 

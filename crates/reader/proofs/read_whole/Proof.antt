@@ -20,7 +20,7 @@ empty-requires c κs = search needs
 
 returns : tie.Need-returns
 returns c =
-    let l = c .before .before .before in
+    let l = c .before .before .before .before in
     whole-lost (l .before .before .before .before .args .text .now) _ (l .before .before .read .ensures) (l .enum-told .given .1) (sym (c .before .before .lost .ensures) ∙ c .before .if1 .taken) _ (c .empty .ensures)
 
 enum-told-2 : tie.Need-enum-told-2
@@ -31,7 +31,7 @@ enum-told-3 c = search needs
 
 returns-2 : tie.Need-returns-2
 returns-2 c =
-    let l = c .before .before in
+    let l = c .before .before .before in
     whole-good (l .before .before .before .before .args .text .now) _ (l .before .before .read .ensures) (l .enum-told .given .1) (sym (c .before .lost .ensures) ∙ c .if1 .left)
 
 returns-3 : tie.Need-returns-3

@@ -21,7 +21,9 @@ use crate::part::without;
 use orders::sources::Found;
 use orders::sources::missing;
 use pairs::modelled;
+use pairs::op_at;
 use search::first::first_order;
+use trace::Op;
 use trace::RECORDS;
 use trace::Trace;
 use trace::empty;
@@ -48,12 +50,24 @@ fn still_faulty(t: Trace, model: u8, kept: &[u64]) -> bool
     !order.found
 }
 
+// Whether a record of this kind is tried: each is. A fence may go alone, and the fault may need it.
+fn tried(op: Op) -> bool
+    ensures { λ r. ⌜ So r ⌝ }
+{
+    match op {
+        Op::Load { .. } => true,
+        Op::Store { .. } => true,
+        Op::Swap { .. } => true,
+        Op::Fence { .. } => true,
+    }
+}
+
 // One look at a record: it goes, with what goes with it, where the fault is still there without it.
 fn try_one(t: Trace, model: u8, goes: &[u64], i: usize, kept: &mut [u64])
     requires { ⌜ So (wellFormed t) × So (modelled model) × Chains (frameOf t) (now goes) × (length (now kept) ≡ WORDS) ⌝ }
     ensures { λ r. ⌜ Tried t model i (now (kept .entry)) (now (kept .exit)) ⌝ }
 {
-    if !rows::test(kept, 0, i) {
+    if !(rows::test(kept, 0, i) & tried(op_at(t, i))) {
         return;
     }
     let mut left = [0u64; rows::WORDS];

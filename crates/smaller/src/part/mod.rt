@@ -7,6 +7,7 @@ ghost use lib.ListN.{length};
 ghost use Rattle.laws.specs.Relation.{Chain};
 ghost use Rattle.trace.specs.Bounds.{RECORDS};
 ghost use Rattle.trace.specs.Meaning.{frameOf};
+ghost use Rattle.trace.specs.Op.{writes};
 ghost use Rattle.trace.specs.Trace.{upTo};
 ghost use Rattle.trace.specs.WellFormed.{wellFormed};
 ghost use Rattle.rows.specs.Bounds.{CELLS, WORDS};
@@ -14,7 +15,9 @@ ghost use Rattle.rows.specs.Rows.{bit};
 ghost use Rattle.parts.specs.Picked.{picked, oldsTo};
 ghost use Rattle.smaller.specs.Smaller.{padded};
 ghost use Rattle.smaller.specs.Rows.{Has, Chains};
+use pairs::op_at;
 use pairs::source_of;
+use trace::Op;
 use trace::RECORDS;
 use trace::Record;
 use trace::Trace;
@@ -81,6 +84,18 @@ pub(crate) fn all(n: usize, kept: &mut [u64])
     }
 }
 
+// Whether a record of this kind takes others with it: a store and a swap may have been read from.
+fn takes_readers(op: Op) -> bool
+    ensures { λ r. ⌜ r ≡ writes op ⌝ }
+{
+    match op {
+        Op::Load { .. } => false,
+        Op::Store { .. } => true,
+        Op::Swap { .. } => true,
+        Op::Fence { .. } => false,
+    }
+}
+
 // Which record goes where another goes: whoever reads from it, from what reads from it, and so on.
 pub(crate) fn lay_goes(t: Trace, goes: &mut [u64])
     requires { ⌜ So (wellFormed t) × (length (now goes) ≡ CELLS) ⌝ }
@@ -90,7 +105,8 @@ pub(crate) fn lay_goes(t: Trace, goes: &mut [u64])
     let n = t.len;
     let mut load: usize = 0;
     while load < n {
-        rows::put(goes, source_of(t, load), load);
+        let source = source_of(t, load);
+        rows::put_if(goes, takes_readers(op_at(t, source)), source, load);
         load += 1;
     }
     rows::chains(goes);

@@ -1,9 +1,24 @@
 // Whether a recorder dropped a core.
 ghost use mathlib.Core.Path.{_≡_};
+ghost use lib.Dec.{eqb};
+ghost use Rattle.trace.specs.Op.{thread};
 ghost use Rattle.trace.specs.Cores.{shows, lost};
+use crate::Op;
 use crate::RECORDS;
 use crate::THREADS;
 use crate::Trace;
+
+// Whether a record is of a core: a fence is, as any other.
+fn is_of(op: Op, core: u8) -> bool
+    ensures { λ r. ⌜ r ≡ eqb (thread op) core ⌝ }
+{
+    match op {
+        Op::Load { thread, .. } => thread == core,
+        Op::Store { thread, .. } => thread == core,
+        Op::Swap { thread, .. } => thread == core,
+        Op::Fence { thread } => thread == core,
+    }
+}
 
 // Whether some record is of a thread. Past the array stands what is of thread 0.
 fn shows(t: Trace, thread: u8) -> bool
@@ -17,7 +32,7 @@ fn shows(t: Trace, thread: u8) -> bool
         }
         let record = t.records[i];
         let op = record.op;
-        if op.thread() == thread {
+        if is_of(op, thread) {
             return true;
         }
         i += 1;

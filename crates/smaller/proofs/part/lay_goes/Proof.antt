@@ -1,17 +1,20 @@
 -- `smaller::part::lay_goes`: the sources of the loads below `load` are laid, and then chained.
 use mathlib.Core.Path.{sym, ap, _∙_, subst}
 use Rattle.rows.specs.Empty.{emptyOf}
-use Rattle.rows.specs.Put.{putOf}
+use Rattle.rows.specs.Put.{putIf}
 use Rattle.orders.proofs.Accepted.{well-fits}
-use mathlib.Core.Bool.{So}
+use mathlib.Core.Bool.{Bool, So}
 use Prim.Native.Nat.{ℕ, _+_, _-_, _≤_}
 use native.Mathlib.Omega.{arith}
 use lib.ListN.{length}
 use borrow.Author.Needs.{needs}
+use Rattle.trace.specs.Op.{writes}
+use Rattle.trace.specs.Trace.{at}
+use Rattle.trace.specs.declared.Op.{Op}
 use Rattle.trace.specs.Meaning.{frameOf}
 use Rattle.trace.specs.WellFormed.{wellFormed}
 use Rattle.trace.proofs.Good.{good}
-use Rattle.smaller.proofs.Rows.{Lays, lays-none, lays-more, lays-chains}
+use Rattle.smaller.proofs.Rows.{Lays, lays-none, lays-more, lays-chains, put-source}
 use Rattle.smaller.proofs.part.lay_goes.Statement.{statement}
 use Rattle.smaller.proofs.part.lay_goes.Tie as tie
 
@@ -31,8 +34,14 @@ loop-holds c = let s = c .before .before .before .before .before in
 source-of-requires : tie.Need-source-of-requires Inv-loop μ-loop
 source-of-requires c κs = search needs
 
-put-requires : tie.Need-put-requires Inv-loop μ-loop
-put-requires c κs = search needs
+op-at-requires : tie.Need-op-at-requires Inv-loop μ-loop
+op-at-requires c κs = search needs
+
+takes-readers-requires : tie.Need-takes-readers-requires Inv-loop μ-loop
+takes-readers-requires c κs = search needs
+
+put-if-requires : tie.Need-put-if-requires Inv-loop μ-loop
+put-if-requires c κs = search needs
 
 add-load : tie.Need-add-load Inv-loop μ-loop
 add-load c = search needs
@@ -42,13 +51,17 @@ loop-less c = search needs
 
 loop-again : tie.Need-loop-again Inv-loop μ-loop
 unfolding frameOf
-loop-again c = let p = c .before .before .put in
-    let o = c .before .before .before .source-of in
-    let l = c .before .before .before .before .before .before .loop in
-    let s = c .before .before .before .before .before .before .before .before .before .before .before .before in
-    let f = frameOf (s .args .t) in (
+loop-again c = let p = c .before .before .put-if in
+    let k = c .before .before .before .takes-readers in
+    let a = c .before .before .before .before .op-at in
+    let o = c .before .before .before .before .before .before .source-of in
+    let l = c .before .before .before .before .before .before .before .before .loop in
+    let s = c .before .before .before .before .before .before .before .before .before .before .before .before .before .before in
+    let f = frameOf (s .args .t) in
+    let asked = k .ensures ∙ ap (λ (x : Op). writes x) (a .ensures) in
+    let same = ap (λ (w : Bool). putIf (l .goes) w (o .result) (l .load)) asked ∙ ap (λ (x : ℕ). putIf (l .goes) (writes (at (s .args .t) x)) x (l .load)) (o .ensures) ∙ put-source (s .args .t) (l .load) (l .goes) in (
       omega arith,
-      λ w. subst (Lays f (good (s .args .t) w) (l .load + 1)) (sym (p .ensures ∙ ap (λ (x : ℕ). putOf (l .goes) x (l .load)) (o .ensures)))
+      λ w. subst (Lays f (good (s .args .t) w) (l .load + 1)) (sym (p .ensures ∙ same))
           (lays-more f (good (s .args .t) w) (well-fits (s .args .t) w) (l .load) (omega arith) (l .goes) (l .inv .1 w)),
     )
 
@@ -75,7 +88,9 @@ lay-goes-spec =
     clear-requires
     loop-holds
     source-of-requires
-    put-requires
+    op-at-requires
+    takes-readers-requires
+    put-if-requires
     add-load
     loop-less
     loop-again

@@ -6,7 +6,6 @@ use Prim.Native.Nat.{_-_}
 use lib.Dec.{eqb}
 use lib.ListN.{length-map}
 use borrow.Author.Needs.{needs}
-use borrow.Author.Tests.{eq-eqb, ne-eqb}
 use Rattle.laws.specs.Tests.{any}
 use Rattle.laws.proofs.Loops.{any-more, any-stops, any-fewer}
 use Rattle.trace.specs.Op.{thread}
@@ -39,12 +38,12 @@ mul-record c = search needs
 element-copy-out-record : tie.Need-element-copy-out-record Inv-loop μ-loop
 element-copy-out-record c = search needs
 
-thread-requires : tie.Need-thread-requires Inv-loop μ-loop
-thread-requires c κs = search needs
+is-of-requires : tie.Need-is-of-requires Inv-loop μ-loop
+is-of-requires c κs = search needs
 
 returns-2 : tie.Need-returns-2 Inv-loop μ-loop
 unfolding shows
-returns-2 c = sym (any-stops _ _ _ (c .before .before .before .before .loop-test .taken) (eq-eqb _ _ (sym (c .before .thread .ensures) ∙ c .if2 .taken)))
+returns-2 c = sym (any-stops _ _ _ (c .before .before .before .before .loop-test .taken) (sym (c .before .is-of .ensures) ∙ c .if2 .taken))
 
 add-i : tie.Need-add-i Inv-loop μ-loop
 add-i c = search needs
@@ -53,7 +52,7 @@ loop-less : tie.Need-loop-less Inv-loop μ-loop
 loop-less c = search needs
 
 loop-again : tie.Need-loop-again Inv-loop μ-loop
-loop-again c = any-more _ _ (c .before .before .before .before .before .loop .inv) (ne-eqb _ _ (λ q. c .if2 .left (c .before .thread .ensures ∙ q)))
+loop-again c = any-more _ _ (c .before .before .before .before .before .loop .inv) (sym (c .before .is-of .ensures) ∙ c .if2 .left)
 
 returns-3 : tie.Need-returns-3 Inv-loop μ-loop
 unfolding shows
@@ -69,7 +68,7 @@ shows-spec =
     returns
     mul-record
     element-copy-out-record
-    thread-requires
+    is-of-requires
     returns-2
     add-i
     loop-less
