@@ -215,6 +215,9 @@ static void print_packed(void) {
     printf("packed: %u bytes of %u\n", (unsigned)len, (unsigned)text_len);
     wheelotter_unpack(file, len, unpacked, sizeof unpacked);
     printf("unpacked: %u bytes\n", number(unpacked));
+    static uint8_t session[WHEELOTTER_SESSION];
+    uint8_t opened = wheelotter_open_file(file, len, WHEELOTTER_TSO, session, sizeof session);
+    printf("opened from its file: %s; ask 3 2: %s\n", word(opened), word(wheelotter_ask(session, WHEELOTTER_HEAD + len, 3, 2)));
     file[WHEELOTTER_ENTRIES] = 4;
     printf("with another kind: number %u line %u\n", wheelotter_file_number(file, len), (unsigned)wheelotter_file_line(file, len));
 }

@@ -261,6 +261,10 @@ size_t wheelotter_reads(const uint8_t *text, size_t text_len, const uint64_t *wo
  *   WHEELOTTER_DONE. */
 uint8_t wheelotter_open(const uint8_t *text, size_t text_len, uint8_t model, uint8_t *session, size_t session_len);
 
+/* The same on a packed file, which is held to what wheelotter_file_number tells: 18, 19, 20, 4, 6, 7, 8 or 22 comes before WHEELOTTER_NO_MODEL. The file
+ * that a session keeps behind its head may skip a core while records still come; opened by itself it is turned back as 22 until none is missing. */
+uint8_t wheelotter_open_file(const uint8_t *file, size_t file_len, uint8_t model, uint8_t *session, size_t session_len);
+
 /* Supposes that record x came before record y: WHEELOTTER_DONE, or WHEELOTTER_NO_SESSION to WHEELOTTER_MANY_PAIRS, and the session stays
  * as it was. */
 uint8_t wheelotter_suppose(uint8_t *session, size_t session_len, size_t x, size_t y);

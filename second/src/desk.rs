@@ -326,22 +326,24 @@ impl<'a> Page<'a> {
 
     /// The answer, and the session that then stands in front of the lent memory, if any does.
     pub fn open(&self, model: u8, lent: &mut [u8]) -> (u8, Option<Talk>) {
-        let opened = match &self.reading {
-            Err(refusal) => Err(refusal.number),
-            Ok(trace) => Talk::open(trace, model.into()).map_err(|refused| refused.number),
-        };
-        let (answer, talk) = match opened {
-            Ok(talk) => (DONE, talk),
-            Err(number) => (number, Talk::of_nothing()),
-        };
-        let file = file_of(&talk.session().trace);
-        let Some(place) = lent.get_mut(..HEAD + file.len()) else {
-            return (if answer == DONE { NO_ROOM } else { answer }, None);
-        };
-        place[..HEAD].copy_from_slice(&head_of(talk.session()));
-        place[HEAD..].copy_from_slice(&file);
-        (answer, Some(talk))
+        open_on(self.reading.as_ref().map_err(|refusal| refusal.number), model, lent)
     }
+}
+
+/// The same on what was read of a text or a packed file: its trace, or the number under which it is turned back.
+pub fn open_on(reading: Result<&Trace, u8>, model: u8, lent: &mut [u8]) -> (u8, Option<Talk>) {
+    let opened = reading.and_then(|trace| Talk::open(trace, model.into()).map_err(|refused| refused.number));
+    let (answer, talk) = match opened {
+        Ok(talk) => (DONE, talk),
+        Err(number) => (number, Talk::of_nothing()),
+    };
+    let file = file_of(&talk.session().trace);
+    let Some(place) = lent.get_mut(..HEAD + file.len()) else {
+        return (if answer == DONE { NO_ROOM } else { answer }, None);
+    };
+    place[..HEAD].copy_from_slice(&head_of(talk.session()));
+    place[HEAD..].copy_from_slice(&file);
+    (answer, Some(talk))
 }
 
 /// A verdict's answer, with its bytes laid down; None where this package does not know it.

@@ -107,6 +107,10 @@ fn print_packed(text: &[u8]) {
     };
     println!("packed: {} bytes of {}", file.len(), text.len());
     println!("unpacked: {} bytes", unpack(&file).map_or(0, |text| text.len()));
+    match Session::open_file(&file, Model::Tso) {
+        Err(_) => println!("opened from its file: refused"),
+        Ok(session) => println!("opened from its file: done; ask 3 2: {}", asked(session.ask(3, 2))),
+    }
     file[ENTRIES] = 4;
     if let Err(refusal) = check_file(&file) {
         println!("with another kind: number {} line {}", refusal.answer as u8, refusal.line);

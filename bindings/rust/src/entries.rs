@@ -56,6 +56,7 @@ mod linked {
             reads_len: usize,
         ) -> usize;
         pub fn wheelotter_open(text: *const u8, text_len: usize, model: u8, session: *mut u8, session_len: usize) -> u8;
+        pub fn wheelotter_open_file(file: *const u8, file_len: usize, model: u8, session: *mut u8, session_len: usize) -> u8;
         pub fn wheelotter_suppose(session: *mut u8, session_len: usize, x: usize, y: usize) -> u8;
         pub fn wheelotter_take_back(session: *mut u8, session_len: usize) -> u8;
         pub fn wheelotter_ask(session: *const u8, session_len: usize, x: usize, y: usize) -> u8;
@@ -189,6 +190,11 @@ pub fn reads(text: &[u8], words: &[u64], reads: &mut [u16]) -> usize {
 /// empty text under model 1, if there is room for it. Where else `session` is too short it stays as it was.
 pub fn open(text: &[u8], model: u8, session: &mut [u8]) -> u8 {
     unsafe { linked::wheelotter_open(text.as_ptr(), text.len(), model, session.as_mut_ptr(), session.len()) }
+}
+
+/// The same on a packed file: what is wrong with the file comes first, a lost core too.
+pub fn open_file(file: &[u8], model: u8, session: &mut [u8]) -> u8 {
+    unsafe { linked::wheelotter_open_file(file.as_ptr(), file.len(), model, session.as_mut_ptr(), session.len()) }
 }
 
 /// Supposes that x came before y. Refused, the session stays as it was.

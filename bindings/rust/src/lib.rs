@@ -328,6 +328,14 @@ impl Session {
         Ok(Session { bytes })
     }
 
+    /// The same on a packed file. It is turned back where it lost a core; what a session keeps may have lost one, and is taken up by its bytes.
+    pub fn open_file(file: &[u8], model: Model) -> Result<Session, Answer> {
+        let mut bytes = vec![0; SESSION];
+        done(entries::open_file(file, model as u8, &mut bytes))?;
+        bytes.truncate(HEAD + file_length(&bytes[HEAD..]));
+        Ok(Session { bytes })
+    }
+
     /// Supposes that x came before y; at most [`PAIRS`] pairs stand. Refused, the session stays as it was.
     pub fn suppose(&mut self, x: usize, y: usize) -> Result<(), Answer> {
         done(entries::suppose(&mut self.bytes, x, y))

@@ -236,6 +236,28 @@ fn records_that_come() {
     assert_eq!(bytes, [before.as_bytes(), &[7; RECORD]].concat());
 }
 
+/// A packed file opens the session that its text does. The file that a session keeps may have lost a core while records come: by its bytes the session
+/// goes on, by that file alone it is turned back.
+#[test]
+fn sessions_from_files() {
+    let opened = Session::open_file(PACKED, Model::Tso).expect("opens");
+    assert_eq!(opened, Session::open(BUFFERS, Model::Tso).expect("opens"));
+    let mut session = opened.clone();
+    assert_eq!(session.add(Record::Fence { thread: 3 }), Ok(()));
+    assert_eq!(Session::open_file(&session.as_bytes()[HEAD..], Model::Tso), Err(Answer::LostCore));
+    assert_eq!(Session::from(session.as_bytes().to_vec()).ask(1, 2), Ok(Asked::Held));
+    assert_eq!(session.add(Record::Fence { thread: 2 }), Ok(()));
+    assert_eq!(Session::open_file(&session.as_bytes()[HEAD..], Model::Tso), Ok(session));
+    assert_eq!(Session::open_file(&PACKED[1..], Model::Tso), Err(Answer::NoFile));
+    let mut lent = [7; SESSION];
+    assert_eq!(entries::open_file(PACKED, 0, &mut lent), Answer::NoModel as u8);
+    let empty = Session::open(b"", Model::Sc).expect("opens");
+    assert_eq!(lent[..HEAD + ENTRIES], *empty.as_bytes());
+    assert!(lent[HEAD + ENTRIES..].iter().all(|&byte| byte == 7));
+    assert_eq!(entries::open_file(PACKED, 2, &mut [0; HEAD]), Answer::NoRoom as u8);
+    assert_eq!(entries::open_file(&PACKED[..9], 9, &mut []), Answer::NoFile as u8, "what is wrong with the file comes first");
+}
+
 #[test]
 fn bytes_from_anywhere() {
     let session = Session::open(BUFFERS, Model::Tso).expect("opens");

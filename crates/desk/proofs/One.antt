@@ -47,6 +47,8 @@ use Rattle.desk.proofs.packs.wheelotter_file_line.Reads as file-line
 use Rattle.desk.proofs.packs.wheelotter_file_line.Kinds as file-line-kinds
 use Rattle.desk.proofs.sessions.wheelotter_open.Reads as opens
 use Rattle.desk.proofs.sessions.wheelotter_open.Kinds as open-kinds
+use Rattle.desk.proofs.sessions.wheelotter_open_file.Reads as open-file
+use Rattle.desk.proofs.sessions.wheelotter_open_file.Kinds as open-file-kinds
 use Rattle.desk.proofs.sessions.wheelotter_suppose.Reads as suppose
 use Rattle.desk.proofs.sessions.wheelotter_suppose.Kinds as suppose-kinds
 use Rattle.desk.proofs.sessions.wheelotter_take_back.Reads as take-back
@@ -152,6 +154,12 @@ open-settles κs a x y s t p q = p .0 ∙ sym (q .0)
 
 pub open-leaves : Leaves 2 open-kinds.ps open-kinds.r (λ κs s. now (s .1 .1 .0)) opens.Post
 open-leaves κs a x y s t p q = p .1 closings-some ∙ sym (q .1 closings-some)
+
+pub open-file-settles : Settles 2 open-file-kinds.ps open-file-kinds.r open-file.Post
+open-file-settles κs a x y s t p q = p .0 ∙ sym (q .0)
+
+pub open-file-leaves : Leaves 2 open-file-kinds.ps open-file-kinds.r (λ κs s. now (s .1 .1 .0)) open-file.Post
+open-file-leaves κs a x y s t p q = p .1 closings-some ∙ sym (q .1 closings-some)
 
 pub suppose-settles : Settles 1 suppose-kinds.ps suppose-kinds.r suppose.Post
 suppose-settles κs a x y s t p q = p closings-some .0 ∙ sym (q closings-some .0)

@@ -1,9 +1,10 @@
 -- What opening a session into lent bytes comes to.
 --
---   bad-number, bad-session, good-number, good-session == by whether the text is good
+--   bad-number, bad-session, good-number, good-session == by whether what was read is good
 --   session-intact == the session laid down is intact
---   never-ten      == 10 never comes
---   opened-trace   == where one is opened it is on the text's trace
+--   opened-trace   == where one is opened it is on the trace that was read
+--   well-ten       == a well formed trace never opens as 10
+--   never-ten, file-never-ten == so 10 never comes for a text, nor for a packed file
 --   open-turned, open-done, no-room == the answer, as the entry learns it
 --   opened-bytes   == the bytes of an opened session
 --   after-bytes    == opened bytes after any calls, adding among them, are those of the session made afresh on the records so far with the pairs still
@@ -22,6 +23,13 @@ use Rattle.laws.proofs.Tests.{eq?, test}
 use Rattle.text.specs.Room.{putAt}
 use Rattle.text.proofs.Put.{put-front}
 use Rattle.packed.specs.Layout.{fileOf}
+use Rattle.packed.specs.declared.Reason.the-variants as reason
+use Rattle.packed.specs.declared.Answer as packed
+use Rattle.packed.specs.declared.Answer.the-variants as unpacked
+use Rattle.packed.proofs.Codec.{Bytes}
+use Rattle.packed.proofs.Whole as files
+use Rattle.packed.specs.Whole as whole
+use Rattle.trace.specs.WellFormed.{wellFormed}
 use Rattle.trace.specs.declared.Trace.{Trace}
 use Rattle.reader.specs.Whole.{readWhole}
 use Rattle.reader.specs.declared.Reason.the-variants.{LongText, LongLine, NoForm, PastBound, Addresses, FirstValue, TooMany, Twice, Late}
@@ -45,94 +53,66 @@ use Rattle.desk.specs.Answers.{NO-ROOM}
 use Rattle.desk.specs.Text.{numberIn, numberOf}
 use Rattle.desk.specs.Head.{HEAD, headOf, bytesOf}
 use Rattle.desk.specs.Acts.{codeOf, bytesAfter}
-use Rattle.desk.specs.Opened.{openFile, roomy, openNumber, openSession, openAnswer, openBytes}
+use Rattle.desk.specs.File.{fileNumberIn}
+use Rattle.desk.specs.Packs.{wholeNumber, wholeTrace}
+use Rattle.desk.specs.Opened.{roomy, openNumber, openSession, openAnswer, openBytes}
 use Rattle.desk.proofs.Laying.{head-long}
 use Rattle.desk.proofs.Acting.{bytes-after, code-done}
 
-module _ (text : List ℕ) (m : ℕ) where
-  -- the trace that the text writes
-  abbrev trace : Trace
-  trace = readWhole text .trace
-
-  module _ (g : numberOf text ≡ 0) where
-    pub good-number : openNumber text m ≡ codeOf (openingOf trace m)
+module _ (n : ℕ) (trace : Trace) (m : ℕ) where
+  module _ (g : n ≡ 0) where
+    pub good-number : openNumber n trace m ≡ codeOf (openingOf trace m)
     unfolding openNumber
     good-number = rw (eq-eqb _ _ g) refl
 
-    pub good-session : (C : Closings) → openSession C text m ≡ openOf C trace m .session
+    pub good-session : (C : Closings) → openSession C n trace m ≡ openOf C trace m .session
     unfolding openSession
     good-session C = rw (eq-eqb _ _ g) refl
 
-  module _ (d : numberOf text ≢ 0) where
-    pub bad-number : openNumber text m ≡ numberOf text
+  module _ (d : n ≢ 0) where
+    pub bad-number : openNumber n trace m ≡ n
     unfolding openNumber
     bad-number = rw (ne-eqb _ _ d) refl
 
-    pub bad-session : (C : Closings) → openSession C text m ≡ blank C
+    pub bad-session : (C : Closings) → openSession C n trace m ≡ blank C
     unfolding openSession
     bad-session C = rw (ne-eqb _ _ d) refl
 
-  pub session-intact : (C : Closings) → Intact C (openSession C text m)
-  session-intact C = elim (eq? (numberOf text) 0) [
+  pub session-intact : (C : Closings) → Intact C (openSession C n trace m)
+  session-intact C = elim (eq? n 0) [
     | inl g ↦ subst (λ (s : Session). Intact C s) (sym (good-session g C)) (opened-intact C trace m)
     | inr d ↦ subst (λ (s : Session). Intact C s) (sym (bad-session d C)) (blank-intact C)
   ]
 
-  -- a text that was read is well formed, so that 10 never comes
-  pub never-ten : openNumber text m ≢ 10
-  never-ten z = elim (eq? (numberOf text) 0) [
-    | inl g ↦ good-ten (sym (good-number g) ∙ z)
-    | inr d ↦ bad-ten (readWhole text .answer) (sym (bad-number d) ∙ z)
-  ]
-    where
-      good-ten : codeOf (openingOf trace m) ≡ 10 → ⊥
-      good-ten e = elim (test (modelled m)) [
-        | inl h ↦ let q : codeOf Done ≡ 10 = sym (ap codeOf (opening-asks trace m h (whole-well text))) ∙ e in omega arith
-        | inr n ↦ let q : codeOf (Refused NoModel) ≡ 10 = sym (ap codeOf (opening-nine trace m n)) ∙ e in omega arith
-      ]
-
-      bad-ten : (a : told.Answer) → numberIn a ≡ 10 → ⊥
-      bad-ten turned.Good e = omega arith
-      bad-ten (turned.Refused LongText n) e = omega arith
-      bad-ten (turned.Refused LongLine n) e = omega arith
-      bad-ten (turned.Refused NoForm n) e = omega arith
-      bad-ten (turned.Refused PastBound n) e = omega arith
-      bad-ten (turned.Refused Addresses n) e = omega arith
-      bad-ten (turned.Refused FirstValue n) e = omega arith
-      bad-ten (turned.Refused TooMany n) e = omega arith
-      bad-ten (turned.Refused Twice n) e = omega arith
-      bad-ten (turned.Refused Late n) e = omega arith
-      bad-ten turned.Lost e = omega arith
-
-  -- an opened session is on the text's trace
-  pub opened-trace : openNumber text m ≡ 0 → (C : Closings) → openSession C text m .trace ≡ trace
+  -- an opened session is on the trace that was read
+  pub opened-trace : openNumber n trace m ≡ 0 → (C : Closings) → openSession C n trace m .trace ≡ trace
   unfolding openable afresh
-  opened-trace z C = elim (eq? (numberOf text) 0) [
+  opened-trace z C = elim (eq? n 0) [
     | inl g ↦ ap (λ (s : Session). s .trace) (good-session g C ∙ opened C trace m (code-done (openingOf trace m) (sym (good-number g) ∙ z)))
     | inr d ↦ absurd (d (sym (bad-number d) ∙ z))
   ]
 
   module _ (b : List ℕ) where
-    pub open-turned : openNumber text m ≢ 0 → openAnswer text m b ≡ openNumber text m
+    pub open-turned : openNumber n trace m ≢ 0 → openAnswer n trace m b ≡ openNumber n trace m
     unfolding openAnswer
-    open-turned d = rw (ne-eqb (openNumber text m) 0 d) refl
+    open-turned d = rw (ne-eqb (openNumber n trace m) 0 d) refl
 
-    module _ (z : openNumber text m ≡ 0) (C : Closings) where
+    module _ (z : openNumber n trace m ≡ 0) (C : Closings) where
       -- room for the session is room for a head and the file
-      same-room : leb (length (bytesOf (openSession C text m))) (length b) ≡ roomy text b
+      same-room : leb (length (bytesOf (openSession C n trace m))) (length b) ≡ roomy trace b
       same-room =
-          let s = openSession C text m in
+          let s = openSession C n trace m in
           ap (λ (n : ℕ). leb n (length b)) (length-append (headOf s) (fileOf (s .trace)) ∙ ap₂ (λ (n : ℕ) (t : Trace). n + length (fileOf t)) (head-long s) (opened-trace z C))
 
-      pub open-done : So (leb (length (bytesOf (openSession C text m))) (length b)) → openAnswer text m b ≡ 0
+      pub open-done : So (leb (length (bytesOf (openSession C n trace m))) (length b)) → openAnswer n trace m b ≡ 0
       unfolding openAnswer
-      open-done r = let y : So (roomy text b) = sym same-room ∙ r in rw (eq-eqb (openNumber text m) 0 z, y) refl
+      open-done r = let y : So (roomy trace b) = sym same-room ∙ r in rw (eq-eqb (openNumber n trace m) 0 z, y) refl
 
-      pub no-room : leb (length (bytesOf (openSession C text m))) (length b) ≡ false → openAnswer text m b ≡ NO-ROOM
+      pub no-room : leb (length (bytesOf (openSession C n trace m))) (length b) ≡ false → openAnswer n trace m b ≡ NO-ROOM
       unfolding openAnswer
-      no-room r = let n : roomy text b ≡ false = sym same-room ∙ r in rw (eq-eqb (openNumber text m) 0 z, n) refl
+      no-room r = let y : roomy trace b ≡ false = sym same-room ∙ r in rw (eq-eqb (openNumber n trace m) 0 z, y) refl
 
-    module _ (C : Closings) (g : numberOf text ≡ 0) (o : So (openable trace m)) (l : length b ≡ HEAD + length (openFile text)) where
+    module _ (C : Closings) (g : n ≡ 0) (o : So (openable trace m)) (l : length b ≡ HEAD + length (fileOf trace)) where
       -- the opened session, and its trace
       abbrev first : Session
       first = openOf C trace m .session
@@ -141,22 +121,62 @@ module _ (text : List ℕ) (m : ℕ) where
       unfolding afresh
       on-trace = ap (λ (s : Session). s .trace) (opened C trace m o)
 
-      pub opened-bytes : openBytes C text m b ≡ bytesOf first
+      pub opened-bytes : openBytes C n trace m b ≡ bytesOf first
       unfolding openBytes
       opened-bytes =
-          let n : length (bytesOf first) ≡ length b = length-append (headOf first) (fileOf (first .trace)) ∙ ap₂ (λ (n : ℕ) (t : Trace). n + length (fileOf t)) (head-long first) on-trace ∙ sym l in
+          let k : length (bytesOf first) ≡ length b = length-append (headOf first) (fileOf (first .trace)) ∙ ap₂ (λ (n : ℕ) (t : Trace). n + length (fileOf t)) (head-long first) on-trace ∙ sym l in
           ap (λ (s : Session). putAt (bytesOf s) b 0) (good-session g C)
           ∙ put-front (bytesOf first) b (omega arith)
           ∙ ap (λ (r : List ℕ). bytesOf first ++ r) (drop-of-length-le b {i = length (bytesOf first)} (omega arith))
           ∙ append-nil (bytesOf first)
 
-      run : (cs : List Act) → bytesAfter C (openBytes C text m b) cs ≡ bytesOf (after C first cs)
+      run : (cs : List Act) → bytesAfter C (openBytes C n trace m b) cs ≡ bytesOf (after C first cs)
       run cs = ap (λ (x : List ℕ). bytesAfter C x cs) opened-bytes ∙ bytes-after C cs first (opened-intact C trace m)
 
-      pub after-bytes : (cs : List Act) → bytesAfter C (openBytes C text m b) cs ≡ bytesOf (afresh C (recordedAfter trace cs) m (standingAfter trace [] cs))
+      pub after-bytes : (cs : List Act) → bytesAfter C (openBytes C n trace m b) cs ≡ bytesOf (afresh C (recordedAfter trace cs) m (standingAfter trace [] cs))
       after-bytes cs = run cs ∙ ap bytesOf (after-opened C trace m o cs)
 
-      pub again-bytes : (cs : List Act) → bytesAfter C (openBytes C text m b) cs ≡ bytesAfter C (bytesOf (openOf C (recordedAfter trace cs) m .session)) (supposeAll (standingAfter trace [] cs))
+      pub again-bytes : (cs : List Act) → bytesAfter C (openBytes C n trace m b) cs ≡ bytesAfter C (bytesOf (openOf C (recordedAfter trace cs) m .session)) (supposeAll (standingAfter trace [] cs))
       again-bytes cs =
           let u = recordedAfter trace cs in
           run cs ∙ ap bytesOf (after-again C trace m o cs) ∙ sym (bytes-after C (supposeAll (standingAfter trace [] cs)) (openOf C u m .session) (opened-intact C u m))
+
+-- a trace that was read is well formed, so that 10 never comes
+well-ten : (t : Trace) (m : ℕ) → So (wellFormed t) → codeOf (openingOf t m) ≡ 10 → ⊥
+well-ten t m w e = elim (test (modelled m)) [
+  | inl h ↦ let q : codeOf Done ≡ 10 = sym (ap codeOf (opening-asks t m h w)) ∙ e in omega arith
+  | inr n ↦ let q : codeOf (Refused NoModel) ≡ 10 = sym (ap codeOf (opening-nine t m n)) ∙ e in omega arith
+]
+
+ten : (n : ℕ) (t : Trace) (m : ℕ) → So (wellFormed t) → (n ≡ 10 → ⊥) → openNumber n t m ≢ 10
+ten n t m w h z = elim (eq? n 0) [ inl g ↦ well-ten t m w (sym (good-number n t m g) ∙ z) | inr d ↦ h (sym (bad-number n t m d) ∙ z) ]
+
+pub never-ten : (text : List ℕ) (m : ℕ) → openNumber (numberOf text) (readWhole text .trace) m ≢ 10
+never-ten text m = ten (numberOf text) (readWhole text .trace) m (whole-well text) (bad-ten (readWhole text .answer))
+  where
+    bad-ten : (a : told.Answer) → numberIn a ≡ 10 → ⊥
+    bad-ten turned.Good e = omega arith
+    bad-ten (turned.Refused LongText n) e = omega arith
+    bad-ten (turned.Refused LongLine n) e = omega arith
+    bad-ten (turned.Refused NoForm n) e = omega arith
+    bad-ten (turned.Refused PastBound n) e = omega arith
+    bad-ten (turned.Refused Addresses n) e = omega arith
+    bad-ten (turned.Refused FirstValue n) e = omega arith
+    bad-ten (turned.Refused TooMany n) e = omega arith
+    bad-ten (turned.Refused Twice n) e = omega arith
+    bad-ten (turned.Refused Late n) e = omega arith
+    bad-ten turned.Lost e = omega arith
+
+pub file-never-ten : (b : List ℕ) → Bytes b → (m : ℕ) → openNumber (wholeNumber b) (wholeTrace b) m ≢ 10
+file-never-ten b h m = ten (wholeNumber b) (wholeTrace b) m (files.whole-well b h) (bad-ten (whole.readWhole b .answer))
+  where
+    bad-ten : (a : packed.Answer) → fileNumberIn a ≡ 10 → ⊥
+    bad-ten unpacked.Good e = omega arith
+    bad-ten (unpacked.Refused reason.PastBound n) e = omega arith
+    bad-ten (unpacked.Refused reason.FirstValue n) e = omega arith
+    bad-ten (unpacked.Refused reason.TooMany n) e = omega arith
+    bad-ten (unpacked.Refused reason.Twice n) e = omega arith
+    bad-ten (unpacked.Refused reason.NoFile n) e = omega arith
+    bad-ten (unpacked.Refused reason.OtherVersion n) e = omega arith
+    bad-ten (unpacked.Refused reason.NoEntry n) e = omega arith
+    bad-ten (unpacked.Refused reason.Lost n) e = omega arith

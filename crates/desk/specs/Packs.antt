@@ -8,6 +8,7 @@
 --   answerFor n bs b == the answer where n is the number of what is wrong, and else bs is to be laid into b: n; else 21 where there is no room, else 0
 --   bytesFor n bs b  == what b holds then: what is counted in front and all behind it as it was; beside a refusal all as it was
 --   wholeNumber b    == document 02's number of a file, held to lost cores; 0 for a good one
+--   wholeTrace b     == the trace of a file; the empty one where it is turned back
 --   fileLineIn a     == the line in the packed reader's answer; 0 for a good file
 --   wholeLine b      == the line of a file
 --   packOf words     == the packed file of a text's trace
@@ -19,6 +20,7 @@ use Prim.Native.Nat.{ℕ, _≤_}
 use lib.Dec.{eqb, leb}
 use lib.ListN.{length, take}
 use Rattle.trace.specs.Bounds.{RECORDS, ADDRESSES}
+use Rattle.trace.specs.declared.Trace.{Trace}
 use Rattle.text.specs.Room.{putAt}
 use Rattle.reader.specs.TextOf.{renderTrace}
 use Rattle.reader.specs.Whole as text
@@ -62,6 +64,9 @@ bytesFor n bs b = cond (eqb n 0) (putAt (counted bs) b 0) b
 abbrev pub wholeNumber : List ℕ → ℕ
 wholeNumber b = fileNumberIn (file.readWhole b .answer)
 
+abbrev pub wholeTrace : List ℕ → Trace
+wholeTrace b = file.readWhole b .trace
+
 abbrev pub fileLineIn : Answer → ℕ
 fileLineIn Good = 0
 fileLineIn (Refused reason line) = line
@@ -73,4 +78,4 @@ abbrev pub packOf : List ℕ → List ℕ
 packOf words = fileOf (text.readWhole words .trace)
 
 abbrev pub unpackOf : List ℕ → List ℕ
-unpackOf b = renderTrace (file.readWhole b .trace)
+unpackOf b = renderTrace (wholeTrace b)

@@ -26,6 +26,7 @@ pub enum Call {
     Waiting { room: usize },
     Pack { room: usize },
     Unpack { room: usize },
+    OpenFile { model: u8, room: usize },
     FileNumber,
     FileLine,
     Words,
@@ -41,7 +42,7 @@ pub const OTHER_MODELS: [u8; 5] = [0, LAST_MODEL + 1, LAST_MODEL + 2, 128, 255];
 pub const LAST_MODEL: u8 = MODELS as u8;
 
 /// The entries' names without the front that all share.
-pub const ENTRIES: [&str; 26] = [
+pub const ENTRIES: [&str; 27] = [
     "report",
     "number",
     "line",
@@ -68,6 +69,7 @@ pub const ENTRIES: [&str; 26] = [
     "loads",
     "signature",
     "reads",
+    "open_file",
 ];
 
 impl Call {
@@ -100,6 +102,7 @@ impl Call {
             Call::Loads => 23,
             Call::Signature { .. } => 24,
             Call::Reads { .. } => 25,
+            Call::OpenFile { .. } => 26,
         }
     }
 
@@ -121,7 +124,7 @@ impl fmt::Display for Call {
             Call::Steps { model, list, room } => write!(f, " under {model} of {list:?} into {room} bytes"),
             Call::Smaller { model, room } => write!(f, " under {model} into {room} bytes"),
             Call::Accepts { model, list } => write!(f, " under {model} of {list:?}"),
-            Call::Open { model, room } => write!(f, " under {model} in {room} bytes"),
+            Call::Open { model, room } | Call::OpenFile { model, room } => write!(f, " under {model} in {room} bytes"),
             Call::Suppose { x, y } | Call::Ask { x, y } => write!(f, " {x} {y}"),
             Call::Add { fields } => write!(f, " {fields:?}"),
             Call::Waiting { room } => write!(f, " into {room} bytes"),

@@ -17,6 +17,7 @@ pub trait Desk: Sync {
     fn smaller(&self, text: &[u8], model: u8, out: &mut [u8]) -> u8;
     fn accepts(&self, text: &[u8], model: u8, list: &[u16]) -> u8;
     fn open(&self, text: &[u8], model: u8, session: &mut [u8]) -> u8;
+    fn open_file(&self, file: &[u8], model: u8, session: &mut [u8]) -> u8;
     fn suppose(&self, session: &mut [u8], x: usize, y: usize) -> u8;
     fn take_back(&self, session: &mut [u8]) -> u8;
     fn ask(&self, session: &[u8], x: usize, y: usize) -> u8;
@@ -74,6 +75,9 @@ impl Desk for Proved {
     }
     fn open(&self, text: &[u8], model: u8, session: &mut [u8]) -> u8 {
         entries::open(text, model, session)
+    }
+    fn open_file(&self, file: &[u8], model: u8, session: &mut [u8]) -> u8 {
+        entries::open_file(file, model, session)
     }
     fn suppose(&self, session: &mut [u8], x: usize, y: usize) -> u8 {
         entries::suppose(session, x, y)

@@ -13,7 +13,7 @@ use second::desk::{
     WRONG_LENGTH, WRONG_VALUE,
 };
 use second::families::FAMILIES;
-use second::packed::{file_of, FIRST, HEADER, RECORD};
+use second::packed::{file_of, read_entries, FIRST, HEADER, RECORD};
 use second::packs::{self, BYTES_AT};
 use second::session::{self, Session, MOST_PAIRS};
 use second::signatures::{layout, list, loads, pack_into, unpack_into};
@@ -30,7 +30,7 @@ struct Faulty(&'static str);
 
 const RIGHT: &str = "none";
 
-const FAULTS: [&str; 128] = [
+const FAULTS: [&str; 132] = [
     "report: a letter too far",
     "report: short memory written",
     "report: length of one line",
@@ -148,6 +148,10 @@ const FAULTS: [&str; 128] = [
     "file: 4 before 20",
     "file: the line is the record",
     "file: the length before the version",
+    "open file: a lost core taken",
+    "open file: one byte less is enough",
+    "open file: the model first",
+    "open file: refused, and memory stays",
     "words: one for every thread",
     "loads: stores too",
     "signature: last load least",
@@ -667,6 +671,28 @@ impl Desk for Faulty {
         }
         if answer != DONE && self.is("unpack: refused, and memory wiped") {
             out.fill(0);
+        }
+        answer
+    }
+
+    fn open_file(&self, file: &[u8], model: u8, session: &mut [u8]) -> u8 {
+        let before = session.to_vec();
+        if self.is("open file: a lost core taken") && packs::number(file) == 22 {
+            return desk::open_on(read_entries(file).as_ref().map_err(|refusal| refusal.number), model, session).0;
+        }
+        if self.is("open file: one byte less is enough") {
+            let mut wide = [&before[..], &[0]].concat();
+            let answer = packs::open(file, model, &mut wide);
+            session.copy_from_slice(&wide[..before.len()]);
+            return answer;
+        }
+        if self.is("open file: the model first") && Model::numbered(model.into()).is_none() {
+            packs::open(file, model, session);
+            return 9;
+        }
+        let answer = packs::open(file, model, session);
+        if self.is("open file: refused, and memory stays") && answer != DONE {
+            session.copy_from_slice(&before);
         }
         answer
     }

@@ -7,9 +7,12 @@ ghost use Prim.Native.Nat.{_≤_};
 ghost use lib.Dec.{leb};
 ghost use lib.ListN.{length, drop};
 ghost use Rattle.text.specs.Room.{putAt};
+ghost use Rattle.reader.specs.Whole.{readWhole};
 ghost use Rattle.session.specs.Closings.{Closings};
 ghost use Rattle.session.specs.Session.{blank};
 ghost use Rattle.session.specs.Numbers.{reasonNumber, supposes, takesBack, asks};
+ghost use Rattle.desk.specs.Text.{numberOf};
+ghost use Rattle.desk.specs.Packs.{wholeNumber, wholeTrace};
 ghost use Rattle.desk.specs.Head.{Fit, HEAD, headOf, bytesOf};
 ghost use Rattle.desk.specs.Kept.{keptOf};
 ghost use Rattle.desk.specs.Acts.{codeOf, answerIn, bytesIn};
@@ -39,6 +42,7 @@ use session::calls::ask;
 use session::calls::open;
 use session::calls::suppose;
 use session::calls::take_back;
+use trace::Trace;
 
 // Document 01's number of a session that is not one.
 pub(crate) const UNLIKE: u8 = 12;
@@ -144,18 +148,15 @@ fn leave(reply: Reply, session: &mut [u8]) -> u8
     code(answer)
 }
 
-// What opening a session on a text's trace comes to: the text's own number first.
-fn opening(text: &[u8], model: u8) -> Opened
-    ensures { λ r. ⌜ (r .number ≡ openNumber (now (text .entry)) model) × ((C : Closings) → r .session ≡ openSession C (now (text .entry)) model) ⌝ }
+// What opening a session on what was read comes to: the number of what is wrong with it first.
+fn opening(number: u8, t: Trace, model: u8) -> Opened
+    ensures { λ r. ⌜ (r .number ≡ openNumber number t model) × ((C : Closings) → r .session ≡ openSession C number t model) ⌝ }
 {
-    let reading = read_whole(text);
-    let told = reading.answer;
-    let number = number_in(told);
     if number != 0 {
         let session = blank();
         return Opened { number, session };
     }
-    let reply = open(reading.trace, model);
+    let reply = open(t, model);
     let answer = reply.answer;
     let session = reply.session;
     Opened {
@@ -183,22 +184,43 @@ pub(crate) fn placed(s: Session, out: &mut [u8]) -> bool
     }
 }
 
-// Opens a session with no pairs into lent bytes: 0, and its bytes; or why not, and where there is room the bytes of the session of the empty trace
-// under model 1. All other bytes stay.
-#[no_mangle]
-pub extern "C" fn wheelotter_open(text: &[u8], model: u8, session: &mut [u8]) -> u8
-    ensures { λ r. ⌜ (r ≡ openAnswer (now (text .entry)) model (now (session .entry))) × ((C : Closings) → now (session .exit) ≡ openBytes C (now (text .entry)) model (now (session .entry))) ⌝ }
+// The bytes of the session that is opened on what was read, where there is room for them; and what is wrong, then whether there was no room.
+fn open_on(number: u8, t: Trace, model: u8, session: &mut [u8]) -> u8
+    ensures { λ r. ⌜ (r ≡ openAnswer number t model (now (session .entry))) × ((C : Closings) → now (session .exit) ≡ openBytes C number t model (now (session .entry))) ⌝ }
 {
-    let o = opening(text, model);
+    let o = opening(number, t, model);
     let room = placed(o.session, session);
-    let number = o.number;
-    if number != 0 {
-        return number;
+    let wrong = o.number;
+    if wrong != 0 {
+        return wrong;
     }
     if room {
         return 0;
     }
     NO_ROOM
+}
+
+// Opens a session with no pairs into lent bytes, on the trace of a text: 0, and its bytes; or why not, and where there is room the bytes of the session
+// of the empty trace under model 1. All other bytes stay.
+#[no_mangle]
+pub extern "C" fn wheelotter_open(text: &[u8], model: u8, session: &mut [u8]) -> u8
+    ensures { λ r. ⌜ (r ≡ openAnswer (numberOf (now (text .entry))) (readWhole (now (text .entry)) .trace) model (now (session .entry))) × ((C : Closings) → now (session .exit) ≡ openBytes C (numberOf (now (text .entry))) (readWhole (now (text .entry)) .trace) model (now (session .entry))) ⌝ }
+{
+    let reading = read_whole(text);
+    let told = reading.answer;
+    let number = number_in(told);
+    open_on(number, reading.trace, model, session)
+}
+
+// The same on the trace of a packed file, which may have lost no core either; what a session keeps may.
+#[no_mangle]
+pub extern "C" fn wheelotter_open_file(file: &[u8], model: u8, session: &mut [u8]) -> u8
+    ensures { λ r. ⌜ (r ≡ openAnswer (wholeNumber (now (file .entry))) (wholeTrace (now (file .entry))) model (now (session .entry))) × ((C : Closings) → now (session .exit) ≡ openBytes C (wholeNumber (now (file .entry))) (wholeTrace (now (file .entry))) model (now (session .entry))) ⌝ }
+{
+    let reading = unpacking::read_whole(file);
+    let told = reading.answer;
+    let number = files::number_in(told);
+    open_on(number, reading.trace, model, session)
 }
 
 // Supposes x before y in a session in bytes.

@@ -1,88 +1,39 @@
--- `desk::sessions::wheelotter_open`: the session's bytes where there is room for them; then what is wrong, or whether there was room.
-use mathlib.Core.Path.{_≡_, sym, ap, _∙_, subst}
-use mathlib.Core.List.{List}
-use lib.Dec.{leb}
-use lib.ListN.{length}
-use Rattle.text.specs.Room.{putAt}
-use Rattle.session.specs.Closings.{Closings}
-use Rattle.session.specs.declared.Session.{Session}
-use Rattle.session.proofs.Forcing.{closings-some}
-use Rattle.desk.specs.Head.{Fit, bytesOf}
-use Rattle.desk.specs.Opened.{openSession, openBytes}
-use Rattle.desk.proofs.Laying.{intact-fit}
-use Rattle.desk.proofs.Opens.{session-intact, open-turned, open-done, no-room}
+-- `desk::sessions::wheelotter_open`: a session opened on what a text says.
+use mathlib.Core.Path.{ap, _∙_}
+use Prim.Native.Nat.{ℕ}
+use Rattle.reader.specs.declared.Reading.{Reading}
+use Rattle.desk.specs.Text.{numberIn}
+use Rattle.desk.specs.Opened.{openAnswer, openBytes}
 use borrow.Author.Needs.{needs}
 use Rattle.desk.proofs.sessions.wheelotter_open.Statement.{statement}
 use Rattle.desk.proofs.sessions.wheelotter_open.Tie as tie
 
--- the session that was opened fits
-fits : (c : tie.After-opening) → Fit (c .opening .result .session)
-fits c =
-    let a = c .before .before .before .args in
-    subst (λ (s : Session). Fit s) (sym (c .opening .ensures .1 closings-some)) (intact-fit closings-some _ (session-intact (a .text .now) (a .model) closings-some))
+read-whole-requires : tie.Need-read-whole-requires
+read-whole-requires c κs = search needs
 
--- what the bytes are then
-laid : (c : tie.After-placed) → let a = c .before .before .before .before .before .args in
-    (C : Closings) → c .placed .last .1 .0 ≡ openBytes C (a .text .now) (a .model) (a .session .now)
-unfolding openBytes
-laid c C =
-    let o = c .before .before in
-    let a = o .before .before .before .args in
-    c .placed .ensures .1 ∙ ap (λ (s : Session). putAt (bytesOf s) (a .session .now) 0) (o .opening .ensures .1 C)
+number-in-requires : tie.Need-number-in-requires
+number-in-requires c κs = search needs
 
--- whether there was room
-room : (c : tie.After-placed) → let a = c .before .before .before .before .before .args in
-    leb (length (bytesOf (openSession closings-some (a .text .now) (a .model)))) (length (a .session .now)) ≡ c .placed .result
-room c =
-    let o = c .before .before in
-    let a = o .before .before .before .args in
-    sym (c .placed .ensures .0 ∙ ap (λ (s : Session). leb (length (bytesOf s)) (length (a .session .now))) (o .opening .ensures .1 closings-some))
-
-opening-requires : tie.Need-opening-requires
-opening-requires c κs = search needs
-
-placed-requires : tie.Need-placed-requires
-placed-requires c κs = fits (c .before)
+open-on-requires : tie.Need-open-on-requires
+open-on-requires c κs = search needs
 
 same-length : tie.Need-same-length
 same-length c = search needs
 
 returns : tie.Need-returns
 returns c =
-    let p = c .before .before .before in
-    let o = p .before .before in
-    let a = o .before .before .before .args in
-    (o .opening .ensures .0 ∙ sym (open-turned (a .text .now) (a .model) (a .session .now) (λ z. c .if1 .taken (o .opening .ensures .0 ∙ z))), laid p)
-
-same-length-2 : tie.Need-same-length-2
-same-length-2 c = search needs
-
-returns-2 : tie.Need-returns-2
-returns-2 c =
-    let p = c .before .before .before .before in
-    let o = p .before .before in
-    let a = o .before .before .before .args in
-    (sym (open-done (a .text .now) (a .model) (a .session .now) (sym (o .opening .ensures .0) ∙ c .before .if1 .left) closings-some (room p ∙ c .if2 .taken)), laid p)
-
-same-length-3 : tie.Need-same-length-3
-same-length-3 c = search needs
-
-returns-3 : tie.Need-returns-3
-returns-3 c =
-    let p = c .before .before .before .before in
-    let o = p .before .before in
-    let a = o .before .before .before .args in
-    (sym (no-room (a .text .now) (a .model) (a .session .now) (sym (o .opening .ensures .0) ∙ c .before .if1 .left) closings-some (room p ∙ c .if2 .left)), laid p)
+    let l = c .before .before in
+    let n = l .before .before in
+    let r = n .before in
+    let a = r .before .before .before .args in (
+      l .open-on .ensures .0
+          ∙ ap (λ (k : ℕ). openAnswer k (r .read-whole .result .trace) (a .model) (a .session .now)) (n .number-in .ensures)
+          ∙ ap (λ (d : Reading). openAnswer (numberIn (d .answer)) (d .trace) (a .model) (a .session .now)) (r .read-whole .ensures),
+      λ C.
+          l .open-on .ensures .1 C
+          ∙ ap (λ (k : ℕ). openBytes C k (r .read-whole .result .trace) (a .model) (a .session .now)) (n .number-in .ensures)
+          ∙ ap (λ (d : Reading). openBytes C (numberIn (d .answer)) (d .trace) (a .model) (a .session .now)) (r .read-whole .ensures),
+    )
 
 pub wheelotter-open-spec : {M : Type 1} → statement M
-wheelotter-open-spec =
-    tie.close
-    (tie.spec
-    opening-requires
-    placed-requires
-    same-length
-    returns
-    same-length-2
-    returns-2
-    same-length-3
-    returns-3)
+wheelotter-open-spec = tie.close (tie.spec read-whole-requires number-in-requires open-on-requires same-length returns)
