@@ -5,22 +5,27 @@
 --   Counting f k ops m == ops is the set of the operations below k, and m their number
 --   counting-none, counting-more, counting-skip, counted == record by record, and past the last one
 --   sources-more == one source more
-use mathlib.Core.Path.{_≡_, refl, sym, ap, _∙_}
+--   lacks-read   == a record lacks its source, as it is read off the trace and the sources
+use mathlib.Core.Path.{_≡_, refl, sym, ap, _∙_, subst}
 use mathlib.Core.Logic.{_⊎_, inl, inr, _↔_}
-use mathlib.Core.Bool.{Bool, false, So, cond, false≢true}
+use mathlib.Core.Bool.{Bool, false, So, cond, not, _&&_, false≢true}
 use mathlib.Core.List.{List}
 use Prim.Native.Nat.{ℕ, _+_, _<_, _≤_}
 use native.Mathlib.Numerals.{add-one}
 use native.Mathlib.Omega.{arith}
 use borrow.Author.Count.{below-more}
+use lib.Dec.{eqb, leb}
 use lib.ListN.{length, getD, set}
 use lib.Seq.{getD-set-same, getD-set-other}
 use Rattle.laws.specs.Relation.{Table}
 use Rattle.laws.specs.Sums.{sum}
-use Rattle.laws.proofs.Tests.{eq?}
+use Rattle.laws.proofs.Tests.{eq?, so-lt}
 use Rattle.trace.specs.Bounds.{RECORDS}
 use Rattle.trace.specs.Frame.{Frame}
 use Rattle.trace.specs.Meaning.{frameOf}
+use Rattle.trace.specs.Op.{address, read, reads}
+use Rattle.trace.specs.Trace.{at, first}
+use Rattle.trace.specs.WellFormed.{wellFormed}
 use Rattle.trace.specs.declared.Trace.{Trace}
 use Rattle.trace.proofs.Meaning.{operation-iff}
 use Rattle.rows.specs.Bounds.{WORDS}
@@ -29,8 +34,10 @@ use Rattle.rows.specs.Empty.{emptyOf}
 use Rattle.rows.specs.Put.{putOf}
 use Rattle.rows.proofs.Whole.{empty-bit, empty-long}
 use Rattle.edges.specs.Adds.{Adds, Only, Union}
+use Rattle.rules.specs.Missing.{missing?}
 use Rattle.rules.specs.SourceOf.{sourceOf}
 use Rattle.orders.specs.Ready.{operations}
+use Rattle.orders.proofs.MissingOf.{lacks-parts}
 use Rattle.search.specs.Laying.{Filled, Counted}
 use Rattle.rows.proofs.Sets.{put-more}
 
@@ -98,3 +105,9 @@ pub sources-more : (f : Frame) (sources : List ℕ) (k : ℕ) → k < length sou
     → (L : ℕ) → L < k + 1 → getD (set sources k s) L 0 ≡ sourceOf f L
 sources-more f sources k l h s e =
     below-more _ k (λ L b. getD-set-other sources k L s 0 (λ d. omega arith) ∙ h L b) (getD-set-same sources k s 0 l ∙ e)
+
+pub lacks-read : (t : Trace) → So (wellFormed t) → (L : ℕ) → L < t .len → (a : Bool) (v u s : ℕ) → a ≡ reads (at t L) → v ≡ read (at t L) → u ≡ first t (address (at t L)) → s ≡ sourceOf (frameOf t) L
+    → (a && not (eqb v u) && leb RECORDS s) ≡ missing? (frameOf t) L
+lacks-read t w L l a v u s p q r o = rw (p, q, r, o) (
+    subst (λ (b : Bool). (b && reads (at t L) && not (eqb (read (at t L)) (first t (address (at t L)))) && leb RECORDS (sourceOf (frameOf t) L)) ≡ missing? (frameOf t) L) (so-lt .1 l) (lacks-parts t w L)
+    )

@@ -4,6 +4,7 @@ pub mod Refuting
 pub mod Memory
 pub mod Seeking
 pub mod Laying
+pub mod Rowing
 pub mod Guiding
 pub mod FirstOrder
 pub mod One

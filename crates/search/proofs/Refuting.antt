@@ -1,8 +1,10 @@
 -- Rows that rank no more than the rules make them.
 --
---   grown-none, grown-then, grown-if == nothing; one thing after another; one pair where a test passes
+--   grown-none, grown-then           == nothing; one thing after another
 --   grown-weaker                     == what holds in more rankings holds in fewer
---   grown-chains                     == the chains of what is ranked
+--   Behind led a set, behind-of      == the set has at most a and what is before it; so has the row of a with a in it
+--   passes                           == the test that lets a pair be added
+--   row-past, lead-row               == a number past the records has no row; one row more takes a and what is before it
 --   settled                          == rules 6 and 7 for one writer
 --   Follows O before led             == in rankings with O, led ranks no more than before
 --   partly-none, partly-then, partly-row     == nothing; one thing after another; a row without what is placed
@@ -16,9 +18,10 @@ use mathlib.Core.Option.{none}
 use Prim.Native.Nat.{ℕ, _+_, _*_, _<_, _≤_}
 use native.Mathlib.Decide.{decLt}
 use native.Mathlib.Omega.{arith}
+use borrow.Author.Tests.{le-ltb}
 use lib.ListN.{length, getD}
 use Rattle.laws.specs.Places.{pos, count, Before}
-use Rattle.laws.specs.Relation.{Table, Chain, one, more}
+use Rattle.laws.specs.Relation.{Table}
 use Rattle.laws.specs.Dict.{Answer}
 use Rattle.laws.specs.Tests.{any}
 use Rattle.laws.proofs.Tests.{off, so-not, and-iff, or-iff, same-iff}
@@ -33,19 +36,19 @@ use Rattle.rows.specs.Empty.{emptyOf}
 use Rattle.rows.specs.Added.{Added}
 use Rattle.rows.specs.AddRow.{addRowOf}
 use Rattle.rows.specs.DropRow.{dropRowOf}
-use Rattle.rows.specs.Put.{putIf, putOf}
-use Rattle.rows.specs.Chained.{Chained}
+use Rattle.rows.specs.Put.{putOf}
 use Rattle.rows.proofs.Rows.{self-iff}
 use Rattle.rows.proofs.Closing.{row-added}
 use Rattle.rows.proofs.Dropping.{drop-long, row-dropped}
-use Rattle.rows.proofs.Whole.{empty-long, empty-bit}
-use Rattle.rows.proofs.Pair.{put-iff, put-long, put-left, put-right}
+use Rattle.rows.proofs.Whole.{empty-long, empty-bit, empty-words}
+use Rattle.rows.proofs.Pair.{put-right, put-words}
+use Rattle.rows.proofs.Sets.{put-more}
 use Rattle.rules.specs.Rules.{nothing, rule6, rule7}
 use Rattle.rules.proofs.Sound.{gives-sound}
 use Rattle.rules.proofs.SourceOf.{source-of-is}
 use Rattle.search.specs.Laid.{Tables, Laid}
 use Rattle.rows.specs.Sets.{Holds}
-use Rattle.search.specs.Refuting.{Ranked, Obeys, Settling, Ranking, Grown, Partly, Refuted}
+use Rattle.search.specs.Refuting.{Ranked, Leads, Obeys, Settling, Ranking, Grown, Partly, Refuted}
 use Rattle.search.proofs.Chances.{lacks}
 
 pub grown-none : (O : (ℕ → ℕ) → Type 0) (a : List ℕ) → Grown O a a
@@ -57,52 +60,72 @@ grown-then p q = record { long = q .long ∙ p .long; ranks = λ pos o h. q .ran
 pub grown-weaker : {O Q : (ℕ → ℕ) → Type 0} {a b : List ℕ} → ((pos : ℕ → ℕ) → Q pos → O pos) → Grown O a b → Grown Q a b
 grown-weaker w p = record { long = p .long; ranks = λ pos q h. p .ranks pos (w pos q) h }
 
--- what is there after a pair was put, was there or is the pair
-put-only : (a : List ℕ) (x y : ℕ) → length a ≡ CELLS → (i j : ℕ) → So (bit (putOf a x y) i j) → Edges a i j ⊎ ((i ≡ x) × (j ≡ y))
-put-only a x y l i j t = elim (decLt x RECORDS) [
-  | no h ↦ inl (subst (λ (r : List ℕ). So (bit r i j)) (put-left a x y (omega arith)) t)
-  | yes hx ↦ elim (decLt y RECORDS) [
-    | no h ↦ inl (subst (λ (r : List ℕ). So (bit r i j)) (put-right a x y (omega arith)) t)
-    | yes hy ↦ put-iff a x y hx hy (omega arith) i j .0 t
-  ]
-]
+abbrev pub Behind : List ℕ → ℕ → List ℕ → Type 0
+Behind led a ahead = (j : ℕ) → So (bit ahead 0 j) → (j ≡ a) ⊎ So (bit led a j)
 
--- row y takes x
-pub grown-if : (O : (ℕ → ℕ) → Type 0) (a : List ℕ) (b : Bool) (x y : ℕ) → length a ≡ CELLS → ((pos : ℕ → ℕ) → O pos → Ranked a pos → So b → pos x < pos y) → Grown O a (putIf a b y x)
-unfolding putIf
-grown-if O a false x y l h = grown-none O a
-grown-if O a true x y l h = record {
-  long = put-long a y x;
-  ranks = λ pos o r i j t. elim (put-only a y x l j i t) [
-    | inl e ↦ r i j e
-    | inr (p, q) ↦ rw (p, q) (h pos o r refl)
-  ];
-}
+pub behind-of : (led : List ℕ) → Words led → (a : ℕ) (one two : List ℕ) → one ≡ addRowOf led a (emptyOf WORDS) 0 → two ≡ putOf one 0 a → Words two × Behind led a two
+behind-of led words a one two e d = (subst Words (sym d) (put-words one 0 a (subst Words (sym e) (added .words (empty-words WORDS)))), has)
+  where
+    added : Added (emptyOf WORDS) (λ i j. (i ≡ 0) × Edges led a j) (addRowOf led a (emptyOf WORDS) 0)
+    added = row-added led words a (emptyOf WORDS) 0 (omega arith) (omega (arith, empty-long WORDS))
 
-chain-ranked : (a : List ℕ) (pos : ℕ → ℕ) → Ranked a pos → {y x : ℕ} → Chain (Edges a) y x → pos x < pos y
-chain-ranked a rank r (one {x = y} {y = x} h) = r x y h
-chain-ranked a rank r (more {x = y} {y = z} h t) = omega (arith, r z y h, chain-ranked a rank r t)
+    long : length one ≡ WORDS
+    long = ap length e ∙ added .long ∙ empty-long WORDS
 
-pub grown-chains : (O : (ℕ → ℕ) → Type 0) (a b : List ℕ) → length a ≡ CELLS → Chained a b → Grown O a b
-grown-chains O a b l c = record { long = c .long; ranks = λ pos o r x y t. chain-ranked a pos r (c .chains l y x .0 t) }
+    row : (j : ℕ) → So (bit one 0 j) → So (bit led a j)
+    row j u = elim (added .pairs 0 j .0 (subst (λ (r : List ℕ). So (bit r 0 j)) e u)) [ inl v ↦ absurd (false≢true (sym (empty-bit WORDS 0 j) ∙ v)) | inr (q, v) ↦ v ]
 
-module _ (placed : List ℕ) (S L z : ℕ) (a b c : List ℕ) (l : length a ≡ CELLS) where
-  pub settled : (early late p q : Bool) → early ≡ bit a L z → late ≡ bit a z S → p ≡ bit placed 0 S → q ≡ bit placed 0 z
-      → b ≡ putIf a early S z → c ≡ putIf b (late || (p && not q)) z L → Grown (Obeys placed S L z) a c
-  settled early late p q e₁ e₂ e₃ e₄ d₁ d₂ = rw d₂ (record {
-    long = second .long ∙ first .long;
-    ranks = λ pos o r. second .ranks pos (o, r) (first .ranks pos o r);
-  })
+    has : Behind led a two
+    has j t = elim (decLt a RECORDS) [
+      | yes h ↦ elim (put-more one a long h .has j .0 (subst (λ (r : List ℕ). So (bit r 0 j)) d t)) [ inl u ↦ inr (row j u) | inr u ↦ inl u ]
+      | no h ↦ inr (row j (subst (λ (r : List ℕ). So (bit r 0 j)) (d ∙ put-right one 0 a (omega arith)) t))
+    ]
+
+pub passes : (b c : Bool) → (not b || c) ≡ false → So b
+passes true c e = refl
+passes false c e = absurd (false≢true (sym e))
+
+row-past : (from : List ℕ) (m : ℕ) (to : List ℕ) (x : ℕ) → RECORDS ≤ x → addRowOf from m to x ≡ to
+unfolding addRowOf
+row-past from m to x h = rw (le-ltb x RECORDS h) refl
+
+module _ (b : Bool) (x y : ℕ) (start led : List ℕ) (now : Grown (Leads b x y) start led) (ahead : List ℕ) (words : Words ahead) (few : Behind start x ahead) (passed : So b)
+    (l : length led ≡ CELLS) (z : ℕ) (up : (z ≡ y) ⊎ So (bit led z y)) (next : List ℕ) (e : next ≡ addRowOf ahead 0 led z) where
+  -- what the row takes is ranked below its number
+  below : (pos : ℕ → ℕ) → Leads b x y pos → Ranked start pos → Ranked led pos → (j : ℕ) → So (bit ahead 0 j) → pos j < pos z
+  below pos o r q j t = elim (few j t) [ inl s ↦ rw s high | inr s ↦ omega (arith, r j x s, high) ]
     where
-      first : Grown (Obeys placed S L z) a b
-      first = rw d₁ (grown-if (Obeys placed S L z) a early z S l (λ pos o r t. o .sixth (r z L (sym e₁ ∙ t))))
+      high : pos x < pos z
+      high = elim up [ inl s ↦ rw s (o passed) | inr s ↦ omega (arith, o passed, q y z s) ]
 
+  pub lead-row : Grown (Leads b x y) start next
+  lead-row = elim (decLt z RECORDS) [
+    | no h ↦ subst (λ (r : List ℕ). Grown (Leads b x y) start r) (sym (e ∙ row-past ahead 0 led z (omega arith))) now
+    | yes h ↦
+        let added = row-added ahead words 0 led z h (omega (arith, h, l)) in
+        record {
+          long = ap length e ∙ added .long ∙ now .long;
+          ranks = λ pos o r i j t.
+              let q = now .ranks pos o r in
+              elim (added .pairs j i .0 (subst (λ (r : List ℕ). So (bit r j i)) e t)) [
+                | inl u ↦ q i j u
+                | inr (s, v) ↦ subst (λ (k : ℕ). pos i < pos k) (sym s) (below pos o r q i v)
+              ];
+        }
+  ]
+
+module _ (placed : List ℕ) (S L z : ℕ) (a b c : List ℕ) where
+  pub settled : (early late p q : Bool) → early ≡ bit a L z → late ≡ bit a z S → p ≡ bit placed 0 S → q ≡ bit placed 0 z
+      → Grown (Leads early z S) a b → Grown (Leads (late || (p && not q)) L z) b c → Grown (Obeys placed S L z) a c
+  settled early late p q e₁ e₂ e₃ e₄ first second = record {
+    long = second .long ∙ first .long;
+    ranks = λ pos o r.
+        second .ranks pos (λ t. later pos o r (or-iff (same-iff {a = late}) (and-iff (same-iff {a = p}) so-not) .0 t)) (first .ranks pos (λ t. o .sixth (r z L (sym e₁ ∙ t))) r);
+  }
+    where
       later : (pos : ℕ → ℕ) → Obeys placed S L z pos → Ranked a pos → So late ⊎ (So p × (So q → ⊥)) → pos L < pos z
       later pos o r (inl u) = o .seventh (r S z (sym e₂ ∙ u))
       later pos o r (inr u) = o .seventh (o .split (sym e₃ ∙ u .0) (sym e₄ ∙ off (u .1)))
-
-      second : Grown (λ pos. Obeys placed S L z pos × Ranked a pos) b (putIf b (late || (p && not q)) z L)
-      second = grown-if _ b (late || (p && not q)) L z (first .long ∙ l) (λ pos o r t. later pos (o .0) (o .1) (or-iff (same-iff {a = late}) (and-iff (same-iff {a = p}) so-not) .0 t))
 
 pub partly-none : (before a : List ℕ) → Partly before a a
 partly-none before a = record { long = refl; pairs = λ x y t. inl t }

@@ -1,6 +1,7 @@
 -- When a set of placed operations leaves no room for a valid order, as rules 6 and 7 show it. A ranking stands for the places in an order.
 --
 --   Ranked rows pos       == what a row has is ranked below the row's own number
+--   Leads b x y pos       == where the test b passes, x is ranked below y
 --   Obeys placed S L z pos == what a ranking owes to a load L, its source S and another writer z: the placed below the others, rules 6 and 7
 --   Settling, Ranking     == the same for all such writers, and for all loads below n that have a source
 --   Grown O a b           == the rows b rank nothing that a did not, in rankings with O
@@ -8,7 +9,7 @@
 --   Refuted ..            == there is no ranking at all
 use mathlib.Core.Path.{_≡_}
 use mathlib.Core.Logic.{_≢_, _⊎_}
-use mathlib.Core.Bool.{false, So}
+use mathlib.Core.Bool.{Bool, false, So}
 use mathlib.Core.List.{List}
 use Prim.Native.Nat.{ℕ, _<_}
 use lib.ListN.{length, getD}
@@ -17,6 +18,9 @@ use Rattle.rows.specs.Rows.{bit}
 
 abbrev pub Ranked : List ℕ → (ℕ → ℕ) → Type 0
 Ranked rows pos = (x y : ℕ) → So (bit rows y x) → pos x < pos y
+
+abbrev pub Leads : Bool → ℕ → ℕ → (ℕ → ℕ) → Type 0
+Leads b x y pos = So b → pos x < pos y
 
 pub record Obeys (placed : List ℕ) (S L z : ℕ) (pos : ℕ → ℕ) : Type 0 where
   pub split : So (bit placed 0 S) → bit placed 0 z ≡ false → pos S < pos z

@@ -4,8 +4,10 @@
 --   told-model, told-form   == a question that is turned back
 --   told-says               == a verdict that `Says` allows, laid into the arrays
 --   told-source, told-order, told-circle, told-none == the four outcomes, each from what the parts promise
+--   orderless               == where none was found, there is no valid order
 use mathlib.Core.Path.{_≡_, refl, sym, ap, _∙_, subst}
 use mathlib.Core.Bool.{Bool, true, false, So, false≢true}
+use mathlib.Core.Logic.{inl, inr}
 use mathlib.Core.List.{List, _++_}
 use mathlib.Core.Option.{none, some}
 use Prim.Native.Nat.{ℕ, zero, suc, _+_, _-_, _≤_, _<_}
@@ -14,7 +16,7 @@ use lib.ListN.{length, getD, take, drop, replicate, length-replicate, length-dro
 use lib.Seq.{length-take-le, getD-drop, ext-getD}
 use Rattle.laws.specs.Lowest.{Lowest}
 use Rattle.laws.specs.Dict.{Least}
-use Rattle.laws.proofs.Tests.{and-iff, same-iff}
+use Rattle.laws.proofs.Tests.{test, and-iff, same-iff}
 use Rattle.trace.specs.Bounds.{RECORDS}
 use Rattle.trace.specs.Meaning.{frameOf}
 use Rattle.trace.specs.WellFormed.{wellFormed}
@@ -36,7 +38,7 @@ use Rattle.orders.proofs.MissingOf.{missing-lowest}
 use Rattle.orders.proofs.Says.{order-says}
 use Rattle.search.specs.FirstOrder.{found?, FirstOrder}
 use Rattle.search.specs.declared.Order as first
-use Rattle.verdict.specs.Told.{padded, bare, laid, Reaches, Told}
+use Rattle.verdict.specs.Told.{padded, bare, laid, Reaches, Orderless, Told}
 use Rattle.verdict.specs.declared.Outcome.the-variants.{NoSource, Circle, Order, NoneLeft, NoModel, NotWellFormed}
 use Rattle.verdict.specs.declared.Verdict.{Verdict}
 
@@ -102,6 +104,31 @@ made-order : {a b : ℕ} {os ps : List ℕ} → a ≡ b → os ≡ ps
     → _≡_ {A = Verdict} (record { outcome = Order; len = a; operations = os; rules = replicate RECORDS 0 }) (record { outcome = Order; len = b; operations = ps; rules = replicate RECORDS 0 })
 made-order p q = λ i. record { outcome = Order; len = p i; operations = q i; rules = replicate RECORDS 0 }
 
+-- what the search answered under a model that exists
+module _ (t : Trace) (m : ℕ) (k : So (modelled m)) (o : first.Order) (q : FirstOrder t m o) where
+  -- there was something to answer where an order was found, or where the trace is well formed
+  found-answered : o .found ≡ true → So (answered m t)
+  found-answered e = elim (test (answered m t)) [ inl s ↦ s | inr n ↦ absurd (false≢true (sym (q .nothing n) ∙ e)) ]
+
+  asked-of : So (wellFormed t) → So (answered m t)
+  asked-of w = and-iff (same-iff {a = wellFormed t}) (same-iff {a = modelled m}) .1 (w, k)
+
+  sought : So (answered m t) → (b : Bool) → o .found ≡ b → Least (Valid (frameOf t) (keptOf m t)) (found? b (take (o .len) (o .operations)))
+  sought s b e = subst (λ (b : Bool). Least (Valid (frameOf t) (keptOf m t)) (found? b (take (o .len) (o .operations)))) e (q .first s)
+
+  -- where there is an order, nothing else can be said
+  pub told-order : o .found ≡ true → Told t m (record { outcome = Order; len = o .len; operations = o .operations; rules = replicate RECORDS 0 })
+  told-order e =
+      let xs = take (o .len) (o .operations) in
+      let s = found-answered e in
+      let w = and-iff (same-iff {a = wellFormed t}) (same-iff {a = modelled m}) .0 s .0 in
+      told-says t m k w (said.order xs) (order-says (frameOf t) (keptOf m t) (good t w) xs .1 (sought s true e)) _
+      (sym (made-order (length-take-le (o .len) (o .operations) (omega (arith, q .fits, q .long))) (padded-take (o .len) (o .operations) (q .fits) (q .long) (q .rest))))
+      (q .fits)
+
+  pub orderless : o .found ≡ false → Orderless t m
+  orderless e w = sought (asked-of w) false e
+
 module _ (t : Trace) (m : ℕ) (h : Reaches t m) where
   -- there is something to answer, and no source is missing
   asked : So (answered m t)
@@ -109,17 +136,6 @@ module _ (t : Trace) (m : ℕ) (h : Reaches t m) where
 
   sourced : Sourced (frameOf t)
   sourced = subst (λ (a : Found). Lowest (Missing (frameOf t)) (record? a)) (h .sourced) (missing-lowest t (h .well))
-
-  sought : (o : first.Order) → FirstOrder t m o → (b : Bool) → o .found ≡ b → Least (Valid (frameOf t) (keptOf m t)) (found? b (take (o .len) (o .operations)))
-  sought o q b e = subst (λ (b : Bool). Least (Valid (frameOf t) (keptOf m t)) (found? b (take (o .len) (o .operations)))) e (q .first asked)
-
-  -- where there is an order, nothing else can be said
-  pub told-order : (o : first.Order) → FirstOrder t m o → o .found ≡ true → Told t m (record { outcome = Order; len = o .len; operations = o .operations; rules = replicate RECORDS 0 })
-  told-order o q e =
-      let xs = take (o .len) (o .operations) in
-      told-says t m (h .model) (h .well) (said.order xs) (order-says (frameOf t) (keptOf m t) (good t (h .well)) xs .1 (sought o q true e)) _
-      (sym (made-order (length-take-le (o .len) (o .operations) (omega (arith, q .fits, q .long))) (padded-take (o .len) (o .operations) (q .fits) (q .long) (q .rest))))
-      (q .fits)
 
   module _ (c : ring.Circle) (p : CircleOf t m c) where
     pub told-circle : 0 < c .len → Told t m (record { outcome = Circle; len = c .len; operations = c .operations; rules = c .rules })
@@ -134,7 +150,7 @@ module _ (t : Trace) (m : ℕ) (h : Reaches t m) where
         (p .fits)
 
     -- no order and no circle
-    pub told-none : (o : first.Order) → FirstOrder t m o → o .found ≡ false → c .len ≡ 0 → Told t m (bare NoneLeft)
-    told-none o q e z =
+    pub told-none : Orderless t m → c .len ≡ 0 → Told t m (bare NoneLeft)
+    told-none n z =
         let clear = subst (Circled (frameOf t) (keptOf m t)) (ruled-none (c .len) (c .operations) (c .rules) z) (p .circle asked) in
-        told-says t m (h .model) (h .well) said.noneLeft (sourced, clear, sought o q false e) _ refl (omega arith)
+        told-says t m (h .model) (h .well) said.noneLeft (sourced, clear, n (h .well)) _ refl (omega arith)

@@ -7,6 +7,7 @@
 --   laid v        == a verdict as the code holds it
 --   ordered r     == the order that a verdict hands back, if it does
 --   Reaches t m   == a question that is answered, of a trace that lacks no source
+--   Orderless t m == no list is a valid order of the trace, if that can be asked
 --   Told t m r    == what `verdict_of` promises of any trace under any model: 9 before 10, then the verdict that `Says` allows; its operations have places
 use mathlib.Core.Path.{_≡_}
 use mathlib.Core.Bool.{false, So}
@@ -16,6 +17,7 @@ use Prim.Native.Nat.{ℕ, _-_, _≤_, _<_}
 use lib.ListN.{length, getD, take, replicate}
 use Rattle.trace.specs.Bounds.{RECORDS}
 use Rattle.trace.specs.Meaning.{frameOf}
+use Rattle.trace.specs.Order.{Valid}
 use Rattle.trace.specs.WellFormed.{wellFormed}
 use Rattle.trace.specs.declared.Trace.{Trace}
 use Rattle.pairs.specs.Kept.{modelled, keptOf}
@@ -64,6 +66,9 @@ pub record Reaches (t : Trace) (m : ℕ) : Type 0 where
   pub model : So (modelled m)
   pub well : So (wellFormed t)
   pub sourced : missingOf t ≡ Nothing
+
+abbrev pub Orderless : Trace → ℕ → Type 0
+Orderless t m = So (wellFormed t) → (xs : List ℕ) → Valid (frameOf t) (keptOf m t) xs → ⊥
 
 pub record Told (t : Trace) (m : ℕ) (r : Verdict) : Type 0 where
   pub nine : modelled m ≡ false → r ≡ bare NoModel

@@ -9,7 +9,7 @@ ghost use Rattle.trace.specs.WellFormed.{wellFormed};
 ghost use Rattle.trace.specs.Meaning.{frameOf};
 ghost use Rattle.rows.specs.Empty.{emptyOf};
 ghost use Rattle.rules.specs.Missing.{Sourced};
-ghost use Rattle.search.specs.Laying.{Counted};
+ghost use Rattle.search.specs.Laying.{Counted, Sources};
 ghost use Rattle.search.specs.Looked.{Looked};
 ghost use Rattle.search.specs.FirstOrder.{FirstOrder};
 use crate::Order;
@@ -19,11 +19,11 @@ use crate::tables::lay;
 use crate::tables::lay_operations;
 use crate::tables::lay_sources;
 use edges::force::forced;
-use orders::sources::Found;
-use orders::sources::missing;
 use pairs::modelled;
+use pairs::op_at;
 use trace::RECORDS;
 use trace::Trace;
+use trace::first;
 use trace::form::well_formed;
 
 // The answer that there is no order.
@@ -37,31 +37,43 @@ fn nothing() -> Order
     }
 }
 
-// Whether no record of a well formed trace lacks its source.
-fn sourced(t: Trace) -> bool
-    requires { ⌜ So (wellFormed t) ⌝ }
+// Whether no record of a well formed trace lacks its source, told the sources.
+fn sourced(t: Trace, sources: &[usize]) -> bool
+    requires { ⌜ So (wellFormed t) × Sources (frameOf t) (t .len) (now sources) ⌝ }
     ensures { λ r. ⌜ So r ↔ Sourced (frameOf t) ⌝ }
 {
-    match missing(t) {
-        Found::At(_) => false,
-        Found::Nothing => true,
+    let n = t.len;
+    let mut load: usize = 0;
+    while load < n {
+        let op = op_at(t, load);
+        let later = op.reads() & (op.read() != first(t, op.address()));
+        if later & (RECORDS <= sources[load]) {
+            return false;
+        }
+        load += 1;
     }
+    true
 }
 
 // Lays the tables and searches from nothing placed, guided by what is held; the first places of the list take the order.
-fn look(t: Trace, held: &[u64], operations: &[u64], total: usize, list: &mut [u16]) -> bool
-    requires { ⌜ So (wellFormed t) × Counted (frameOf t) (now operations) total × (total ≤ length (now list)) ⌝ }
+fn look(
+    t: Trace,
+    held: &[u64],
+    operations: &[u64],
+    total: usize,
+    sources: &[usize],
+    list: &mut [u16],
+) -> bool
+    requires { ⌜ So (wellFormed t) × Counted (frameOf t) (now operations) total × (total ≤ length (now list)) × Sources (frameOf t) (t .len) (now sources) ⌝ }
     ensures { λ r. ⌜ Looked (frameOf t) (now (held .entry)) total (now (list .entry)) (now (list .exit)) r ⌝ }
 {
     let n = t.len;
     let mut before = [0u64; rows::CELLS];
     let mut writers = [0u64; rows::CELLS];
     let mut leaders = [0u64; rows::CELLS];
-    let mut sources = [RECORDS; RECORDS];
     let mut dead = [0u64; MEMORY];
     let placed = [0u64; rows::WORDS];
     lay(t, held, &mut before, &mut writers, &mut leaders);
-    lay_sources(t, &mut sources);
     let places = &mut list[0..total];
     find(
         n,
@@ -70,7 +82,7 @@ fn look(t: Trace, held: &[u64], operations: &[u64], total: usize, list: &mut [u1
         &before,
         &writers,
         &leaders,
-        &sources,
+        sources,
         places,
         0,
         &placed,
@@ -91,14 +103,16 @@ pub fn first_order(t: Trace, model: u8) -> Order
     if forced.contradicted {
         return nothing();
     }
-    if !sourced(t) {
+    let mut sources = [RECORDS; RECORDS];
+    lay_sources(t, &mut sources);
+    if !sourced(t, &sources) {
         return nothing();
     }
     let held = forced.held;
     let mut operations = [0u64; rows::WORDS];
     let total = lay_operations(t, &mut operations);
     let mut list = [0u16; RECORDS];
-    if look(t, &held, &operations, total, &mut list) {
+    if look(t, &held, &operations, total, &sources, &mut list) {
         return Order {
             found: true,
             len: total,

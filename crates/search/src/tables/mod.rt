@@ -1,45 +1,111 @@
 // The tables of the search, laid once: relations on records as rows, the set of the operations, the sources.
 ghost use mathlib.Core.Path.{_≡_};
-ghost use Prim.Native.Nat.{_<_, _≤_};
+ghost use mathlib.Core.Bool.{So, _&&_};
+ghost use Prim.Native.Nat.{ℕ, _<_, _≤_};
 ghost use lib.ListN.{length};
 ghost use Rattle.trace.specs.Bounds.{RECORDS};
 ghost use Rattle.trace.specs.Meaning.{frameOf};
 ghost use Rattle.rows.specs.Bounds.{CELLS, WORDS};
-ghost use Rattle.rows.specs.Rows.{bit};
+ghost use Rattle.rows.specs.Rows.{bit, Edges};
 ghost use Rattle.rules.specs.Tests.{writer?};
 ghost use Rattle.edges.specs.Adds.{Adds, Only, Union};
-ghost use Rattle.search.specs.Laying.{Filled, leads, Counted, Sources};
+ghost use Rattle.search.specs.Laying.{Filled, leads, Addressed, Rowed, Filling, Counted, Sources};
 use pairs::source_of;
 use trace::Trace;
 
-// Lays row y: what is held before y, the writers of its address but y, and those of both.
-fn lay_row(
-    t: Trace,
-    held: &[u64],
-    y: usize,
-    before: &mut [u64],
-    writers: &mut [u64],
-    leaders: &mut [u64],
-)
-    requires { ⌜ (y < t .len) × (t .len ≤ RECORDS) × (length (now before) ≡ CELLS) × (length (now writers) ≡ CELLS) × (length (now leaders) ≡ CELLS) ⌝ }
-    ensures { λ r. ⌜ Adds (now (before .entry)) (Union (t .len) (λ x. Only (bit (now (held .entry)) x y) y x)) (now (before .exit)) ⌝ }
-    ensures { λ r. ⌜ Adds (now (writers .entry)) (Union (t .len) (λ x. Only (writer? (frameOf t) x y) y x)) (now (writers .exit)) ⌝ }
-    ensures { λ r. ⌜ Adds (now (leaders .entry)) (Union (t .len) (λ x. Only (leads (frameOf t) (now (held .entry)) x y) y x)) (now (leaders .exit)) ⌝ }
+// Lays, for each address, the row of those that write there.
+fn lay_addresses(t: Trace, by: &mut [u64])
+    requires { ⌜ (t .len ≤ RECORDS) × (length (now by) ≡ CELLS) ⌝ }
+    ensures { λ r. ⌜ Addressed t (t .len) (now (by .exit)) ⌝ }
 {
+    rows::clear(by);
     let n = t.len;
-    let record = t.records[y];
-    let own = record.op;
-    let addr = own.address();
     let mut x: usize = 0;
     while x < n {
         let record = t.records[x];
         let op = record.op;
-        let led = rows::test(held, x, y);
-        let writer = op.writes() & (op.address() == addr) & (x != y);
-        rows::put_if(before, led, y, x);
-        rows::put_if(writers, writer, y, x);
-        rows::put_if(leaders, writer & led, y, x);
+        let addr = op.address() as usize;
+        rows::put_if(by, op.writes(), addr, x);
         x += 1;
+    }
+}
+
+// Lays row y: what the row of an address has, but y.
+fn lay_others(by: &[u64], addr: usize, y: usize, writers: &mut [u64])
+    requires { ⌜ (y < RECORDS) × (length (now writers) ≡ CELLS) ⌝ }
+    ensures { λ r. ⌜ Rowed y (Edges (now (by .entry)) addr) (λ x. x ≡ y) (now (writers .entry)) (now (writers .exit)) ⌝ }
+{
+    let mut own = [0u64; rows::WORDS];
+    rows::put(&mut own, 0, y);
+    rows::add_row(by, addr, writers, y);
+    rows::drop_row(&own, 0, writers, y);
+}
+
+// Lays the writers of each record's address but the record, a whole row at a time.
+fn lay_writers(t: Trace, by: &[u64], writers: &mut [u64])
+    requires { ⌜ (t .len ≤ RECORDS) × (length (now writers) ≡ CELLS) × Addressed t (t .len) (now by) ⌝ }
+    ensures { λ r. ⌜ Filling (t .len) (t .len) (writer? (frameOf t)) (now (writers .exit)) ⌝ }
+{
+    rows::clear(writers);
+    let n = t.len;
+    let mut y: usize = 0;
+    while y < n {
+        let record = t.records[y];
+        let op = record.op;
+        let addr = op.address() as usize;
+        lay_others(by, addr, y, writers);
+        y += 1;
+    }
+}
+
+// Lays row y of what is held turned round: what is held before y.
+fn turn_row(n: usize, held: &[u64], y: usize, before: &mut [u64])
+    requires { ⌜ (y < n) × (n ≤ RECORDS) × (length (now before) ≡ CELLS) ⌝ }
+    ensures { λ r. ⌜ Adds (now (before .entry)) (Union n (λ x. Only (bit (now (held .entry)) x y) y x)) (now (before .exit)) ⌝ }
+{
+    let mut x: usize = 0;
+    while x < n {
+        let led = rows::test(held, x, y);
+        rows::put_if(before, led, y, x);
+        x += 1;
+    }
+}
+
+// Turns what is held round.
+fn turn(n: usize, held: &[u64], before: &mut [u64])
+    requires { ⌜ (n ≤ RECORDS) × (length (now before) ≡ CELLS) ⌝ }
+    ensures { λ r. ⌜ Filled n (bit (now (held .entry))) (now (before .exit)) ⌝ }
+{
+    rows::clear(before);
+    let mut y: usize = 0;
+    while y < n {
+        turn_row(n, held, y, before);
+        y += 1;
+    }
+}
+
+// Lays row y of both: what is before y less what is before it and no writer.
+fn lead_row(before: &[u64], writers: &[u64], y: usize, leaders: &mut [u64])
+    requires { ⌜ (y < RECORDS) × (length (now leaders) ≡ CELLS) ⌝ }
+    ensures { λ r. ⌜ Rowed y (Edges (now (before .entry)) y) (λ x. Edges (now (before .entry)) y x × (Edges (now (writers .entry)) y x → ⊥)) (now (leaders .entry)) (now (leaders .exit)) ⌝ }
+{
+    let mut rest = [0u64; rows::WORDS];
+    rows::add_row(before, y, &mut rest, 0);
+    rows::drop_row(writers, y, &mut rest, 0);
+    rows::add_row(before, y, leaders, y);
+    rows::drop_row(&rest, 0, leaders, y);
+}
+
+// Lays what is before each record and writes its address.
+fn lead(n: usize, before: &[u64], writers: &[u64], leaders: &mut [u64])
+    requires { ⌜ (n ≤ RECORDS) × (length (now leaders) ≡ CELLS) × ((x y : ℕ) → Edges (now before) y x → x < n) ⌝ }
+    ensures { λ r. ⌜ Filling n n (λ x y. bit (now (writers .entry)) y x && bit (now (before .entry)) y x) (now (leaders .exit)) ⌝ }
+{
+    rows::clear(leaders);
+    let mut y: usize = 0;
+    while y < n {
+        lead_row(before, writers, y, leaders);
+        y += 1;
     }
 }
 
@@ -56,15 +122,12 @@ pub(crate) fn lay(
     ensures { λ r. ⌜ Filled (t .len) (writer? (frameOf t)) (now (writers .exit)) ⌝ }
     ensures { λ r. ⌜ Filled (t .len) (leads (frameOf t) (now (held .entry))) (now (leaders .exit)) ⌝ }
 {
-    rows::clear(before);
-    rows::clear(writers);
-    rows::clear(leaders);
     let n = t.len;
-    let mut y: usize = 0;
-    while y < n {
-        lay_row(t, held, y, before, writers, leaders);
-        y += 1;
-    }
+    let mut by = [0u64; rows::CELLS];
+    lay_addresses(t, &mut by);
+    lay_writers(t, &by, writers);
+    turn(n, held, before);
+    lead(n, before, writers, leaders);
 }
 
 // Lays the set of the operations, and counts them.

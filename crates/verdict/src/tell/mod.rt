@@ -1,6 +1,8 @@
 // The verdict in document 01's order.
-ghost use Rattle.verdict.specs.Told.{Told, Reaches, bare};
 ghost use mathlib.Core.Path.{_≡_};
+ghost use mathlib.Core.Bool.{So};
+ghost use Rattle.pairs.specs.Kept.{modelled};
+ghost use Rattle.verdict.specs.Told.{Told, Reaches, Orderless, bare};
 use crate::Outcome;
 use crate::Verdict;
 use circle::show::circle_of;
@@ -24,22 +26,11 @@ fn bare(outcome: Outcome) -> Verdict
     }
 }
 
-// An order or a circle where there is one, of a trace that lacks no source. Where there is an order there is no circle, so it is looked for
-// first: a good trace is then closed once.
-fn order_or_circle(t: Trace, model: u8) -> Verdict
-    requires { ⌜ Reaches t model ⌝ }
+// A circle where there is one, of a trace that lacks no source and has no valid order.
+fn circle_or_none(t: Trace, model: u8) -> Verdict
+    requires { ⌜ Reaches t model × Orderless t model ⌝ }
     ensures { λ r. ⌜ Told t model r ⌝ }
 {
-    let first = first_order(t, model);
-    if first.found {
-        let operations = first.operations;
-        return Verdict {
-            outcome: Outcome::Order,
-            len: first.len,
-            operations,
-            rules: [0; RECORDS],
-        };
-    }
     let circle = circle_of(t, model);
     let len = circle.len;
     if 0 < len {
@@ -55,19 +46,39 @@ fn order_or_circle(t: Trace, model: u8) -> Verdict
     bare(Outcome::NoneLeft)
 }
 
+// The verdict under a model that exists, where no valid order was found: a trace that is not well formed, a missing source, a circle, or that
+// none is left.
+fn unordered(t: Trace, model: u8) -> Verdict
+    requires { ⌜ So (modelled model) × Orderless t model ⌝ }
+    ensures { λ r. ⌜ Told t model r ⌝ }
+{
+    if !well_formed(t) {
+        return bare(Outcome::NotWellFormed);
+    }
+    match missing(t) {
+        Found::At(x) => bare(Outcome::NoSource(x)),
+        Found::Nothing => circle_or_none(t, model),
+    }
+}
+
 // The verdict on any trace under any model. A model that does not exist is told first, then a trace that is not well formed; then come a missing
-// source, a circle, the first valid order, and that none is left.
+// source, a circle, the first valid order, and that none is left. Where there is an order nothing else can be told, so it is looked for first: a
+// good trace is then closed once, and its form and its sources are asked for once less.
 pub fn verdict_of(t: Trace, model: u8) -> Verdict
     ensures { λ r. ⌜ Told t model r ⌝ }
 {
     if !modelled(model) {
         return bare(Outcome::NoModel);
     }
-    if !well_formed(t) {
-        return bare(Outcome::NotWellFormed);
+    let first = first_order(t, model);
+    if first.found {
+        let operations = first.operations;
+        return Verdict {
+            outcome: Outcome::Order,
+            len: first.len,
+            operations,
+            rules: [0; RECORDS],
+        };
     }
-    match missing(t) {
-        Found::At(x) => bare(Outcome::NoSource(x)),
-        Found::Nothing => order_or_circle(t, model),
-    }
+    unordered(t, model)
 }

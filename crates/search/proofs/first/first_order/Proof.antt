@@ -46,16 +46,27 @@ returns-2 c = let s = c .before .before .before .before .before .before .before 
     first-none (s .args .t) (s .args .model) (c .nothing2 .result) (c .nothing2 .ensures)
     (λ a. refuted-none (s .args .t) (s .args .model) a (c .before .before .forced .result) (c .before .before .forced .ensures) (c .before .if2 .taken))
 
+slice-aggregate-lay-sources : tie.Need-slice-aggregate-lay-sources
+slice-aggregate-lay-sources c = search needs
+
+lay-sources-requires : tie.Need-lay-sources-requires
+lay-sources-requires c κs = let s = c .before .before .before .before .before .before .before in
+    let a : So (answered (s .args .model) (s .args .t)) = sym (ap₂ _&&_ (c .before .before .before .before .before .before .well-formed .ensures) (c .before .before .before .before .before .modelled .ensures)) ∙ not-false _ (c .before .before .before .before .if1 .left) in
+    (well-fits (s .args .t) (and-iff (same-iff {a = wellFormed (s .args .t)}) (same-iff {a = modelled (s .args .model)}) .0 a .0), refl)
+
+slice-aggregate-sourced : tie.Need-slice-aggregate-sourced
+slice-aggregate-sourced c = search needs
+
 sourced-requires : tie.Need-sourced-requires
-sourced-requires c κs = let s = c .before .before .before .before .before .before in
-    let a : So (answered (s .args .model) (s .args .t)) = sym (ap₂ _&&_ (c .before .before .before .before .before .well-formed .ensures) (c .before .before .before .before .modelled .ensures)) ∙ not-false _ (c .before .before .before .if1 .left) in
-    and-iff (same-iff {a = wellFormed (s .args .t)}) (same-iff {a = modelled (s .args .model)}) .0 a .0
+sourced-requires c κs = let s = c .before .before .before .before .before .before .before .before .before .before in
+    let a : So (answered (s .args .model) (s .args .t)) = sym (ap₂ _&&_ (c .before .before .before .before .before .before .before .before .before .well-formed .ensures) (c .before .before .before .before .before .before .before .before .modelled .ensures)) ∙ not-false _ (c .before .before .before .before .before .before .before .if1 .left) in
+    (and-iff (same-iff {a = wellFormed (s .args .t)}) (same-iff {a = modelled (s .args .model)}) .0 a .0, c .before .before .lay-sources .ensures)
 
 nothing-requires-3 : tie.Need-nothing-requires-3
 nothing-requires-3 c κs = search needs
 
 returns-3 : tie.Need-returns-3
-returns-3 c = let s = c .before .before .before .before .before .before .before .before .before in
+returns-3 c = let s = c .before .before .before .before .before .before .before .before .before .before .before .before .before in
     let f = frameOf (s .args .t) in
     first-none (s .args .t) (s .args .model) (c .nothing3 .result) (c .nothing3 .ensures)
     (λ _ xs v. false≢true (sym (not-true _ (c .before .if3 .taken)) ∙ c .before .before .sourced .ensures .1 (λ L m. missing-none f (keptOf (s .args .model) (s .args .t)) L m xs v)))
@@ -64,8 +75,8 @@ slice-aggregate-lay-operations : tie.Need-slice-aggregate-lay-operations
 slice-aggregate-lay-operations c = search needs
 
 lay-operations-requires : tie.Need-lay-operations-requires
-lay-operations-requires c κs = let s = c .before .before .before .before .before .before .before .before .before .before in
-    let a : So (answered (s .args .model) (s .args .t)) = sym (ap₂ _&&_ (c .before .before .before .before .before .before .before .before .before .well-formed .ensures) (c .before .before .before .before .before .before .before .before .modelled .ensures)) ∙ not-false _ (c .before .before .before .before .before .before .before .if1 .left) in
+lay-operations-requires c κs = let s = c .before .before .before .before .before .before .before .before .before .before .before .before .before .before in
+    let a : So (answered (s .args .model) (s .args .t)) = sym (ap₂ _&&_ (c .before .before .before .before .before .before .before .before .before .before .before .before .before .well-formed .ensures) (c .before .before .before .before .before .before .before .before .before .before .before .before .modelled .ensures)) ∙ not-false _ (c .before .before .before .before .before .before .before .before .before .before .before .if1 .left) in
     (well-fits (s .args .t) (and-iff (same-iff {a = wellFormed (s .args .t)}) (same-iff {a = modelled (s .args .model)}) .0 a .0), refl)
 
 slice-aggregate-look : tie.Need-slice-aggregate-look
@@ -77,37 +88,40 @@ slice-aggregate-look-2 c = search needs
 slice-aggregate-look-3 : tie.Need-slice-aggregate-look-3
 slice-aggregate-look-3 c = search needs
 
+slice-aggregate-look-4 : tie.Need-slice-aggregate-look-4
+slice-aggregate-look-4 c = search needs
+
 look-requires : tie.Need-look-requires
-look-requires c κs = let s = c .before .before .before .before .before .before .before .before .before .before .before .before .before .before .before in
-    let a : So (answered (s .args .model) (s .args .t)) = sym (ap₂ _&&_ (c .before .before .before .before .before .before .before .before .before .before .before .before .before .before .well-formed .ensures) (c .before .before .before .before .before .before .before .before .before .before .before .before .before .modelled .ensures)) ∙ not-false _ (c .before .before .before .before .before .before .before .before .before .before .before .before .if1 .left) in
+look-requires c κs = let s = c .before .before .before .before .before .before .before .before .before .before .before .before .before .before .before .before .before .before .before .before in
+    let a : So (answered (s .args .model) (s .args .t)) = sym (ap₂ _&&_ (c .before .before .before .before .before .before .before .before .before .before .before .before .before .before .before .before .before .before .before .well-formed .ensures) (c .before .before .before .before .before .before .before .before .before .before .before .before .before .before .before .before .before .before .modelled .ensures)) ∙ not-false _ (c .before .before .before .before .before .before .before .before .before .before .before .before .before .before .before .before .before .if1 .left) in
     let w = and-iff (same-iff {a = wellFormed (s .args .t)}) (same-iff {a = modelled (s .args .model)}) .0 a .0 in
-    let n = c .before .before .before .before .lay-operations .ensures in
-    (w, n, counted-fits (s .args .t) w _ _ n)
+    let n = c .before .before .before .before .before .lay-operations .ensures in
+    (w, n, counted-fits (s .args .t) w _ _ n, c .before .before .before .before .before .before .before .before .before .before .before .before .lay-sources .ensures)
 
 returns-4 : tie.Need-returns-4
-returns-4 c = let s = c .before .before .before .before .before .before .before .before .before .before .before .before .before .before .before .before .before .before in
+returns-4 c = let s = c .before .before .before .before .before .before .before .before .before .before .before .before .before .before .before .before .before .before .before .before .before .before .before in
     let t = s .args .t in
     let m = s .args .model in
-    let a : So (answered m t) = sym (ap₂ _&&_ (c .before .before .before .before .before .before .before .before .before .before .before .before .before .before .before .before .before .well-formed .ensures) (c .before .before .before .before .before .before .before .before .before .before .before .before .before .before .before .before .modelled .ensures)) ∙ not-false _ (c .before .before .before .before .before .before .before .before .before .before .before .before .before .before .before .if1 .left) in
+    let a : So (answered m t) = sym (ap₂ _&&_ (c .before .before .before .before .before .before .before .before .before .before .before .before .before .before .before .before .before .before .before .before .before .before .well-formed .ensures) (c .before .before .before .before .before .before .before .before .before .before .before .before .before .before .before .before .before .before .before .before .before .modelled .ensures)) ∙ not-false _ (c .before .before .before .before .before .before .before .before .before .before .before .before .before .before .before .before .before .before .before .before .if1 .left) in
     let w = and-iff (same-iff {a = wellFormed t}) (same-iff {a = modelled m}) .0 a .0 in
-    let g = held-guided t m a (c .before .before .before .before .before .before .before .before .before .before .before .before .before .forced .result) (c .before .before .before .before .before .before .before .before .before .before .before .before .before .forced .ensures) (c .before .before .before .before .before .before .before .before .before .before .before .before .if2 .left) in
+    let g = held-guided t m a (c .before .before .before .before .before .before .before .before .before .before .before .before .before .before .before .before .before .before .forced .result) (c .before .before .before .before .before .before .before .before .before .before .before .before .before .before .before .before .before .before .forced .ensures) (c .before .before .before .before .before .before .before .before .before .before .before .before .before .before .before .before .before .if2 .left) in
     let r = c .before .before .look .ensures in
-    let best = subst (λ (b : Bool). Least (Valid (frameOf t) (keptOf m t)) (follows b 0 (c .before .before .before .before .before .before .before .lay-operations .result) (c .before .before .look .last .1 .1 .1 .1 .0))) (c .if4 .taken)
-    (r .right (keptOf m t) g (c .before .before .before .before .before .before .before .before .before .before .before .sourced .ensures .0 (not-false _ (c .before .before .before .before .before .before .before .before .before .before .if3 .left)))) in
-    first-some t m _ a refl (counted-fits t w _ _ (c .before .before .before .before .before .before .before .lay-operations .ensures)) (c .before .before .look .kept .1 .1 .1 .1 .0) (λ i h. r .rest i h ∙ empty-rest i) best
+    let best = subst (λ (b : Bool). Least (Valid (frameOf t) (keptOf m t)) (follows b 0 (c .before .before .before .before .before .before .before .before .lay-operations .result) (c .before .before .look .last .1 .1 .1 .1 .1 .0))) (c .if4 .taken)
+    (r .right (keptOf m t) g (c .before .before .before .before .before .before .before .before .before .before .before .before .sourced .ensures .0 (not-false _ (c .before .before .before .before .before .before .before .before .before .before .before .if3 .left)))) in
+    first-some t m _ a refl (counted-fits t w _ _ (c .before .before .before .before .before .before .before .before .lay-operations .ensures)) (c .before .before .look .kept .1 .1 .1 .1 .1 .0) (λ i h. r .rest i h ∙ empty-rest i) best
 
 nothing-requires-4 : tie.Need-nothing-requires-4
 nothing-requires-4 c κs = search needs
 
 returns-5 : tie.Need-returns-5
-returns-5 c = let s = c .before .before .before .before .before .before .before .before .before .before .before .before .before .before .before .before .before .before .before in
+returns-5 c = let s = c .before .before .before .before .before .before .before .before .before .before .before .before .before .before .before .before .before .before .before .before .before .before .before .before in
     let t = s .args .t in
     let m = s .args .model in
     first-none t m (c .nothing4 .result) (c .nothing4 .ensures)
     (λ a.
-    let g = held-guided t m a (c .before .before .before .before .before .before .before .before .before .before .before .before .before .before .forced .result) (c .before .before .before .before .before .before .before .before .before .before .before .before .before .before .forced .ensures) (c .before .before .before .before .before .before .before .before .before .before .before .before .before .if2 .left) in
-    subst (λ (b : Bool). Least (Valid (frameOf t) (keptOf m t)) (follows b 0 (c .before .before .before .before .before .before .before .before .lay-operations .result) (c .before .before .before .look .last .1 .1 .1 .1 .0))) (c .before .if4 .left)
-    (c .before .before .before .look .ensures .right (keptOf m t) g (c .before .before .before .before .before .before .before .before .before .before .before .before .sourced .ensures .0 (not-false _ (c .before .before .before .before .before .before .before .before .before .before .before .if3 .left)))))
+    let g = held-guided t m a (c .before .before .before .before .before .before .before .before .before .before .before .before .before .before .before .before .before .before .before .forced .result) (c .before .before .before .before .before .before .before .before .before .before .before .before .before .before .before .before .before .before .before .forced .ensures) (c .before .before .before .before .before .before .before .before .before .before .before .before .before .before .before .before .before .before .if2 .left) in
+    subst (λ (b : Bool). Least (Valid (frameOf t) (keptOf m t)) (follows b 0 (c .before .before .before .before .before .before .before .before .before .lay-operations .result) (c .before .before .before .look .last .1 .1 .1 .1 .1 .0))) (c .before .if4 .left)
+    (c .before .before .before .look .ensures .right (keptOf m t) g (c .before .before .before .before .before .before .before .before .before .before .before .before .before .sourced .ensures .0 (not-false _ (c .before .before .before .before .before .before .before .before .before .before .before .before .if3 .left)))))
 
 pub first-order-spec : {M : Type 1} → statement M
 first-order-spec =
@@ -121,6 +135,9 @@ first-order-spec =
     forced-requires
     nothing-requires-2
     returns-2
+    slice-aggregate-lay-sources
+    lay-sources-requires
+    slice-aggregate-sourced
     sourced-requires
     nothing-requires-3
     returns-3
@@ -129,6 +146,7 @@ first-order-spec =
     slice-aggregate-look
     slice-aggregate-look-2
     slice-aggregate-look-3
+    slice-aggregate-look-4
     look-requires
     returns-4
     nothing-requires-4

@@ -22,13 +22,7 @@ slice-aggregate-lay-3 : tie.Need-slice-aggregate-lay-3
 slice-aggregate-lay-3 c = search needs
 
 lay-requires : tie.Need-lay-requires
-lay-requires c κs = (well-fits (c .before .before .before .before .before .before .args .t) (c .before .before .before .before .before .before .pre .0), refl, refl, refl)
-
-slice-aggregate-lay-sources : tie.Need-slice-aggregate-lay-sources
-slice-aggregate-lay-sources c = search needs
-
-lay-sources-requires : tie.Need-lay-sources-requires
-lay-sources-requires c κs = (well-fits (c .before .before .before .before .before .before .before .before .before .before .before .args .t) (c .before .before .before .before .before .before .before .before .before .before .before .pre .0), refl)
+lay-requires c κs = let s = c .before .before .before .before .before .before .before in (well-fits (s .args .t) (s .pre .0), refl, refl, refl)
 
 sub-places : tie.Need-sub-places
 sub-places c = search needs
@@ -54,16 +48,13 @@ slice-aggregate-find-4 c = search needs
 slice-aggregate-find-5 : tie.Need-slice-aggregate-find-5
 slice-aggregate-find-5 c = search needs
 
-slice-aggregate-find-6 : tie.Need-slice-aggregate-find-6
-slice-aggregate-find-6 c = search needs
-
 find-requires : tie.Need-find-requires
-find-requires c κs = let s = c .before .before .before .before .before .before .before .before .before .before .before .before .before .before .before .before .before .before .before .before in
+find-requires c κs = let s = c .before .before .before .before .before .before .before .before .before .before .before .before .before .before .before .before .before in
     let a = s .args in
     let fits = well-fits (a .t) (s .pre .0) in
     record {
       records = fits;
-      sources = omega (arith, fits, c .before .before .before .before .before .before .before .before .lay-sources .ensures .long);
+      sources = omega (arith, fits, s .pre .3 .long);
       places = omega (arith, length-take-le (a .total - 0) (a .list .now) (omega (arith, s .pre .2)));
       left = omega arith;
       set = refl;
@@ -74,11 +65,10 @@ same-length : tie.Need-same-length
 same-length c = search needs
 
 returns : tie.Need-returns
-returns c = let s = c .before .before .before .before .before .before .before .before .before .before .before .before .before .before .before .before .before .before .before .before .before .before .before .before in
+returns c = let s = c .before .before .before .before .before .before .before .before .before .before .before .before .before .before .before .before .before .before .before .before .before in
     let a = s .args in
-    let l = c .before .before .before .before .before .before .before .before .before .before .before .before .before .before .before .before .before .lay .ensures in
-    looked (a .t) (s .pre .0) (a .held .now) (a .operations .now) (a .list .now) (a .total) _ _ _ _ _ _ _ (s .pre .2) (s .pre .1) (l .0) (l .1 .0) (l .1 .1)
-    (c .before .before .before .before .before .before .before .before .before .before .before .before .lay-sources .ensures) (a .total - 0) (omega arith) (c .before .before .before .find .ensures) (c .before .before .before .find .kept .1 .1 .1 .1 .1 .1 .1 .0)
+    let l = c .before .before .before .before .before .before .before .before .before .before .before .before .before .lay .ensures in
+    looked (a .t) (s .pre .0) (a .held .now) (a .operations .now) (a .list .now) (a .total) _ _ _ _ _ _ _ (s .pre .2) (s .pre .1) (l .0) (l .1 .0) (l .1 .1) (s .pre .3) (a .total - 0) (omega arith) (c .before .before .before .find .ensures) (c .before .before .before .find .kept .1 .1 .1 .1 .1 .1 .1 .0)
 
 pub look-spec : {M : Type 1} → statement M
 look-spec =
@@ -88,8 +78,6 @@ look-spec =
     slice-aggregate-lay-2
     slice-aggregate-lay-3
     lay-requires
-    slice-aggregate-lay-sources
-    lay-sources-requires
     sub-places
     part-places-start
     part-places-end
@@ -98,7 +86,6 @@ look-spec =
     slice-aggregate-find-3
     slice-aggregate-find-4
     slice-aggregate-find-5
-    slice-aggregate-find-6
     find-requires
     same-length
     returns)

@@ -8,7 +8,7 @@ use lib.ListN.{length}
 use Rattle.rows.specs.Bounds.{CELLS}
 use Rattle.rows.proofs.Whole.{empty-long}
 use Rattle.search.specs.Refuting.{Ranking}
-use Rattle.search.proofs.Refuting.{Follows, follows-part, follows-more, follows-none, grown-chains}
+use Rattle.search.proofs.Refuting.{Follows, follows-part, follows-more, follows-none}
 use Rattle.search.proofs.refute.refuted.Statement.{statement}
 use Rattle.search.proofs.refute.refuted.Tie as tie
 
@@ -24,8 +24,23 @@ slice-aggregate-leave c = search needs
 leave-requires : tie.Need-leave-requires Inv-loop μ-loop
 leave-requires c κs = refl
 
+slice-aggregate-part : tie.Need-slice-aggregate-part Inv-loop μ-loop
+slice-aggregate-part c = search needs
+
+part-requires : tie.Need-part-requires Inv-loop μ-loop
+part-requires c κs = (c .before .before .before .before .before .before .before .before .pre, c .before .before .leave .ensures .long ∙ empty-long CELLS)
+
 loop-holds : tie.Need-loop-holds Inv-loop μ-loop
-loop-holds c = (follows-part _ _ _ (c .before .leave .ensures), empty-long CELLS)
+loop-holds c = (follows-more _ _ (follows-part _ _ _ (c .before .before .before .before .leave .ensures)) (c .before .part .ensures), empty-long CELLS)
+
+slice-aggregate-reflexive : tie.Need-slice-aggregate-reflexive Inv-loop μ-loop
+slice-aggregate-reflexive c = search needs
+
+reflexive-requires : tie.Need-reflexive-requires Inv-loop μ-loop
+reflexive-requires c κs = search needs
+
+returns : tie.Need-returns Inv-loop μ-loop
+returns c = λ _. follows-none _ _ (c .before .before .before .before .loop .inv .0) (sym (c .before .reflexive .ensures) ∙ c .if1 .taken)
 
 slice-aggregate-copy : tie.Need-slice-aggregate-copy Inv-loop μ-loop
 slice-aggregate-copy c = search needs
@@ -40,8 +55,7 @@ slice-aggregate-settle : tie.Need-slice-aggregate-settle Inv-loop μ-loop
 slice-aggregate-settle c = search needs
 
 settle-requires : tie.Need-settle-requires Inv-loop μ-loop
-settle-requires c κs = let l = c .before .before .before .before .before .before in
-    (l .before .before .before .before .before .before .before .before .pre, l .loop .inv .0 .long)
+settle-requires c κs = let l = c .before .before .before .before .before .before .before .before .before in (l .before .before .before .before .before .before .before .before .before .before .before .pre, l .loop .inv .0 .long)
 
 slice-aggregate-equal : tie.Need-slice-aggregate-equal Inv-loop μ-loop
 slice-aggregate-equal c = search needs
@@ -52,27 +66,8 @@ slice-aggregate-equal-2 c = search needs
 equal-requires : tie.Need-equal-requires Inv-loop μ-loop
 equal-requires c κs = search needs
 
-returns : tie.Need-returns Inv-loop μ-loop
-returns c = λ t. absurd (false≢true t)
-
-slice-aggregate-chains : tie.Need-slice-aggregate-chains Inv-loop μ-loop
-slice-aggregate-chains c = search needs
-
-chains-requires : tie.Need-chains-requires Inv-loop μ-loop
-chains-requires c κs = search needs
-
-slice-aggregate-reflexive : tie.Need-slice-aggregate-reflexive Inv-loop μ-loop
-slice-aggregate-reflexive c = search needs
-
-reflexive-requires : tie.Need-reflexive-requires Inv-loop μ-loop
-reflexive-requires c κs = search needs
-
 returns-2 : tie.Need-returns-2 Inv-loop μ-loop
-returns-2 c = let h = c .before .before .before .before in
-    let g = h .before .before .before .before .before .before .before in
-    let l = g .before .before .before .before .before .before .before in
-    let f = follows-more _ _ (l .loop .inv .0) (g .settle .ensures) in
-    λ _. follows-none _ _ (follows-more _ _ f (grown-chains _ _ _ (f .long) (h .chains .ensures))) (sym (c .before .reflexive .ensures) ∙ c .if2 .taken)
+returns-2 c = λ t. absurd (false≢true t)
 
 add-round : tie.Need-add-round Inv-loop μ-loop
 add-round c = search needs
@@ -81,11 +76,9 @@ loop-less : tie.Need-loop-less Inv-loop μ-loop
 loop-less c = search needs
 
 loop-again : tie.Need-loop-again Inv-loop μ-loop
-loop-again c = let h = c .before .before .before .before in
-    let g = h .before .before .before .before .before .before .before in
-    let l = g .before .before .before .before .before .before .before in
-    let f = follows-more _ _ (l .loop .inv .0) (g .settle .ensures) in
-    (follows-more _ _ f (grown-chains _ _ _ (f .long) (h .chains .ensures)), g .before .before .before .copy .kept .1 .0 ∙ l .loop .inv .1)
+loop-again c = let g = c .before .before .before .before .before in
+    let l = g .before .before .before .before .before .before .before .before .before .before in
+    (follows-more _ _ (l .loop .inv .0) (g .settle .ensures), g .before .before .before .copy .kept .1 .0 ∙ l .loop .inv .1)
 
 returns-3 : tie.Need-returns-3 Inv-loop μ-loop
 returns-3 c = λ t. absurd (false≢true t)
@@ -98,7 +91,12 @@ refuted-spec =
     μ-loop
     slice-aggregate-leave
     leave-requires
+    slice-aggregate-part
+    part-requires
     loop-holds
+    slice-aggregate-reflexive
+    reflexive-requires
+    returns
     slice-aggregate-copy
     slice-aggregate-copy-2
     copy-requires
@@ -107,11 +105,6 @@ refuted-spec =
     slice-aggregate-equal
     slice-aggregate-equal-2
     equal-requires
-    returns
-    slice-aggregate-chains
-    chains-requires
-    slice-aggregate-reflexive
-    reflexive-requires
     returns-2
     add-round
     loop-less

@@ -1,97 +1,53 @@
--- `search::tables::lay`: the rows below y are laid.
-use mathlib.Core.Path.{_≡_, sym, ap, _∙_}
-use Prim.Native.Nat.{_≤_, _-_}
-use native.Mathlib.Omega.{arith}
+-- `search::tables::lay`: the three relations, one after the other.
+use mathlib.Core.Path.{refl}
 use borrow.Author.Needs.{needs}
-use Rattle.trace.specs.Meaning.{frameOf}
-use Rattle.rows.specs.Bounds.{CELLS}
-use Rattle.rows.specs.Rows.{bit}
-use Rattle.rows.specs.Empty.{emptyOf}
-use Rattle.rows.proofs.Whole.{empty-long}
-use Rattle.rules.specs.Tests.{writer?}
-use Rattle.edges.specs.Adds.{Adds, Only, Union}
-use Rattle.edges.proofs.Adds.{union-none, union-more}
-use Rattle.search.specs.Laying.{leads}
-use Rattle.search.proofs.Laying.{filled}
+use Rattle.search.proofs.Rowing.{filled-of, both-led}
 use Rattle.search.proofs.tables.lay.Statement.{statement}
 use Rattle.search.proofs.tables.lay.Tie as tie
 
-abbrev Inv-loop : tie.InvT-loop
-Inv-loop t held before₀ writers₀ leaders₀ n y₀ before writers leaders y = (y ≤ n)
-    × Adds (emptyOf CELLS) (Union y (λ z. Union n (λ x. Only (bit held x z) z x))) before
-    × Adds (emptyOf CELLS) (Union y (λ z. Union n (λ x. Only (writer? (frameOf t) x z) z x))) writers
-    × Adds (emptyOf CELLS) (Union y (λ z. Union n (λ x. Only (leads (frameOf t) held x z) z x))) leaders
+slice-aggregate-lay-addresses : tie.Need-slice-aggregate-lay-addresses
+slice-aggregate-lay-addresses c = search needs
 
-abbrev μ-loop : tie.MeasureT-loop
-μ-loop t held before₀ writers₀ leaders₀ n y₀ before writers leaders y = n - y
+lay-addresses-requires : tie.Need-lay-addresses-requires
+lay-addresses-requires c κs = (c .before .before .before .before .before .pre .0, refl)
 
-clear-requires : tie.Need-clear-requires Inv-loop μ-loop
-clear-requires c κs = search needs
+slice-aggregate-lay-writers : tie.Need-slice-aggregate-lay-writers
+slice-aggregate-lay-writers c = search needs
 
-clear-requires-2 : tie.Need-clear-requires-2 Inv-loop μ-loop
-clear-requires-2 c κs = search needs
+lay-writers-requires : tie.Need-lay-writers-requires
+lay-writers-requires c κs = let s = c .before .before .before .before .before .before .before .before .before in (s .pre .0, s .pre .2, c .before .before .before .lay-addresses .ensures)
 
-clear-requires-3 : tie.Need-clear-requires-3 Inv-loop μ-loop
-clear-requires-3 c κs = search needs
+turn-requires : tie.Need-turn-requires
+turn-requires c κs = let s = c .before .before .before .before .before .before .before .before .before .before .before .before .before in (s .pre .0, s .pre .1)
 
-loop-holds : tie.Need-loop-holds Inv-loop μ-loop
-loop-holds c = let p = c .before .before .before .before .before .before .before .before .before .before .before .before .before .before .before .before .pre in
-    let e₁ : c .before .before .before .before .before .before .before .before .before .before .clear .last .0 ≡ emptyOf CELLS = c .before .before .before .before .before .before .before .before .before .before .clear .ensures ∙ ap emptyOf (p .1) in
-    let e₂ : c .before .before .before .before .before .before .clear2 .last .0 ≡ emptyOf CELLS = c .before .before .before .before .before .before .clear2 .ensures ∙ ap emptyOf (p .2) in
-    let e₃ : c .before .before .clear3 .last .0 ≡ emptyOf CELLS = c .before .before .clear3 .ensures ∙ ap emptyOf (p .3) in
-    (omega arith, rw e₁ (union-none _ (emptyOf CELLS)), rw e₂ (union-none _ (emptyOf CELLS)), rw e₃ (union-none _ (emptyOf CELLS)))
+lead-requires : tie.Need-lead-requires
+lead-requires c κs = let s = c .before .before .before .before .before .before .before .before .before .before .before .before .before .before .before .before .before .before .before in (s .pre .0, s .pre .3, λ x y u. c .before .before .before .before .before .turn .ensures .pairs x y .0 u .1)
 
-lay-row-requires : tie.Need-lay-row-requires Inv-loop μ-loop
-lay-row-requires c κs = let l = c .before .before .before .before in
-    let i = l .loop .inv in
-    (c .before .before .before .loop-test .taken, l .before .before .before .before .before .before .before .before .before .before .before .before .before .before .before .before .before .pre .0, i .1 .long ∙ empty-long CELLS, i .2 .long ∙ empty-long CELLS, i .3 .long ∙ empty-long CELLS)
+same-length : tie.Need-same-length
+same-length c = c .before .before .before .before .before .before .before .before .turn .kept .1 .1 .0
 
-add-y : tie.Need-add-y Inv-loop μ-loop
-add-y c = search needs
+same-length-2 : tie.Need-same-length-2
+same-length-2 c = c .before .before .before .before .before .before .before .before .before .before .before .before .lay-writers .kept .1 .1 .0
 
-loop-less : tie.Need-loop-less Inv-loop μ-loop
-loop-less c = search needs
+same-length-3 : tie.Need-same-length-3
+same-length-3 c = c .before .before .lead .kept .1 .1 .1 .0
 
-loop-again : tie.Need-loop-again Inv-loop μ-loop
-loop-again c = let r = c .before .before .before .before .before .before in
-    let l = r .before .before .before .before .before in
-    let i = l .loop .inv in
-    let y = l .loop .y in
-    (omega (arith, r .before .before .before .before .loop-test .taken), union-more _ y (i .1) (r .lay-row .ensures .0), union-more _ y (i .2) (r .lay-row .ensures .1 .0), union-more _ y (i .3) (r .lay-row .ensures .1 .1))
-
-same-length : tie.Need-same-length Inv-loop μ-loop
-same-length c = let l = c .before in
-    l .loop .inv .1 .long ∙ empty-long CELLS ∙ sym (l .before .before .before .before .before .before .before .before .before .before .before .before .before .before .before .before .before .pre .1)
-
-same-length-2 : tie.Need-same-length-2 Inv-loop μ-loop
-same-length-2 c = let l = c .before in
-    l .loop .inv .2 .long ∙ empty-long CELLS ∙ sym (l .before .before .before .before .before .before .before .before .before .before .before .before .before .before .before .before .before .pre .2)
-
-same-length-3 : tie.Need-same-length-3 Inv-loop μ-loop
-same-length-3 c = let l = c .before in
-    l .loop .inv .3 .long ∙ empty-long CELLS ∙ sym (l .before .before .before .before .before .before .before .before .before .before .before .before .before .before .before .before .before .pre .3)
-
-returns : tie.Need-returns Inv-loop μ-loop
-returns c = let l = c .before in
-    let t = l .before .before .before .before .before .before .before .before .before .before .before .before .before .before .before .before .before .args .t in
-    let i = l .loop .inv in
-    let n : l .loop .y ≡ t .len = omega (arith, c .loop-test .left, i .0) in
-    (filled (t .len) _ CELLS _ (rw n at (i .1)), (filled (t .len) _ CELLS _ (rw n at (i .2)), filled (t .len) _ CELLS _ (rw n at (i .3))))
+returns : tie.Need-returns
+returns c = let s = c .before .before .before .before .before .before .before .before .before .before .before .before .before .before .before .before .before .before .before .before .before .before in
+    let before = c .before .before .before .before .before .before .before .before .turn .ensures in
+    let writers = filled-of (c .before .before .before .before .before .before .before .before .before .before .before .before .lay-writers .ensures) in
+    (before, (writers, both-led (s .args .t .len) (s .args .t) (s .args .held .now) _ _ _ before writers (c .before .before .lead .ensures)))
 
 pub lay-spec : {M : Type 1} → statement M
 lay-spec =
     tie.close
     (tie.spec
-    Inv-loop
-    μ-loop
-    clear-requires
-    clear-requires-2
-    clear-requires-3
-    loop-holds
-    lay-row-requires
-    add-y
-    loop-less
-    loop-again
+    slice-aggregate-lay-addresses
+    lay-addresses-requires
+    slice-aggregate-lay-writers
+    lay-writers-requires
+    turn-requires
+    lead-requires
     same-length
     same-length-2
     same-length-3

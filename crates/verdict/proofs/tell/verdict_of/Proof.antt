@@ -1,9 +1,9 @@
--- `verdict::tell::verdict_of`: 9 before 10, then a missing source, then the rest.
+-- `verdict::tell::verdict_of`: 9, then an order, then the rest.
 use mathlib.Core.Path.{sym, _∙_, subst}
 use borrow.Author.Tests.{not-true, not-false}
 use Rattle.verdict.specs.Told.{Told}
 use Rattle.verdict.specs.declared.Verdict.{Verdict}
-use Rattle.verdict.proofs.Laying.{told-model, told-form, told-source}
+use Rattle.verdict.proofs.Laying.{told-model, told-order, orderless}
 use borrow.Author.Needs.{needs}
 use Rattle.verdict.proofs.tell.verdict_of.Statement.{statement}
 use Rattle.verdict.proofs.tell.verdict_of.Tie as tie
@@ -18,60 +18,26 @@ returns : tie.Need-returns
 returns c = let s = c .before .before .before in
     subst (λ (r : Verdict). Told (s .args .t) (s .args .model) r) (sym (c .bare .ensures)) (told-model (s .args .t) (s .args .model) (sym (c .before .before .modelled .ensures) ∙ not-true _ (c .before .if1 .taken)))
 
-well-formed-requires : tie.Need-well-formed-requires
-well-formed-requires c κs = search needs
-
-bare-requires-2 : tie.Need-bare-requires-2
-bare-requires-2 c κs = search needs
+first-order-requires : tie.Need-first-order-requires
+first-order-requires c κs = search needs
 
 returns-2 : tie.Need-returns-2
-returns-2 c = let w = c .before .before in
-    let s = w .before .before .before in
-    subst (λ (r : Verdict). Told (s .args .t) (s .args .model) r) (sym (c .bare2 .ensures))
-    (told-form (s .args .t) (s .args .model) (sym (w .before .before .modelled .ensures) ∙ not-false _ (w .before .if1 .left)) (sym (w .well-formed .ensures) ∙ not-true _ (c .before .if2 .taken)))
+returns-2 c = let o = c .before .before in
+    let m = o .before .before in
+    let s = m .before in
+    told-order (s .args .t) (s .args .model) (sym (m .modelled .ensures) ∙ not-false _ (o .before .if1 .left)) (o .first-order .result) (o .first-order .ensures) (c .before .if2 .taken)
 
-missing-requires : tie.Need-missing-requires
-missing-requires c κs = search needs
-
-enum-known-x : tie.Need-enum-known-x
-enum-known-x c = search needs
-
-bare-requires-3 : tie.Need-bare-requires-3
-bare-requires-3 c κs = search needs
-
-enum-told : tie.Need-enum-told
-enum-told c = search needs
-
-order-or-circle-requires : tie.Need-order-or-circle-requires
-order-or-circle-requires c κs = let m = c .before .before in
-    let w = m .before .before in
-    let s = w .before .before .before in
-    record { model = sym (w .before .before .modelled .ensures) ∙ not-false _ (w .before .if1 .left); well = sym (w .well-formed .ensures) ∙ not-false _ (m .before .if2 .left); sourced = sym (m .missing .ensures) ∙ c .enum-told .given .1 }
+unordered-requires : tie.Need-unordered-requires
+unordered-requires c κs = let o = c .before in
+    let m = o .before .before in
+    let s = m .before in
+    let k = sym (m .modelled .ensures) ∙ not-false _ (o .before .if1 .left) in
+    (k, orderless (s .args .t) (s .args .model) k (o .first-order .result) (o .first-order .ensures) (c .if2 .left))
 
 returns-3 : tie.Need-returns-3
-returns-3 c = let m = c .before .before .before .before in
-    let w = m .before .before in
-    let s = w .before .before .before in
-    subst (λ (r : Verdict). Told (s .args .t) (s .args .model) r) (sym (c .bare3 .ensures))
-    (told-source (s .args .t) (s .args .model) (sym (w .before .before .modelled .ensures) ∙ not-false _ (w .before .if1 .left)) (sym (w .well-formed .ensures) ∙ not-false _ (m .before .if2 .left)) _ (sym (c .before .before .x .given .1) ∙ m .missing .ensures))
-
-returns-4 : tie.Need-returns-4
-returns-4 c = search needs
+returns-3 c = search needs
 
 pub verdict-of-spec : {M : Type 1} → statement M
 verdict-of-spec =
     tie.close
-    (tie.spec
-    modelled-requires
-    bare-requires
-    returns
-    well-formed-requires
-    bare-requires-2
-    returns-2
-    missing-requires
-    enum-known-x
-    bare-requires-3
-    enum-told
-    order-or-circle-requires
-    returns-3
-    returns-4)
+    (tie.spec modelled-requires bare-requires returns first-order-requires returns-2 unordered-requires returns-3)
