@@ -63,7 +63,6 @@ module _ (f : Frame) (K P : Table) where
     begun = λ x y u. d .has x y .1 (one (b .has x y .1 u));
   }
 
-
   circled : (e : List ℕ) → Circled (Edges e) ↔ So (any RECORDS (λ x. bit e x x))
   circled e =
       let a = so-any RECORDS (λ x. bit e x x) in

@@ -158,9 +158,9 @@ settled-takes n e m e′ S L z b₆ b₇ q₆ q₇ p₆ p₇ =
     split x y (seventh o) = inr (q₇ ∙ p₆ .keeps S z (o .0), o .1, o .2)
 
 -- e₀ are the rows that the pass began with
-pub settled-turn : (n : ℕ) (w e₀ e e′ : List ℕ) (S L z : ℕ) → Edges e₀ ⊆ Edges e → So (bit w z L && not (eqb z S)) → Takes (Sourced n S L z) e (Settled e S L z) e′ → Takes (Written n w S L) e (SettledBy w e₀ S L z) e′
+pub settled-turn : (n : ℕ) (w e₀ e e′ : List ℕ) (S L z : ℕ) → Edges e₀ ⊆ Edges e → So (bit w L z && not (eqb z S)) → Takes (Sourced n S L z) e (Settled e S L z) e′ → Takes (Written n w S L) e (SettledBy w e₀ S L z) e′
 settled-turn n w e₀ e e′ S L z h want p =
-    let parts = and-iff (same-iff {a = bit w z L}) (not-iff (so-eq {m = z} {n = S})) .0 want in
+    let parts = and-iff (same-iff {a = bit w L z}) (not-iff (so-eq {m = z} {n = S})) .0 want in
     takes-ask (Sourced n S L z) (Written n w S L) (SettledBy w e₀ S L z) (λ x y u. settled-mono e₀ e S L z h x y (u .1)) (λ f K P g a. (a .0, a .1, a .2 z (parts .0), parts .1)) p
 
 pub load-turn : (n : ℕ) (s w e₀ e e′ : List ℕ) (L : ℕ) → L < n → Edges e₀ ⊆ Edges e → getD s L 0 < RECORDS → Takes (Written n w (getD s L 0) L) e (Union n (SettledBy w e (getD s L 0) L)) e′

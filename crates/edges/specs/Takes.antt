@@ -45,7 +45,7 @@ abbrev pub Sourced : ℕ → ℕ → ℕ → ℕ → Asks
 Sourced n S L z f K P = Bounded n f K P × Source f S L × Writer f z L × (z ≢ S)
 
 abbrev pub Written : ℕ → List ℕ → ℕ → ℕ → Asks
-Written n w S L f K P = Bounded n f K P × Source f S L × ((z : ℕ) → So (bit w z L) → Writer f z L)
+Written n w S L f K P = Bounded n f K P × Source f S L × ((z : ℕ) → So (bit w L z) → Writer f z L)
 
 abbrev pub Noted : ℕ → List ℕ → List ℕ → Asks
-Noted n s w f K P = Bounded n f K P × ((L : ℕ) → L < n → getD s L 0 < RECORDS → Source f (getD s L 0) L × ((z : ℕ) → So (bit w z L) → Writer f z L))
+Noted n s w f K P = Bounded n f K P × ((L : ℕ) → L < n → getD s L 0 < RECORDS → Source f (getD s L 0) L × ((z : ℕ) → So (bit w L z) → Writer f z L))

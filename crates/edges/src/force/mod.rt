@@ -14,7 +14,7 @@ ghost use Rattle.pairs.specs.Kept.{keptOf};
 ghost use Rattle.edges.specs.Supposed.{supposedOf};
 ghost use Rattle.edges.specs.Adds.{Adds, Only, Union, Cover};
 ghost use Rattle.rules.specs.SourceOf.{sourceOf};
-ghost use Rattle.edges.specs.Drawn.{paired, Valued, ValuedFor, Settled, SettledBy, SettledFor, Loaded};
+ghost use Rattle.edges.specs.Drawn.{paired, Stored, Valued, ValuedFor, Settled, SettledBy, SettledFor, Loaded};
 ghost use Rattle.edges.specs.Turns.{Begun, Closed, Advanced};
 ghost use Rattle.edges.specs.Ended.{Ends};
 ghost use Rattle.edges.specs.Settling.{Grew};
@@ -114,11 +114,35 @@ fn draw_value(earlier: bool, early: bool, source: usize, x: usize, load: usize, 
     rows::put_if(edges, early & earlier, x, load);
 }
 
-// Draws what every record gives one record as a load, by rules 2 to 5, and notes the writers of its address.
-fn draw_values_for(t: Trace, load: usize, source: usize, writers: &mut [u64], edges: &mut [u64])
+// Notes who writes which address: a row for each.
+fn note_stores(t: Trace, stores: &mut [u64])
+    requires { ⌜ (t .len ≤ RECORDS) × (length (now stores) ≡ CELLS) ⌝ }
+    ensures { λ r. ⌜ Adds (now (stores .entry)) (Union (t .len) (λ x. Only (frameOf t .writes x) (frameOf t .address x) x)) (now (stores .exit)) ⌝ }
+{
+    let n = t.len;
+    let mut x: usize = 0;
+    while x < n {
+        let record = t.records[x];
+        let a = record.op;
+        let addr = a.address() as usize;
+        rows::put_if(stores, a.writes(), addr, x);
+        x += 1;
+    }
+}
+
+// Draws what every writer of its address gives one record as a load, by rules 2 to 5, and notes these writers.
+fn draw_values_for(
+    t: Trace,
+    stores: &[u64],
+    load: usize,
+    source: usize,
+    writers: &mut [u64],
+    edges: &mut [u64],
+)
     requires { ⌜ (load < t .len) × (t .len ≤ RECORDS) × (source ≡ sourceOf (frameOf t) load) ⌝ }
+    requires { ⌜ Stored (frameOf t) (now stores) (frameOf t .address load) ⌝ }
     requires { ⌜ (length (now writers) ≡ CELLS) × (length (now edges) ≡ CELLS) ⌝ }
-    ensures { λ r. ⌜ Adds (now (writers .entry)) (Union (t .len) (λ x. Only (writer? (frameOf t) x load) x load)) (now (writers .exit)) ⌝ }
+    ensures { λ r. ⌜ Adds (now (writers .entry)) (Union (t .len) (λ x. Only (writer? (frameOf t) x load) load x)) (now (writers .exit)) ⌝ }
     ensures { λ r. ⌜ Adds (now (edges .entry)) (Union (t .len) (ValuedFor (frameOf t) load)) (now (edges .exit)) ⌝ }
 {
     let n = t.len;
@@ -126,16 +150,17 @@ fn draw_values_for(t: Trace, load: usize, source: usize, writers: &mut [u64], ed
     let b = record.op;
     let addr = b.address();
     let early = b.reads() & (b.read() == first(t, addr));
-    let mut x: usize = 0;
+    let row = addr as usize;
+    let mut x = rows::next(stores, row, 0);
     while x < n {
-        let record = t.records[x];
-        let a = record.op;
-        if a.writes() & (a.address() == addr) & (x != load) {
-            rows::put(writers, x, load);
+        if x != load {
+            rows::put(writers, load, x);
+            let record = t.records[x];
+            let a = record.op;
             let earlier = (x < load) & (a.thread() == b.thread());
             draw_value(earlier, early, source, x, load, edges);
         }
-        x += 1;
+        x = rows::next(stores, row, x + 1);
     }
 }
 
@@ -145,6 +170,8 @@ fn draw_values(t: Trace, sources: &mut [usize], writers: &mut [u64], edges: &mut
     ensures { λ r. ⌜ Loaded (frameOf t) (t .len) (t .len) (now (sources .exit)) (now (writers .entry)) (now (writers .exit)) (now (edges .entry)) (now (edges .exit)) ⌝ }
 {
     let n = t.len;
+    let mut stores = [0u64; rows::CELLS];
+    note_stores(t, &mut stores);
     let mut load: usize = 0;
     while load < n {
         let source = source_of(t, load);
@@ -152,7 +179,7 @@ fn draw_values(t: Trace, sources: &mut [usize], writers: &mut [u64], edges: &mut
         let record = t.records[load];
         let b = record.op;
         if b.reads() {
-            draw_values_for(t, load, source, writers, edges);
+            draw_values_for(t, &stores, load, source, writers, edges);
         }
         load += 1;
     }
@@ -179,12 +206,12 @@ fn draw_settled_for(
     requires { ⌜ (n ≤ RECORDS) × (source < RECORDS) × (load < RECORDS) × (length (now edges) ≡ CELLS) ⌝ }
     ensures { λ r. ⌜ Adds (now (edges .entry)) (Union n (SettledBy (now (writers .entry)) (now (chains .entry)) source load)) (now (edges .exit)) ⌝ }
 {
-    let mut x: usize = 0;
+    let mut x = rows::next(writers, load, 0);
     while x < n {
-        if rows::test(writers, x, load) & (x != source) {
+        if x != source {
             draw_settled_by(chains, source, load, x, edges);
         }
-        x += 1;
+        x = rows::next(writers, load, x + 1);
     }
 }
 
@@ -247,12 +274,12 @@ fn settle_for(n: usize, writers: &[u64], source: usize, load: usize, edges: &mut
     requires { ⌜ (n ≤ RECORDS) × (source < RECORDS) × (load < n) × (length (now edges) ≡ CELLS) ⌝ }
     ensures { λ r. ⌜ Takes (Written n (now (writers .entry)) source load) (now (edges .entry)) (Union n (SettledBy (now (writers .entry)) (now (edges .entry)) source load)) (now (edges .exit)) ⌝ }
 {
-    let mut x: usize = 0;
+    let mut x = rows::next(writers, load, 0);
     while x < n {
-        if rows::test(writers, x, load) & (x != source) {
+        if x != source {
             settle_by(n, source, load, x, edges);
         }
-        x += 1;
+        x = rows::next(writers, load, x + 1);
     }
 }
 
