@@ -7,21 +7,23 @@
 --   adds-then, adds-or              == first some and then others
 --   union-none, union-more          == what a loop adds: before its first turn, and by one turn more
 --   union-skip                      == a turn that adds nothing
+--   swept-none, swept-more          == what a loop over some of the numbers adds: none up to its first; one, and on to the next
+--   swept-all                       == past the last
 use mathlib.Core.Path.{_≡_, refl, sym, _∙_, subst}
 use mathlib.Core.Logic.{_↔_, _⊎_, inl, inr}
 use mathlib.Core.Bool.{Bool, true, false, So, false≢true}
 use mathlib.Core.List.{List}
-use Prim.Native.Nat.{ℕ, _+_, _<_}
+use Prim.Native.Nat.{ℕ, _+_, _<_, _≤_}
 use native.Mathlib.Omega.{arith}
 use lib.ListN.{length}
 use Rattle.laws.specs.Relation.{Rel}
-use Rattle.laws.proofs.Tests.{and-iff, or-iff, same-iff, so-eq, eq?}
+use Rattle.laws.proofs.Tests.{and-iff, or-iff, same-iff, so-eq, eq?, three}
 use Rattle.trace.specs.Bounds.{RECORDS}
 use Rattle.rows.specs.Bounds.{CELLS}
 use Rattle.rows.specs.Rows.{bit, Edges}
 use Rattle.rows.specs.Put.{putOf, putIf}
 use Rattle.rows.proofs.Pair.{put-bit, put-long, put-words}
-use Rattle.edges.specs.Adds.{Adds, Only, Union}
+use Rattle.edges.specs.Adds.{Adds, Only, Union, Swept}
 
 pub adds-none : (a : List ℕ) (R : Rel) → ((x y : ℕ) → R x y → ⊥) → Adds a R a
 adds-none a R n = record { long = refl; words = λ w. w; pairs = λ x y. (inl, λ s. elim s [ inl e ↦ e | inr r ↦ absurd (n x y r) ]) }
@@ -98,3 +100,27 @@ module _ (R : ℕ → Rel) where
 
   pub union-skip : {a b : List ℕ} (n : ℕ) → Adds a (Union n R) b → ((x y : ℕ) → R n x y → ⊥) → Adds a (Union (n + 1) R) b
   union-skip {b = b} n p none = union-more n p (adds-none b (R n) none)
+
+module _ (n : ℕ) (R : ℕ → Rel) where
+  pub swept-none : (x : ℕ) → ((z : ℕ) → z < x → (i j : ℕ) → R z i j → ⊥) → (i j : ℕ) → Swept n x R i j → ⊥
+  unfolding Union
+  swept-none x none i j u = none (u .0) (u .2 .0) i j (u .2 .1)
+
+  -- between x and the next there is none
+  pub swept-more : (x x′ : ℕ) → x < n → x < x′ → ((z : ℕ) → x < z → z < x′ → (i j : ℕ) → R z i j → ⊥) → (i j : ℕ) → (Swept n x R i j ⊎ R x i j) ↔ Swept n x′ R i j
+  unfolding Union
+  swept-more x x′ h l none i j = (there, back)
+    where
+      there : Swept n x R i j ⊎ R x i j → Swept n x′ R i j
+      there (inl u) = (u .0, u .1, (omega (arith, u .2 .0), u .2 .1))
+      there (inr r) = (x, h, (l, r))
+
+      back : Swept n x′ R i j → Swept n x R i j ⊎ R x i j
+      back u = elim (three (u .0) x) [
+        | inl m ↦ inl (u .0, u .1, (m, u .2 .1))
+        | inr m ↦ elim m [ inl e ↦ inr (rw e at (u .2 .1)) | inr k ↦ absurd (none (u .0) k (u .2 .0) i j (u .2 .1)) ]
+      ]
+
+  pub swept-all : (x : ℕ) → n ≤ x → (i j : ℕ) → Swept n x R i j ↔ Union n R i j
+  unfolding Union
+  swept-all x h i j = (λ u. (u .0, u .1, u .2 .1), λ u. (u .0, u .1, (omega (arith, u .1), u .2)))

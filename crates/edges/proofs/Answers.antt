@@ -1,7 +1,7 @@
 -- From the last round to what is forced, and that no second answer fits.
 --
 --   rounded-some, rounded-none   == the last round, where there is something to answer and where not
---   forces-circle, forces-last   == what is forced, where the last round has a circle and where not
+--   forces-grew, forces-none     == what is forced, where there is something to answer and where not
 --   ends-one                     == the rounds end at one round only, and its rows are settled
 --   rounded-one, forces-one      == no second answer fits
 use mathlib.Core.Path.{_≡_, sym, ap₂, _∙_}
@@ -17,14 +17,15 @@ use Rattle.trace.specs.declared.Trace.{Trace}
 use Rattle.rows.specs.Bounds.{CELLS}
 use Rattle.rows.specs.Rows.{bit}
 use Rattle.rows.specs.Empty.{emptyOf}
-use Rattle.rows.proofs.Whole.{empty-bit, empty-long, empty-words, rows-one}
+use Rattle.rows.proofs.Whole.{empty-long, empty-words, rows-one}
 use Rattle.pairs.specs.Kept.{keptOf}
 use Rattle.edges.specs.Supposed.{supposedOf}
 use Rattle.edges.specs.Ended.{Goes, Full, Ends}
 use Rattle.edges.specs.Answers.{answered, Rounded, Forces}
 use Rattle.edges.specs.declared.Forced.{Forced}
 use Rattle.edges.specs.declared.force.Round.{Round}
-use Rattle.rules.proofs.Closing.{closing-circle, closing-last, closing-one}
+use Rattle.edges.specs.Settling.{Grew}
+use Rattle.rules.proofs.Closing.{closing-one}
 
 module _ (t : Trace) (m : ℕ) (rows : List ℕ) where
   pub rounded-some : (r : Round) → So (answered m t) → Ends (frameOf t) (keptOf m t) (supposedOf t rows) (r .number) (r .circle) (r .before) (r .edges) (r .chains) → Rounded t m rows r
@@ -33,26 +34,11 @@ module _ (t : Trace) (m : ℕ) (rows : List ℕ) where
   pub rounded-none : (r : Round) → answered m t ≡ false → r .number ≡ 0 → r .circle ≡ false → r .before ≡ emptyOf CELLS → r .edges ≡ emptyOf CELLS → r .chains ≡ emptyOf CELLS → Rounded t m rows r
   rounded-none r n k c b e h = record { ended = λ s. absurd (false≢true (sym n ∙ s)); none = λ _. (k, c, b, e, h) }
 
-  pub forces-circle : (last : Round) → Rounded t m rows last → last .circle ≡ true → (r : Forced) → r .contradicted ≡ true → r .held ≡ emptyOf CELLS → Forces t m rows r
-  forces-circle last d c r y h = record {
-    full = rw h (record { long = empty-long CELLS; words = empty-words CELLS });
-    closing = λ s.
-        let e = d .ended s in
-        let x = e .circle-is .0 c in
-        rw (y, h) (closing-circle (frameOf t) (keptOf m t) (supposedOf t rows) (last .number) (x .0) (x .1) (bit (emptyOf CELLS)) (λ i j b. false≢true (sym (empty-bit CELLS i j) ∙ b)));
-    none = λ n. absurd (false≢true (sym (d .none n .1) ∙ c));
-  }
+  pub forces-grew : (r : Forced) → So (answered m t) → Grew (frameOf t) (keptOf m t) (supposedOf t rows) (r .contradicted) (r .held) → Forces t m rows r
+  forces-grew r s d = record { full = d .full; closing = λ _. d .closing; none = λ n. absurd (false≢true (sym n ∙ s)) }
 
-  pub forces-last : (last : Round) → Rounded t m rows last → last .circle ≡ false → (r : Forced) → r .contradicted ≡ false → r .held ≡ last .chains → Forces t m rows r
-  forces-last last d c r y h = record {
-    full = rw h (elim (test (answered m t)) [ inl s ↦ d .ended s .chains-full | inr n ↦ rw (d .none n .4) (record { long = empty-long CELLS; words = empty-words CELLS }) ]);
-    closing = λ s.
-        let e = d .ended s in
-        let free : So (last .circle) → ⊥ = λ u. false≢true (sym c ∙ u) in
-        rw (y, h)
-        (closing-last (frameOf t) (keptOf m t) (supposedOf t rows) (last .number) (e .last free) (λ x u. free (e .circle-is .1 (x, u))) (bit (last .chains)) (e .chains-has));
-    none = λ n. (y, h ∙ d .none n .4);
-  }
+  pub forces-none : (r : Forced) → answered m t ≡ false → r .contradicted ≡ false → r .held ≡ emptyOf CELLS → Forces t m rows r
+  forces-none r n c h = record { full = rw h (record { long = empty-long CELLS; words = empty-words CELLS }); closing = λ s. absurd (false≢true (sym n ∙ s)); none = λ _. (c, h) }
 
 module _ (f : Frame) (K P : Table) where
   -- the rounds do not go on from where they end

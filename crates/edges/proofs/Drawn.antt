@@ -6,10 +6,16 @@
 --   supposed-none, supposed-at                == rule 8 from a record of which nothing is supposed, and as a loop reads it off two records
 --   paired-both                               == rules 1 and 8 together
 --   writer-at, earlier-at, early-at, reads-at == the tests of rules 2 to 5, likewise
+--   address-at                                == its address
+--   stored-at, stored                         == a record that is noted by its address, and all of them
+--   store-writer, store-own, store-none       == a record that is noted by the load's address writes it, unless it is the load; no other does
 --   third-small, valued-at                    == a writer's turn for a load
 --   valued-for, noted, not-writer             == the same in a frame, where a record writes the load's address and where not
 --   loaded-none, loaded-more, loaded-skip     == a load's turn, and that of a record that does not read
 --   settled-at                                == another writer's turn for a load with a source, by rules 6 and 7
+--   turned, settled-by                        == the same of a number that is noted
+--   settled-other, settled-none               == of the source, and of one that is not noted: nothing
+--   next-on, next-at                          == a row's next number is further on; it is in the row, or there is none
 use mathlib.Core.Path.{_≡_, refl, sym, _∙_}
 use mathlib.Core.Logic.{_⊎_, inl, inr, _↔_}
 use mathlib.Core.Bool.{Bool, true, false, So, not, _&&_, _||_, false≢true}
@@ -23,7 +29,7 @@ use lib.ListN.{length, getD, set, length-set}
 use lib.Seq.{getD-set-same, getD-set-other}
 use Rattle.laws.specs.Tests.{any}
 use Rattle.laws.specs.Relation.{Rel}
-use Rattle.laws.proofs.Tests.{off, and-iff, or-iff, same-iff, so-lt, eq?, test-one}
+use Rattle.laws.proofs.Tests.{off, and-iff, or-iff, not-iff, same-iff, so-eq, so-lt, eq?, test-one}
 use Rattle.trace.specs.Bounds.{RECORDS}
 use Rattle.trace.specs.Op.{thread, address, read, reads, writes, fence}
 use Rattle.trace.specs.Trace.{at, first}
@@ -35,13 +41,15 @@ use Rattle.rows.specs.Rows.{bit}
 use Rattle.rows.specs.Put.{putOf}
 use Rattle.rows.specs.Empty.{emptyOf}
 use Rattle.rows.specs.Within.{Within}
+use Rattle.rows.specs.Next.{Next}
 use Rattle.rows.proofs.Whole.{empty-bit}
 use Rattle.pairs.specs.Kept.{keptPair, fenced, keptOf}
 use Rattle.edges.specs.Supposed.{supposedOf}
 use Rattle.rules.specs.Tests.{writer?}
 use Rattle.edges.specs.Adds.{Adds, Only, Union}
 use Rattle.rules.specs.SourceOf.{sourceOf}
-use Rattle.edges.specs.Drawn.{paired, Valued, readsFirst, ValuedFor, Loaded, second, third, fourth, fifth, Settled, sixth, seventh}
+use Rattle.edges.specs.Drawn.{paired, Stored, Valued, readsFirst, ValuedFor, Loaded, second, third, fourth, fifth, Settled, sixth, seventh, SettledBy}
+use Rattle.rules.proofs.Tests.{writer-iff}
 use Rattle.pairs.proofs.KeptPairs.{earlier-iff, fenced-iff, kept-of-iff, kept-parts}
 use Rattle.edges.proofs.Adds.{adds-none, adds-put, adds-only, adds-as, adds-or, union-none, union-more, union-skip}
 
@@ -140,6 +148,14 @@ module _ (t : Trace) (S L : ℕ) where
   unfolding frameOf
   early-at h r v b q o e = rw (q, o, e, so-lt {m = L} {n = t .len} .1 h) refl
 
+  pub stored-at : L < t .len → (w : Bool) (a : ℕ) → w ≡ writes (at t L) → a ≡ address (at t L) → {d e : List ℕ} → Adds d (Only w a L) e → Adds d (Only (frameOf t .writes L) (frameOf t .address L) L) e
+  unfolding frameOf
+  stored-at h w a p q add = rw (so-lt {m = L} {n = t .len} .1 h) (rw (p, q) at add)
+
+  pub address-at : (a : ℕ) → a ≡ address (at t L) → a ≡ frameOf t .address L
+  unfolding frameOf
+  address-at a q = q
+
   pub reads-at : L < t .len → (r : Bool) → r ≡ reads (at t L) → r ≡ frameOf t .reads L
   unfolding frameOf
   reads-at h r q = rw (so-lt {m = L} {n = t .len} .1 h) q
@@ -181,11 +197,11 @@ valued-for f S L source e y w ps pe py {a} {b} p =
     let q : Adds a (Valued (f .earlier S L) (readsFirst f L) (sourceOf f L) S L) b = rw (ps, pe, py) at p in
     adds-as (ValuedFor f L S) q (λ i j. (λ v. (w, v), λ v. v .1))
 
-pub noted : (f : Frame) (S L : ℕ) → So (writer? f S L) → (a : List ℕ) → length a ≡ CELLS → S < RECORDS → L < RECORDS → Adds a (Only (writer? f S L) S L) (putOf a S L)
-noted f S L w a l hS hL = adds-put a l (writer? f S L) w S L hS hL
+pub noted : (f : Frame) (S L : ℕ) → So (writer? f S L) → (a : List ℕ) → length a ≡ CELLS → S < RECORDS → L < RECORDS → Adds a (Only (writer? f S L) L S) (putOf a L S)
+noted f S L w a l hS hL = adds-put a l (writer? f S L) w L S hL hS
 
 pub not-writer : (f : Frame) (S L : ℕ) → writer? f S L ≡ false
-    → ((x y : ℕ) → Only (writer? f S L) S L x y → ⊥) × ((x y : ℕ) → ValuedFor f L S x y → ⊥)
+    → ((x y : ℕ) → Only (writer? f S L) L S x y → ⊥) × ((x y : ℕ) → ValuedFor f L S x y → ⊥)
 not-writer f S L w = (λ x y o. false≢true (sym w ∙ o .0), λ x y v. false≢true (sym w ∙ v .0))
 
 pub loaded-none : (f : Frame) (n : ℕ) (s w e : List ℕ) → length s ≡ RECORDS → Loaded f n 0 s w w e e
@@ -198,7 +214,7 @@ sources-more f n k s w₀ w e₀ e source h src l =
     below-more _ k (λ L b. getD-set-other s k L source 0 (λ d. omega arith) ∙ l .sources L b) (getD-set-same s k source 0 (omega (arith, l .long)) ∙ src)
 
 module _ (f : Frame) (n k : ℕ) (s w₀ w e₀ e : List ℕ) (source : ℕ) (h : k < RECORDS) (src : source ≡ sourceOf f k) (l : Loaded f n k s w₀ w e₀ e) where
-  pub loaded-more : (w′ e′ : List ℕ) → So (f .reads k) → Adds w (Union n (λ S. Only (writer? f S k) S k)) w′ → Adds e (Union n (ValuedFor f k)) e′
+  pub loaded-more : (w′ e′ : List ℕ) → So (f .reads k) → Adds w (Union n (λ S. Only (writer? f S k) k S)) w′ → Adds e (Union n (ValuedFor f k)) e′
       → Loaded f n (k + 1) (set s k source) w₀ w′ e₀ e′
   loaded-more w′ e′ r p q = record {
     long = length-set s k source ∙ l .long;
@@ -229,3 +245,43 @@ settled-at h S L z k₆ k₇ e₆ e₇ {a} {b} {c} p q =
     back : (x y : ℕ) → Settled h S L z x y → Only (bit h z L) z S x y ⊎ Only (bit h S z) L z x y
     back x y (sixth o) = inl o
     back x y (seventh o) = inr o
+
+module _ (w c : List ℕ) (S L z : ℕ) where
+  -- the two tests of a turn
+  pub turned : So (bit w L z && not (eqb z S)) ↔ (So (bit w L z) × (z ≡ S → ⊥))
+  turned = and-iff same-iff (not-iff so-eq)
+
+  pub settled-by : So (bit w L z) → (z ≡ S → ⊥) → {a b : List ℕ} → Adds a (Settled c S L z) b → Adds a (SettledBy w c S L z) b
+  settled-by there d p = adds-as (SettledBy w c S L z) p (λ i j. (λ v. (turned .1 (there, d), v), λ v. v .1))
+
+  pub settled-other : z ≡ S → (i j : ℕ) → SettledBy w c S L z i j → ⊥
+  settled-other e i j v = turned .0 (v .0) .1 e
+
+  pub settled-none : (So (bit w L z) → ⊥) → (i j : ℕ) → SettledBy w c S L z i j → ⊥
+  settled-none n i j v = n (turned .0 (v .0) .0)
+
+pub next-on : (rows : List ℕ) (r x x′ : ℕ) → Next rows r (x + 1) x′ → x < RECORDS → x < x′
+next-on rows r x x′ n h = elim (n .there) [ inl u ↦ omega (arith, u .0) | inr e ↦ omega arith ]
+
+pub next-at : (rows : List ℕ) (r x x′ : ℕ) → Next rows r x x′ → So (bit rows r x′) ⊎ (x′ ≡ RECORDS)
+next-at rows r x x′ n = elim (n .there) [ inl u ↦ inl (u .1) | inr e ↦ inr e ]
+
+pub stored : (t : Trace) (s e : List ℕ) → s ≡ emptyOf CELLS → Adds s (Union (t .len) (λ x. Only (frameOf t .writes x) (frameOf t .address x) x)) e → (a : ℕ) → Stored (frameOf t) e a
+unfolding Union frameOf
+stored t s e none p a x = (
+  λ b. elim (p .pairs a x .0 b) [
+    | inl c ↦ absurd (false≢true (sym (empty-bit CELLS a x) ∙ (rw none at c)))
+    | inr u ↦ let o = u .2 in rw (o .2, o .1) (o .0, refl)
+  ],
+  λ q. p .pairs a x .1 (inr (x, and-iff (so-lt {m = x} {n = t .len}) (same-iff {a = writes (at t x)}) .0 (q .0) .0, (q .0, sym (q .1), refl))),
+)
+
+module _ (f : Frame) (s : List ℕ) (L a : ℕ) (same : a ≡ f .address L) (is : Stored f s (f .address L)) (x : ℕ) where
+  pub store-writer : So (bit s a x) → (x ≡ L → ⊥) → So (writer? f x L)
+  store-writer b d = let w = is x .0 (rw same at b) in writer-iff f x L .1 record { writes = w .0; same = w .1; other = d }
+
+  pub store-own : x ≡ L → writer? f x L ≡ false
+  store-own e = off (λ t. writer-iff f x L .0 t .other e)
+
+  pub store-none : (So (bit s a x) → ⊥) → writer? f x L ≡ false
+  store-none n = off (λ t. let w = writer-iff f x L .0 t in n (rw same (is x .1 (w .writes, w .same))))

@@ -6,3 +6,5 @@ pub mod Turns
 pub mod Ended
 pub mod Answers
 pub mod One
+pub mod Takes
+pub mod Settling

@@ -99,7 +99,7 @@ module _ (f : Frame) (g : Good f) (small : f .records ≤ RECORDS) where
 
     module _ (s w h : List ℕ) (facts : Facts f s w) (C : Rel) (has : (x y : ℕ) → So (bit h x y) ↔ C x y) where
       -- who settles a load is another writer of its address
-      other : (S L z : ℕ) → So (f .reads L) → So (bit w z L && not (eqb z S)) ↔ (Writer f z L × (z ≡ S → ⊥))
+      other : (S L z : ℕ) → So (f .reads L) → So (bit w L z && not (eqb z S)) ↔ (Writer f z L × (z ≡ S → ⊥))
       other S L z r = and-iff (facts .writers z L r) (not-iff so-eq)
 
       settled : (S L z x y : ℕ) → Source f S L → Writer f z L → (z ≡ S → ⊥) → Settled h S L z x y → Gives f K P C x y 6 ⊎ Gives f K P C x y 7
@@ -157,10 +157,10 @@ module _ (f : Frame) (g : Good f) (small : f .records ≤ RECORDS) where
         )
 
   pub writers-noted : (w₀ w : List ℕ) → ((x y : ℕ) → So (bit w₀ x y) → ⊥)
-      → Adds w₀ (Union (f .records) (λ L x y. So (f .reads L) × Union (f .records) (λ S. Only (writer? f S L) S L) x y)) w
-      → (S L : ℕ) → So (f .reads L) → So (bit w S L) ↔ Writer f S L
+      → Adds w₀ (Union (f .records) (λ L x y. So (f .reads L) × Union (f .records) (λ S. Only (writer? f S L) L S) x y)) w
+      → (S L : ℕ) → So (f .reads L) → So (bit w L S) ↔ Writer f S L
   unfolding Union
   writers-noted w₀ w none adds S L r = (
-    λ b. elim (adds .pairs S L .0 b) [ inl c ↦ absurd (none S L c) | inr u ↦ let v = u .2 .1 in let o = v .2 in rw (o .1, o .2) (writer-iff f (v .0) (u .0) .0 (o .0)) ],
-    λ q. adds .pairs S L .1 (inr (L, reader-below r, (r, (S, writer-below q, (writer-iff f S L .1 q, refl, refl))))),
+    λ b. elim (adds .pairs L S .0 b) [ inl c ↦ absurd (none L S c) | inr u ↦ let v = u .2 .1 in let o = v .2 in rw (o .1, o .2) (writer-iff f (v .0) (u .0) .0 (o .0)) ],
+    λ q. adds .pairs L S .1 (inr (L, reader-below r, (r, (S, writer-below q, (writer-iff f S L .1 q, refl, refl))))),
   )

@@ -1,6 +1,7 @@
 -- What the functions that draw edges add, in the order in which they come by it. In proofs/Drawn.antt it is what the rules give.
 --
 --   paired m t rows      == the pairs of rules 1 and 8
+--   Stored f st a        == row a of st has the records that write the address a
 --   Valued e y s S L     == what a writer S of L's address gives L by rules 2 to 5, where s is L's source, told whether S is earlier and L reads the first value
 --   readsFirst f L       == L reads the first value of its address
 --   ValuedFor f L S      == what S gives L in a frame, if it writes L's address
@@ -10,6 +11,7 @@
 --   Loaded f n k s w₀ w e₀ e == for each L below k, s has its source; if L reads, w has what is added to w₀, the writers of its address below n,
 --                               and e what is added to e₀, what they give it by rules 2 to 5
 use mathlib.Core.Path.{_≡_}
+use mathlib.Core.Logic.{_↔_}
 use mathlib.Core.Bool.{Bool, So, not, _&&_, _||_}
 use mathlib.Core.List.{List}
 use Prim.Native.Nat.{ℕ, _<_}
@@ -29,6 +31,9 @@ use Rattle.rules.specs.SourceOf.{sourceOf}
 abbrev pub paired : ℕ → Trace → List ℕ → Table
 paired m t rows x y = keptOf m t x y || supposedOf t rows x y
 
+abbrev pub Stored : Frame → List ℕ → ℕ → Type 0
+Stored f st a = (x : ℕ) → So (bit st a x) ↔ (So (f .writes x) × (f .address x ≡ a))
+
 pub data Valued (earlier early : Bool) (source S L x y : ℕ) : Type 0 where
   second : Only (eqb S source && not earlier) S L x y → Valued earlier early source S L x y
   third : Only (ltb source RECORDS && not (eqb S source) && earlier) S source x y → Valued earlier early source S L x y
@@ -46,7 +51,7 @@ pub data Settled (c : List ℕ) (S L z x y : ℕ) : Type 0 where
   seventh : Only (bit c S z) L z x y → Settled c S L z x y
 
 abbrev pub SettledBy : List ℕ → List ℕ → ℕ → ℕ → ℕ → Rel
-SettledBy w c S L z x y = So (bit w z L && not (eqb z S)) × Settled c S L z x y
+SettledBy w c S L z x y = So (bit w L z && not (eqb z S)) × Settled c S L z x y
 
 -- rules 6 and 7 ask for a source
 abbrev pub SettledFor : ℕ → List ℕ → List ℕ → List ℕ → ℕ → Rel
@@ -55,5 +60,5 @@ SettledFor n s w c L x y = (getD s L 0 < RECORDS) × Union n (SettledBy w c (get
 pub record Loaded (f : Frame) (n k : ℕ) (s w₀ w e₀ e : List ℕ) : Type 0 where
   pub long : length s ≡ RECORDS
   pub sources : (L : ℕ) → L < k → getD s L 0 ≡ sourceOf f L
-  pub writers : Adds w₀ (Union k (λ L x y. So (f .reads L) × Union n (λ S. Only (writer? f S L) S L) x y)) w
+  pub writers : Adds w₀ (Union k (λ L x y. So (f .reads L) × Union n (λ S. Only (writer? f S L) L S) x y)) w
   pub edges : Adds e₀ (Union k (λ L x y. So (f .reads L) × Union n (ValuedFor f L) x y)) e

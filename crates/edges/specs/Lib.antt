@@ -5,3 +5,5 @@ pub mod Drawn
 pub mod Ended
 pub mod Turns
 pub mod Answers
+pub mod Takes
+pub mod Settling

@@ -26,7 +26,7 @@ pub record Facts (f : Frame) (s w : List ℕ) : Type 0 where
   pub sources-long : length s ≡ RECORDS
   pub writers-long : length w ≡ CELLS
   pub sources : (L : ℕ) → L < f .records → getD s L 0 ≡ sourceOf f L
-  pub writers : (S L : ℕ) → So (f .reads L) → So (bit w S L) ↔ Writer f S L
+  pub writers : (S L : ℕ) → So (f .reads L) → So (bit w L S) ↔ Writer f S L
 
 pub record Begun (f : Frame) (K P : Table) (s w e : List ℕ) : Type 0 where
   pub facts : Facts f s w

@@ -19,3 +19,4 @@ pub mod Steps
 pub mod Prefixes
 pub mod Congruence
 pub mod LowestLoops
+pub mod Joined

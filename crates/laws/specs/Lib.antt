@@ -14,3 +14,4 @@ pub mod Alike
 pub mod Latest
 pub mod Search
 pub mod Steps
+pub mod Joined

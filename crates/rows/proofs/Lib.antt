@@ -5,5 +5,6 @@ pub mod Whole
 pub mod Closing
 pub mod One
 pub mod Against
+pub mod Nexts
 pub mod Dropping
 pub mod Sets

@@ -8,6 +8,7 @@ use denote.Ref.{now}
 use Rattle.laws.specs.Settles.{Settles, Leaves}
 use Rattle.laws.proofs.Tests.{test-one}
 use Rattle.rows.proofs.Closing.{chained-one}
+use Rattle.rows.proofs.Nexts.{next-one}
 use Rattle.rows.proofs.test.Reads as test
 use Rattle.rows.proofs.test.Kinds as test-kinds
 use Rattle.rows.proofs.put.Reads as put
@@ -26,6 +27,8 @@ use Rattle.rows.proofs.within.Reads as within
 use Rattle.rows.proofs.within.Kinds as within-kinds
 use Rattle.rows.proofs.meets.Reads as meets
 use Rattle.rows.proofs.meets.Kinds as meets-kinds
+use Rattle.rows.proofs.next.Reads as next
+use Rattle.rows.proofs.next.Kinds as next-kinds
 use Rattle.rows.proofs.reflexive.Reads as reflexive
 use Rattle.rows.proofs.reflexive.Kinds as reflexive-kinds
 use Rattle.rows.proofs.add_row.Reads as add-row
@@ -61,6 +64,9 @@ within-settles κs a x y s t p q = test-one p q
 
 pub meets-settles : Settles 2 meets-kinds.ps meets-kinds.r meets.Post
 meets-settles κs a x y s t p q = test-one p q
+
+pub next-settles : Settles 1 next-kinds.ps next-kinds.r next.Post
+next-settles κs a x y s t p q = next-one (now (a .0)) (a .1 .0) (a .1 .1 .0) x y p q
 
 pub reflexive-settles : Settles 1 reflexive-kinds.ps reflexive-kinds.r reflexive.Post
 reflexive-settles κs a x y s t p q = p ∙ sym q

@@ -7,6 +7,7 @@ pub mod Copy
 pub mod Added
 pub mod Chained
 pub mod Within
+pub mod Next
 pub mod AddRow
 pub mod DropRow
 pub mod Sets

@@ -10,6 +10,7 @@ ghost use Rattle.trace.specs.Bounds.{RECORDS};
 ghost use Rattle.rows.specs.Bounds.{CELLS, WORDS};
 ghost use Rattle.rows.specs.Rows.{bit, place};
 ghost use Rattle.rows.specs.Within.{wordOf, Within, Meets};
+ghost use Rattle.rows.specs.Next.{Next};
 ghost use Rattle.rows.specs.Empty.{emptyOf};
 ghost use Rattle.rows.specs.Put.{markOf, putOf, putIf};
 ghost use Rattle.rows.specs.Copy.{copyOf};
@@ -174,6 +175,22 @@ pub fn meets(a: &[u64], x: usize, b: &[u64], y: usize) -> bool
         i += 1;
     }
     false
+}
+
+// The lowest number from `from` on that is in a pair with x, a word at a time; RECORDS where there is none.
+pub fn next(rows: &[u64], x: usize, from: usize) -> usize
+    ensures { λ r. ⌜ Next (now (rows .entry)) x from r ⌝ }
+{
+    let mut z = from;
+    while z < trace::RECORDS {
+        let rest = word(rows, x, z / WIDTH) >> (z % WIDTH);
+        if rest != 0 {
+            let low = u64::trailing_zeros(rest) as usize;
+            return z + low;
+        }
+        z = (z / WIDTH + 1) * WIDTH;
+    }
+    trace::RECORDS
 }
 
 // Whether some number is in a pair with itself.

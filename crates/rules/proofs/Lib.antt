@@ -14,3 +14,4 @@ pub mod Missing
 pub mod Clear
 pub mod Sorted
 pub mod Counter
+pub mod Growing

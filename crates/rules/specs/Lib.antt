@@ -8,3 +8,4 @@ pub mod ShownCircle
 pub mod SourceOf
 pub mod Missing
 pub mod Clear
+pub mod Growing

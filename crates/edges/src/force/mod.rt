@@ -1,20 +1,24 @@
 // The forced edges, round by round, drawn into rows and closed.
 ghost use mathlib.Core.Path.{_≡_};
 ghost use mathlib.Core.Bool.{So};
+ghost use mathlib.Core.Logic.{_↔_};
 ghost use Prim.Native.Nat.{_<_, _≤_};
 ghost use lib.ListN.{length};
 ghost use Rattle.trace.specs.Bounds.{RECORDS};
 ghost use Rattle.trace.specs.WellFormed.{wellFormed};
 ghost use Rattle.trace.specs.Meaning.{frameOf};
 ghost use Rattle.rows.specs.Bounds.{CELLS};
+ghost use Rattle.rows.specs.Rows.{Edges};
 ghost use Rattle.rules.specs.Tests.{writer?};
 ghost use Rattle.pairs.specs.Kept.{keptOf};
 ghost use Rattle.edges.specs.Supposed.{supposedOf};
 ghost use Rattle.edges.specs.Adds.{Adds, Only, Union, Cover};
 ghost use Rattle.rules.specs.SourceOf.{sourceOf};
-ghost use Rattle.edges.specs.Drawn.{paired, Valued, ValuedFor, Settled, SettledBy, SettledFor, Loaded};
+ghost use Rattle.edges.specs.Drawn.{paired, Stored, Valued, ValuedFor, Settled, SettledBy, SettledFor, Loaded};
 ghost use Rattle.edges.specs.Turns.{Begun, Closed, Advanced};
 ghost use Rattle.edges.specs.Ended.{Ends};
+ghost use Rattle.edges.specs.Settling.{Grew};
+ghost use Rattle.edges.specs.Takes.{Lead, Takes, Pair, Sourced, Written, Noted};
 ghost use Rattle.edges.specs.Answers.{Rounded, Forces};
 use crate::Forced;
 use pairs::kept_pair;
@@ -110,11 +114,35 @@ fn draw_value(earlier: bool, early: bool, source: usize, x: usize, load: usize, 
     rows::put_if(edges, early & earlier, x, load);
 }
 
-// Draws what every record gives one record as a load, by rules 2 to 5, and notes the writers of its address.
-fn draw_values_for(t: Trace, load: usize, source: usize, writers: &mut [u64], edges: &mut [u64])
+// Notes who writes which address: a row for each.
+fn note_stores(t: Trace, stores: &mut [u64])
+    requires { ⌜ (t .len ≤ RECORDS) × (length (now stores) ≡ CELLS) ⌝ }
+    ensures { λ r. ⌜ Adds (now (stores .entry)) (Union (t .len) (λ x. Only (frameOf t .writes x) (frameOf t .address x) x)) (now (stores .exit)) ⌝ }
+{
+    let n = t.len;
+    let mut x: usize = 0;
+    while x < n {
+        let record = t.records[x];
+        let a = record.op;
+        let addr = a.address() as usize;
+        rows::put_if(stores, a.writes(), addr, x);
+        x += 1;
+    }
+}
+
+// Draws what every writer of its address gives one record as a load, by rules 2 to 5, and notes these writers.
+fn draw_values_for(
+    t: Trace,
+    stores: &[u64],
+    load: usize,
+    source: usize,
+    writers: &mut [u64],
+    edges: &mut [u64],
+)
     requires { ⌜ (load < t .len) × (t .len ≤ RECORDS) × (source ≡ sourceOf (frameOf t) load) ⌝ }
+    requires { ⌜ Stored (frameOf t) (now stores) (frameOf t .address load) ⌝ }
     requires { ⌜ (length (now writers) ≡ CELLS) × (length (now edges) ≡ CELLS) ⌝ }
-    ensures { λ r. ⌜ Adds (now (writers .entry)) (Union (t .len) (λ x. Only (writer? (frameOf t) x load) x load)) (now (writers .exit)) ⌝ }
+    ensures { λ r. ⌜ Adds (now (writers .entry)) (Union (t .len) (λ x. Only (writer? (frameOf t) x load) load x)) (now (writers .exit)) ⌝ }
     ensures { λ r. ⌜ Adds (now (edges .entry)) (Union (t .len) (ValuedFor (frameOf t) load)) (now (edges .exit)) ⌝ }
 {
     let n = t.len;
@@ -122,16 +150,17 @@ fn draw_values_for(t: Trace, load: usize, source: usize, writers: &mut [u64], ed
     let b = record.op;
     let addr = b.address();
     let early = b.reads() & (b.read() == first(t, addr));
-    let mut x: usize = 0;
+    let row = addr as usize;
+    let mut x = rows::next(stores, row, 0);
     while x < n {
-        let record = t.records[x];
-        let a = record.op;
-        if a.writes() & (a.address() == addr) & (x != load) {
-            rows::put(writers, x, load);
+        if x != load {
+            rows::put(writers, load, x);
+            let record = t.records[x];
+            let a = record.op;
             let earlier = (x < load) & (a.thread() == b.thread());
             draw_value(earlier, early, source, x, load, edges);
         }
-        x += 1;
+        x = rows::next(stores, row, x + 1);
     }
 }
 
@@ -141,6 +170,8 @@ fn draw_values(t: Trace, sources: &mut [usize], writers: &mut [u64], edges: &mut
     ensures { λ r. ⌜ Loaded (frameOf t) (t .len) (t .len) (now (sources .exit)) (now (writers .entry)) (now (writers .exit)) (now (edges .entry)) (now (edges .exit)) ⌝ }
 {
     let n = t.len;
+    let mut stores = [0u64; rows::CELLS];
+    note_stores(t, &mut stores);
     let mut load: usize = 0;
     while load < n {
         let source = source_of(t, load);
@@ -148,7 +179,7 @@ fn draw_values(t: Trace, sources: &mut [usize], writers: &mut [u64], edges: &mut
         let record = t.records[load];
         let b = record.op;
         if b.reads() {
-            draw_values_for(t, load, source, writers, edges);
+            draw_values_for(t, &stores, load, source, writers, edges);
         }
         load += 1;
     }
@@ -175,12 +206,12 @@ fn draw_settled_for(
     requires { ⌜ (n ≤ RECORDS) × (source < RECORDS) × (load < RECORDS) × (length (now edges) ≡ CELLS) ⌝ }
     ensures { λ r. ⌜ Adds (now (edges .entry)) (Union n (SettledBy (now (writers .entry)) (now (chains .entry)) source load)) (now (edges .exit)) ⌝ }
 {
-    let mut x: usize = 0;
+    let mut x = rows::next(writers, load, 0);
     while x < n {
-        if rows::test(writers, x, load) & (x != source) {
+        if x != source {
             draw_settled_by(chains, source, load, x, edges);
         }
-        x += 1;
+        x = rows::next(writers, load, x + 1);
     }
 }
 
@@ -194,6 +225,74 @@ fn draw_settled(n: usize, sources: &[usize], writers: &[u64], chains: &[u64], ed
         let source = sources[load];
         if source < RECORDS {
             draw_settled_for(n, writers, chains, source, load, edges);
+        }
+        load += 1;
+    }
+}
+
+// Adds the pair a, b, and all that it then joins, to the rows below n: a relation that is closed under chains stays so.
+fn span(n: usize, edges: &mut [u64], a: usize, b: usize)
+    requires { ⌜ (n ≤ RECORDS) × (b < RECORDS) × (length (now edges) ≡ CELLS) ⌝ }
+    ensures { λ r. ⌜ Adds (now (edges .entry)) (Union n (Lead (Edges (now (edges .entry))) a b)) (now (edges .exit)) ⌝ }
+{
+    let mut row = [0u64; rows::WORDS];
+    rows::add_row(edges, b, &mut row, 0);
+    rows::put(&mut row, 0, b);
+    let mut x: usize = 0;
+    while x < n {
+        if (x == a) | rows::test(edges, x, a) {
+            rows::add_row(&row, 0, edges, x);
+        }
+        x += 1;
+    }
+}
+
+// Takes the pair a, b into rows that are closed, with all that it joins, if it is asked for and not there.
+fn take(n: usize, edges: &mut [u64], want: bool, a: usize, b: usize)
+    requires { ⌜ (n ≤ RECORDS) × (a < n) × (b < RECORDS) × (length (now edges) ≡ CELLS) ⌝ }
+    ensures { λ r. ⌜ Takes (Pair n want a b) (now (edges .entry)) (Only want a b) (now (edges .exit)) ⌝ }
+{
+    let there = rows::test(edges, a, b);
+    if want & !there {
+        span(n, edges, a, b);
+    }
+}
+
+// Takes in what x, a writer of a load's address other than the load's source, gives by rules 6 and 7.
+fn settle_by(n: usize, source: usize, load: usize, x: usize, edges: &mut [u64])
+    requires { ⌜ (n ≤ RECORDS) × (x < n) × (source < RECORDS) × (load < n) × (length (now edges) ≡ CELLS) ⌝ }
+    ensures { λ r. ⌜ Takes (Sourced n source load x) (now (edges .entry)) (Settled (now (edges .entry)) source load x) (now (edges .exit)) ⌝ }
+{
+    let sixth = rows::test(edges, x, load);
+    take(n, edges, sixth, x, source);
+    let seventh = rows::test(edges, source, x);
+    take(n, edges, seventh, load, x);
+}
+
+// Takes in what one load with a source is given by rules 6 and 7.
+fn settle_for(n: usize, writers: &[u64], source: usize, load: usize, edges: &mut [u64])
+    requires { ⌜ (n ≤ RECORDS) × (source < RECORDS) × (load < n) × (length (now edges) ≡ CELLS) ⌝ }
+    ensures { λ r. ⌜ Takes (Written n (now (writers .entry)) source load) (now (edges .entry)) (Union n (SettledBy (now (writers .entry)) (now (edges .entry)) source load)) (now (edges .exit)) ⌝ }
+{
+    let mut x = rows::next(writers, load, 0);
+    while x < n {
+        if x != source {
+            settle_by(n, source, load, x, edges);
+        }
+        x = rows::next(writers, load, x + 1);
+    }
+}
+
+// Takes in what rules 6 and 7 give, load by load.
+fn settle(n: usize, sources: &[usize], writers: &[u64], edges: &mut [u64])
+    requires { ⌜ (n ≤ RECORDS) × (length (now sources) ≡ RECORDS) × (length (now edges) ≡ CELLS) ⌝ }
+    ensures { λ r. ⌜ Takes (Noted n (now (sources .entry)) (now (writers .entry))) (now (edges .entry)) (Union n (SettledFor n (now (sources .entry)) (now (writers .entry)) (now (edges .entry)))) (now (edges .exit)) ⌝ }
+{
+    let mut load: usize = 0;
+    while load < n {
+        let source = sources[load];
+        if source < RECORDS {
+            settle_for(n, writers, source, load, edges);
         }
         load += 1;
     }
@@ -248,6 +347,39 @@ fn advance(
     rows::copy(chains, before);
     rows::copy(&next, edges);
     true
+}
+
+// One pass over the loads, and whether it changed nothing.
+fn settle_all(n: usize, sources: &[usize], writers: &[u64], edges: &mut [u64]) -> bool
+    requires { ⌜ (n ≤ RECORDS) × (length (now sources) ≡ RECORDS) × (length (now edges) ≡ CELLS) ⌝ }
+    ensures { λ r. ⌜ Takes (Noted n (now (sources .entry)) (now (writers .entry))) (now (edges .entry)) (Union n (SettledFor n (now (sources .entry)) (now (writers .entry)) (now (edges .entry)))) (now (edges .exit)) ⌝ }
+    ensures { λ r. ⌜ So r ↔ (now (edges .entry) ≡ now (edges .exit)) ⌝ }
+{
+    let mut before = [0u64; rows::CELLS];
+    rows::copy(edges, &mut before);
+    settle(n, sources, writers, edges);
+    rows::equal(&before, edges)
+}
+
+// What the rules force, taken in pass by pass; with a circle no pair, and true.
+fn grow(t: Trace, model: u8, supposed: &[u64], edges: &mut [u64]) -> bool
+    requires { ⌜ (So (wellFormed t)) × (length (now edges) ≡ CELLS) ⌝ }
+    ensures { λ r. ⌜ Grew (frameOf t) (keptOf model t) (supposedOf t (now (supposed .entry))) r (now (edges .exit)) ⌝ }
+{
+    let mut sources = [RECORDS; RECORDS];
+    let mut writers = [0u64; rows::CELLS];
+    let mut first = [0u64; rows::CELLS];
+    draw_first(t, model, supposed, &mut sources, &mut writers, &mut first);
+    close(&first, edges);
+    loop {
+        if rows::reflexive(edges) {
+            rows::clear(edges);
+            return true;
+        }
+        if settle_all(t.len, &sources, &writers, edges) {
+            return false;
+        }
+    }
 }
 
 // Goes from round to round until one has a circle or adds nothing, and tells which one that is. What is left are the chains before that round,
@@ -317,14 +449,11 @@ pub fn last_round(t: Trace, model: u8, supposed: &[u64]) -> Round
 pub fn forced(t: Trace, model: u8, supposed: &[u64]) -> Forced
     ensures { λ r. ⌜ Forces t model (now (supposed .entry)) r ⌝ }
 {
-    let last = last_round(t, model, supposed);
-    if last.circle {
-        return Forced {
-            contradicted: true,
-            held: [0u64; rows::CELLS],
-        };
+    let mut held = [0u64; rows::CELLS];
+    if well_formed(t) & modelled(model) {
+        let contradicted = grow(t, model, supposed, &mut held);
+        return Forced { contradicted, held };
     }
-    let held = last.chains;
     Forced {
         contradicted: false,
         held,

@@ -1,28 +1,34 @@
 -- `edges::force::draw_values`: the records below `load` had their turn.
-use mathlib.Core.Path.{_≡_, sym, _∙_}
+use mathlib.Core.Path.{_≡_, refl, sym, _∙_}
 use mathlib.Core.Logic.{⊎-elim}
-use Prim.Native.Nat.{_<_, _≤_, _-_}
+use Prim.Native.Nat.{ℕ, _<_, _≤_, _-_}
 use native.Mathlib.Omega.{arith}
 use Rattle.trace.specs.Bounds.{RECORDS}
 use Rattle.trace.specs.Meaning.{frameOf}
 use Rattle.rules.specs.Tests.{writer?}
 use Rattle.edges.specs.Adds.{Adds, Only, Union}
-use Rattle.edges.specs.Drawn.{ValuedFor, Loaded}
-use Rattle.edges.proofs.Drawn.{reads-at, loaded-none, loaded-more, loaded-skip}
+use Rattle.edges.specs.Drawn.{Stored, ValuedFor, Loaded}
+use Rattle.edges.proofs.Drawn.{reads-at, stored, loaded-none, loaded-more, loaded-skip}
 use borrow.Author.Needs.{needs}
 use Rattle.edges.proofs.force.draw_values.Statement.{statement}
 use Rattle.edges.proofs.force.draw_values.Tie as tie
 
 abbrev Inv-loop : tie.InvT-loop
-Inv-loop sources₀ writers₀ edges₀ t n load₀ sources writers edges load = (load ≤ n) × Loaded (frameOf t) n load sources writers₀ writers edges₀ edges
+Inv-loop sources₀ writers₀ edges₀ t n stores load₀ sources writers edges load = (load ≤ n) × Loaded (frameOf t) n load sources writers₀ writers edges₀ edges × ((a : ℕ) → Stored (frameOf t) stores a)
 
 abbrev μ-loop : tie.MeasureT-loop
-μ-loop sources₀ writers₀ edges₀ t n load₀ sources writers edges load = n - load
+μ-loop sources₀ writers₀ edges₀ t n stores load₀ sources writers edges load = n - load
+
+slice-aggregate-note-stores : tie.Need-slice-aggregate-note-stores Inv-loop μ-loop
+slice-aggregate-note-stores c = search needs
+
+note-stores-requires : tie.Need-note-stores-requires Inv-loop μ-loop
+note-stores-requires c κs = search needs
 
 loop-holds : tie.Need-loop-holds Inv-loop μ-loop
 loop-holds c =
-    let s = c .before .before .before in
-    (omega arith, loaded-none (frameOf (s .args .t1)) (s .args .t1 .len) (s .args .sources .now) (s .args .writers .now) (s .args .edges .now) (s .pre .1))
+    let s = c .before .before .before .before .before .before in
+    (omega arith, loaded-none (frameOf (s .args .t1)) (s .args .t1 .len) (s .args .sources .now) (s .args .writers .now) (s .args .edges .now) (s .pre .1), stored (s .args .t1) _ _ refl (c .before .note-stores .ensures))
 
 source-of-requires : tie.Need-source-of-requires Inv-loop μ-loop
 source-of-requires c κs = search needs
@@ -44,12 +50,15 @@ element-copy-out-record c = search needs
 reads-requires : tie.Need-reads-requires Inv-loop μ-loop
 reads-requires c κs = search needs
 
+slice-aggregate-draw-values-for : tie.Need-slice-aggregate-draw-values-for Inv-loop μ-loop
+slice-aggregate-draw-values-for c = search needs
+
 draw-values-for-requires : tie.Need-draw-values-for-requires Inv-loop μ-loop
 draw-values-for-requires c κs =
-    let s = c .before .before .before .before .before in
+    let s = c .before .before .before .before .before .before in
     let l = s .before .before in
-    let p = l .before .before .before .before .pre in
-    ((search needs, search needs, s .source-of .ensures), (l .loop .inv .1 .writers .long ∙ p .2, l .loop .inv .1 .edges .long ∙ p .3))
+    let p = l .before .before .before .before .before .before .before .pre in
+    ((search needs, search needs, s .source-of .ensures), (l .loop .inv .2 _, (l .loop .inv .1 .writers .long ∙ p .2, l .loop .inv .1 .edges .long ∙ p .3)))
 
 add-load : tie.Need-add-load Inv-loop μ-loop
 add-load c = search needs
@@ -61,18 +70,19 @@ loop-again : tie.Need-loop-again Inv-loop μ-loop
 loop-again c =
     let s = c .before .before .before in
     let l = s .before .before in
-    let a = l .before .before .before .before .args in
+    let a = l .before .before .before .before .before .before .before .args in
     let f = frameOf (a .t1) in
     let load = l .loop .load in
     let small : load < RECORDS = search needs in
     let reads = reads-at (a .t1) load load (search needs) _ (c .before .reads .ensures) in
     ⊎-elim
     (λ w.
-    let writers : Adds (l .loop .writers) (Union (a .t1 .len) (λ x. Only (writer? f x load) x load)) (c .if1 .writers) = rw (w .8) (w .3 .ensures .0) in
-    let edges : Adds (l .loop .edges) (Union (a .t1 .len) (ValuedFor f load)) (c .if1 .edges) = rw (w .9) (w .3 .ensures .1) in (
+    let writers : Adds (l .loop .writers) (Union (a .t1 .len) (λ x. Only (writer? f x load) load x)) (c .if1 .writers) = rw (w .9) (w .4 .ensures .0) in
+    let edges : Adds (l .loop .edges) (Union (a .t1 .len) (ValuedFor f load)) (c .if1 .edges) = rw (w .10) (w .4 .ensures .1) in (
       omega arith,
       loaded-more f (a .t1 .len) load (l .loop .sources) (a .writers .now) (l .loop .writers) (a .edges .now) (l .loop .edges) (s .source-of .result) small (s .source-of .ensures)
           (l .loop .inv .1) (c .if1 .writers) (c .if1 .edges) (sym reads ∙ w .0 .taken) writers edges,
+      l .loop .inv .2,
     ))
     (λ w.
     let e₁ : c .if1 .writers ≡ l .loop .writers = w .1 in
@@ -81,13 +91,14 @@ loop-again c =
       rw (e₁, e₂)
           (loaded-skip f (a .t1 .len) load (l .loop .sources) (a .writers .now) (l .loop .writers) (a .edges .now) (l .loop .edges) (s .source-of .result) small (s .source-of .ensures)
           (l .loop .inv .1) (sym reads ∙ w .0 .left)),
+      l .loop .inv .2,
     ))
     (c .if1 .came)
 
 same-length : tie.Need-same-length Inv-loop μ-loop
 same-length c =
     let l = c .before in
-    l .loop .inv .1 .long ∙ sym (l .before .before .before .before .pre .1)
+    l .loop .inv .1 .long ∙ sym (l .before .before .before .before .before .before .before .pre .1)
 
 same-length-2 : tie.Need-same-length-2 Inv-loop μ-loop
 same-length-2 c = c .before .loop .inv .1 .writers .long
@@ -98,7 +109,7 @@ same-length-3 c = c .before .loop .inv .1 .edges .long
 returns : tie.Need-returns Inv-loop μ-loop
 returns c =
     let l = c .before in
-    let n : l .loop .load ≡ l .before .before .before .before .args .t1 .len = omega arith in
+    let n : l .loop .load ≡ l .before .before .before .before .before .before .before .args .t1 .len = omega arith in
     rw n at (l .loop .inv .1)
 
 pub draw-values-spec : {M : Type 1} → statement M
@@ -107,6 +118,8 @@ draw-values-spec =
     (tie.spec
     Inv-loop
     μ-loop
+    slice-aggregate-note-stores
+    note-stores-requires
     loop-holds
     source-of-requires
     mul-sources
@@ -114,6 +127,7 @@ draw-values-spec =
     mul-record
     element-copy-out-record
     reads-requires
+    slice-aggregate-draw-values-for
     draw-values-for-requires
     add-load
     loop-less

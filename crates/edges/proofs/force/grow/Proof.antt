@@ -1,0 +1,149 @@
+-- `edges::force::grow`: the loop stands before a pass.
+use mathlib.Core.Path.{refl, sym, _∙_}
+use mathlib.Core.Bool.{false≢true}
+use Prim.Native.Nat.{_*_, _-_}
+use lib.ListN.{length}
+use Rattle.laws.specs.Growth.{pairs}
+use Rattle.trace.specs.Bounds.{RECORDS}
+use Rattle.trace.specs.Meaning.{frameOf}
+use Rattle.trace.proofs.WellFormed.{form-iff}
+use Rattle.trace.proofs.Good.{good}
+use Rattle.rows.specs.Rows.{bit}
+use Rattle.pairs.specs.Kept.{keptOf}
+use Rattle.edges.specs.Supposed.{supposedOf}
+use Rattle.edges.specs.Settling.{Settling}
+use Rattle.edges.proofs.Ended.{kept-within, supposed-within}
+use Rattle.edges.proofs.Settling.{settling-first, settling-next, settling-fewer, settling-end, settling-circle}
+use borrow.Author.Needs.{needs}
+use Rattle.edges.proofs.force.grow.Statement.{statement}
+use Rattle.edges.proofs.force.grow.Tie as tie
+
+abbrev Inv-loop : tie.InvT-loop
+Inv-loop t model supposed edges₀ sources writers edges = Settling (frameOf t) (keptOf model t) (supposedOf t supposed) edges
+
+abbrev μ-loop : tie.MeasureT-loop
+μ-loop t model supposed edges₀ sources writers edges = RECORDS * RECORDS - pairs RECORDS (bit edges)
+
+slice-aggregate-draw-first : tie.Need-slice-aggregate-draw-first Inv-loop μ-loop
+slice-aggregate-draw-first c = search needs
+
+slice-aggregate-draw-first-2 : tie.Need-slice-aggregate-draw-first-2 Inv-loop μ-loop
+slice-aggregate-draw-first-2 c = search needs
+
+slice-aggregate-draw-first-3 : tie.Need-slice-aggregate-draw-first-3 Inv-loop μ-loop
+slice-aggregate-draw-first-3 c = search needs
+
+draw-first-requires : tie.Need-draw-first-requires Inv-loop μ-loop
+draw-first-requires c κs = search needs
+
+slice-aggregate-close : tie.Need-slice-aggregate-close Inv-loop μ-loop
+slice-aggregate-close c = search needs
+
+close-requires : tie.Need-close-requires Inv-loop μ-loop
+close-requires c κs = search needs
+
+loop-holds : tie.Need-loop-holds Inv-loop μ-loop
+loop-holds c =
+    let k = c .before .before in
+    let d = k .before .before .before .before .before .before in
+    let s = d .before .before .before .before .before .before in
+    let t = s .args .t in
+    settling-first (frameOf t) (keptOf (s .args .model) t) (supposedOf t (s .args .supposed .now)) _ _ _ _ _ (d .draw-first .ensures) (k .close .ensures)
+
+reflexive-requires : tie.Need-reflexive-requires Inv-loop μ-loop
+reflexive-requires c κs = search needs
+
+clear-requires : tie.Need-clear-requires Inv-loop μ-loop
+clear-requires c κs = search needs
+
+same-length : tie.Need-same-length Inv-loop μ-loop
+same-length c = search needs
+
+returns : tie.Need-returns Inv-loop μ-loop
+returns c =
+    let k = c .before .before in
+    let h = k .before .before in
+    let r = h .before in
+    let l = r .before .before in
+    let d = l .before .before .before .before .before .before .before .before .before in
+    let s = d .before .before .before .before .before .before in
+    let t = s .args .t in
+    settling-circle (frameOf t) (keptOf (s .args .model) t) (supposedOf t (s .args .supposed .now)) (l .loop .edges) _ (length (l .loop .edges)) (l .loop .inv) (sym (r .reflexive .ensures) ∙ h .if1 .taken) (k .clear .ensures) (l .loop .inv .full .long)
+
+slice-aggregate-settle-all : tie.Need-slice-aggregate-settle-all Inv-loop μ-loop
+slice-aggregate-settle-all c = search needs
+
+slice-aggregate-settle-all-2 : tie.Need-slice-aggregate-settle-all-2 Inv-loop μ-loop
+slice-aggregate-settle-all-2 c = search needs
+
+settle-all-requires : tie.Need-settle-all-requires Inv-loop μ-loop
+settle-all-requires c κs =
+    let l = c .before .before .before .before .before .before in
+    let d = l .before .before .before .before .before .before .before .before .before in
+    let s = d .before .before .before .before .before .before in
+    (form-iff (s .args .t) .0 (s .pre .0) .fits, d .draw-first .ensures .facts .sources-long, l .loop .inv .full .long)
+
+same-length-2 : tie.Need-same-length-2 Inv-loop μ-loop
+same-length-2 c = search needs
+
+returns-2 : tie.Need-returns-2 Inv-loop μ-loop
+unfolding frameOf
+returns-2 c =
+    let a = c .before .before .before in
+    let h = a .before .before .before .before in
+    let r = h .before in
+    let l = r .before .before in
+    let d = l .before .before .before .before .before .before .before .before .before in
+    let s = d .before .before .before .before .before .before in
+    let t = s .args .t in
+    settling-end (frameOf t) (keptOf (s .args .model) t) (supposedOf t (s .args .supposed .now)) (good t (s .pre .0)) (form-iff t .0 (s .pre .0) .fits) (kept-within (s .args .model) t (s .pre .0)) (supposed-within t (s .args .supposed .now) (s .pre .0)) _ _ (d .draw-first .ensures .facts)
+    (l .loop .edges) _ (l .loop .inv) (sym (r .reflexive .ensures) ∙ h .if1 .left) (a .settle-all .ensures .0) (a .settle-all .ensures .1 .0 (c .if2 .taken))
+
+loop-less : tie.Need-loop-less Inv-loop μ-loop
+loop-less c =
+    let a = c .before .before .before in
+    let h = a .before .before .before .before in
+    let r = h .before in
+    let l = r .before .before in
+    let d = l .before .before .before .before .before .before .before .before .before in
+    let s = d .before .before .before .before .before .before in
+    let t = s .args .t in
+    settling-fewer _ (l .loop .edges) _ _ (l .loop .inv .full) (a .settle-all .ensures .0) (λ q. false≢true (sym (c .if2 .left) ∙ a .settle-all .ensures .1 .1 q))
+
+loop-again : tie.Need-loop-again Inv-loop μ-loop
+unfolding frameOf
+loop-again c =
+    let a = c .before .before .before in
+    let h = a .before .before .before .before in
+    let r = h .before in
+    let l = r .before .before in
+    let d = l .before .before .before .before .before .before .before .before .before in
+    let s = d .before .before .before .before .before .before in
+    let t = s .args .t in
+    settling-next (frameOf t) (keptOf (s .args .model) t) (supposedOf t (s .args .supposed .now)) (good t (s .pre .0)) (form-iff t .0 (s .pre .0) .fits) (kept-within (s .args .model) t (s .pre .0)) (supposed-within t (s .args .supposed .now) (s .pre .0)) _ _ (d .draw-first .ensures .facts)
+    (t .len) refl (l .loop .edges) _ _ (l .loop .inv) (a .settle-all .ensures .0)
+
+pub grow-spec : {M : Type 1} → statement M
+grow-spec =
+    tie.close
+    (tie.spec
+    Inv-loop
+    μ-loop
+    slice-aggregate-draw-first
+    slice-aggregate-draw-first-2
+    slice-aggregate-draw-first-3
+    draw-first-requires
+    slice-aggregate-close
+    close-requires
+    loop-holds
+    reflexive-requires
+    clear-requires
+    same-length
+    returns
+    slice-aggregate-settle-all
+    slice-aggregate-settle-all-2
+    settle-all-requires
+    same-length-2
+    returns-2
+    loop-less
+    loop-again)
