@@ -61,11 +61,13 @@ done? (TooLarge i k) = inr (λ d. let z : _≡_ {A = ℕ} 0 1 = cc in omega arit
 
 pub nights-one : (t : Trace) (m : ℕ) (ws before a b : List ℕ) (x y : Answer) → Nights t m ws before a x → Nights t m ws before b y → (x ≡ y) × (a ≡ b)
 nights-one t m ws before a b x y p q =
-    let same : x ≡ y = p .answer ∙ sym (q .answer) in
-    (same, elim (done? x) [
-      | inl d ↦ done-one t m ws (runsIn (length before)) a b (p .judged d) (q .judged (sym same ∙ d))
-      | inr n ↦ p .stays n ∙ sym (q .stays (λ d. n (same ∙ d)))
-    ])
+    let same : x ≡ y = p .answer ∙ sym (q .answer) in (
+      same,
+      elim (done? x) [
+        | inl d ↦ done-one t m ws (runsIn (length before)) a b (p .judged d) (q .judged (sym same ∙ d))
+        | inr n ↦ p .stays n ∙ sym (q .stays (λ d. n (same ∙ d)))
+      ],
+    )
 
 pub seen-settles : Settles 1 seen-kinds.ps seen-kinds.r sees.Post
 seen-settles κs a x y s t p q = p ∙ sym q

@@ -4,21 +4,25 @@
 --   seen-at             == the same of a trace
 --   seen-well           == it is well formed where the program is, and the reads are values
 --   read-small          == what words stand for are values
+--   kept-seen           == a model keeps the same pairs of it, whatever the reads
 --   Filled t vs u k i   == u has the reads in its first i records, k of them used; those still to come make it the program with all of them
 --   filled-start, filled-more, filled-end == it is so at first, after one record more, and at the end it is all
 use mathlib.Core.Path.{_≡_, refl, sym, ap, ap₂, _∙_, subst}
 use mathlib.Core.Logic.{_≢_}
-use mathlib.Core.Bool.{Bool, true, false, cond, So}
+use mathlib.Core.Bool.{Bool, true, false, cond, not, So, _&&_, _||_}
 use mathlib.Core.List.{List, [], _∷_, _++_, append-assoc, append-nil}
 use Prim.Native.Nat.{ℕ, zero, suc, _+_, _<_, _≤_}
 use native.Mathlib.Decide.{decLt}
 use native.Mathlib.Numerals.{add-one}
 use native.Mathlib.Omega.{arith}
+use lib.Dec.{eqb, ltb}
 use lib.ListN.{length, getD, set, take, drop, length-set, drop-of-length-le, List·getD-eq-default}
 use lib.Seq.{take-suc-set, take-all, drop-cons, drop-drop, getD-drop}
 use Rattle.trace.specs.Bounds.{RECORDS, ADDRESSES, VALUES}
-use Rattle.trace.specs.Op.{thread, address, read, written, reads, writes}
+use Rattle.laws.specs.Tests.{any}
+use Rattle.trace.specs.Op.{thread, address, read, written, reads, writes, fence}
 use Rattle.trace.specs.Trace.{at, idle, first}
+use Rattle.trace.specs.Meaning.{frameOf}
 use Rattle.trace.specs.Form.{Bounded, Writes, Fresh, Follows, Form}
 use Rattle.trace.specs.WellFormed.{wellFormed}
 use Rattle.trace.specs.declared.Op.{Op}
@@ -27,6 +31,7 @@ use Rattle.trace.specs.declared.Record.{Record}
 use Rattle.trace.specs.declared.Trace.{Trace}
 use Rattle.trace.proofs.Places.{at-past}
 use Rattle.trace.proofs.WellFormed.{form-iff}
+use Rattle.pairs.specs.Kept.{kindOf, modelled, keptBy, fenced, keptOf}
 use Rattle.signature.specs.Reads.{each, picks, other, values, valueOf, loads}
 use Rattle.signature.specs.Unpack.{digitIn, readsOf}
 use Rattle.night.specs.Seen.{readAs, fill, seen}
@@ -55,6 +60,10 @@ fill-at (r ∷ rs) vs (suc i) h = go (reads (r .op)) (fill-at rs (drop 1 vs) i (
 pub seen-at : (t : Trace) (vs : List ℕ) (i : ℕ) → i < length (t .records) → (j : ℕ) × (at (seen t vs) i ≡ readAs (at t i) (getD vs j 0))
 unfolding seen
 seen-at t vs i h = fill-at (t .records) vs i h
+
+seen-len : (t : Trace) (vs : List ℕ) → seen t vs .len ≡ t .len
+unfolding seen
+seen-len t vs = refl
 
 -- an operation with another read keeps all else
 bounded-as : (o : Op) (v : ℕ) → v < VALUES → Bounded o → Bounded (readAs o v)
@@ -130,6 +139,64 @@ module _ (t : Trace) (f : Form t) where
 
   pub read-small : (ws : List ℕ) (i : ℕ) → getD (readsOf t ws) i 0 < VALUES
   read-small ws i = each-small (λ L. valueOf t L (digitIn t ws L)) (loads t) (λ L. value-small L (digitIn t ws L)) i
+
+-- what does not look at reads
+same-thread : (o : Op) (v : ℕ) → thread (readAs o v) ≡ thread o
+same-thread (Load t a r) v = refl
+same-thread (Store t a w) v = refl
+same-thread (Swap t a r w) v = refl
+same-thread (Fence t) v = refl
+
+same-address : (o : Op) (v : ℕ) → address (readAs o v) ≡ address o
+same-address (Load t a r) v = refl
+same-address (Store t a w) v = refl
+same-address (Swap t a r w) v = refl
+same-address (Fence t) v = refl
+
+same-kind : (o : Op) (v : ℕ) → kindOf (readAs o v) ≡ kindOf o
+same-kind (Load t a r) v = refl
+same-kind (Store t a w) v = refl
+same-kind (Swap t a r w) v = refl
+same-kind (Fence t) v = refl
+
+same-fence : (o : Op) (v : ℕ) → fence (readAs o v) ≡ fence o
+same-fence (Load t a r) v = refl
+same-fence (Store t a w) v = refl
+same-fence (Swap t a r w) v = refl
+same-fence (Fence t) v = refl
+
+module _ (t : Trace) (vs : List ℕ) where
+  -- any place, used or not, holds what it did, but for what it read
+  place : (i : ℕ) → (v : ℕ) × (at (seen t vs) i ≡ readAs (at t i) v)
+  unfolding seen
+  place i = elim (decLt i (length (t .records))) [
+    | yes h ↦ let (j, e) = fill-at (t .records) vs i h in (getD vs j 0, e)
+    | no h ↦
+        let a : at t i ≡ Load 0 0 0 = ap (λ (r : Record). r .op) (List·getD-eq-default (t .records) nothing {n = i} (omega arith)) in
+        let b : getD (fill (t .records) vs) i nothing .op ≡ Load 0 0 0 = ap (λ (r : Record). r .op) (List·getD-eq-default (fill (t .records) vs) nothing {n = i} (omega (arith, fill-long (t .records) vs))) in
+        (0, b ∙ sym (ap (λ (o : Op). readAs o 0) a))
+  ]
+
+  threads : (i : ℕ) → thread (at (seen t vs) i) ≡ thread (at t i)
+  threads i = let (v, e) = place i in ap thread e ∙ same-thread (at t i) v
+
+  addresses : (i : ℕ) → address (at (seen t vs) i) ≡ address (at t i)
+  addresses i = let (v, e) = place i in ap address e ∙ same-address (at t i) v
+
+  kinds : (i : ℕ) → kindOf (at (seen t vs) i) ≡ kindOf (at t i)
+  kinds i = let (v, e) = place i in ap kindOf e ∙ same-kind (at t i) v
+
+  fences : (i : ℕ) → fence (at (seen t vs) i) ≡ fence (at t i)
+  fences i = let (v, e) = place i in ap fence e ∙ same-fence (at t i) v
+
+  pub kept-seen : (m x y : ℕ) → keptOf m (seen t vs) x y ≡ keptOf m t x y
+  unfolding keptOf frameOf fenced
+  kept-seen m x y = λ j.
+      (ltb x y && eqb (threads x j) (threads y j)) && (ltb x (len j) && not (fences x j)) && (ltb y (len j) && not (fences y j)) && modelled m
+      && (keptBy m (kinds x j) (kinds y j) (eqb (addresses x j) (addresses y j)) || any y (λ i. fences i j && ltb x i && eqb (threads i j) (threads x j)))
+    where
+      len : seen t vs .len ≡ t .len
+      len = seen-len t vs
 
 module _ (t : Trace) (vs : List ℕ) where
   pub record Filled (u : Trace) (k i : ℕ) : Type 0 where

@@ -106,7 +106,7 @@ returns c =
     let s = l .before .before .before .before in
     let v = s .args .v in (
       ap (λ (x : ℕ). set (set (l .loop .out) 0 x) 1 (v .len)) (k .kind-of .ensures)
-      ∙ laid-end (v .operations) (v .rules) (all-operations s) (all-rules s) (l .loop .out) (l .loop .i) (l .loop .inv .1) (k .before .loop-test .left) (kindIn (v .outcome)) (v .len),
+          ∙ laid-end (v .operations) (v .rules) (all-operations s) (all-rules s) (l .loop .out) (l .loop .i) (l .loop .inv .1) (k .before .loop-test .left) (kindIn (v .outcome)) (v .len),
       long c,
     )
 

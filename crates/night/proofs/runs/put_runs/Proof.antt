@@ -106,9 +106,11 @@ loop-again c =
     let s = j .before .before .before .before in
     let l = j .before in
     let i = l .loop .i in
-    let n = s .args .each in
-    (omega arith, judging-more (s .args .t) (s .args .model) (s .args .words .now) (l .loop .out) _ (s .args .runs) i _ (l .loop .inv .1) (j .loop-test .taken) (r .put-run .ensures .0) (let z : i * BLOCK + BLOCK - i * BLOCK ≡ BLOCK = omega arith in z)
-    (subst (λ (p : List ℕ). Judged (s .args .t) (s .args .model) p (r .put-run .last .1 .1 .1 .0)) (part-words (s .args .t) (s .args .words .now) n (s .pre .1 .each) _ i (same j)) (r .put-run .ensures .1)))
+    let n = s .args .each in (
+      omega arith,
+      judging-more (s .args .t) (s .args .model) (s .args .words .now) (l .loop .out) _ (s .args .runs) i _ (l .loop .inv .1) (j .loop-test .taken) (r .put-run .ensures .0) (let z : i * BLOCK + BLOCK - i * BLOCK ≡ BLOCK = omega arith in z)
+          (subst (λ (p : List ℕ). Judged (s .args .t) (s .args .model) p (r .put-run .last .1 .1 .1 .0)) (part-words (s .args .t) (s .args .words .now) n (s .pre .1 .each) _ i (same j)) (r .put-run .ensures .1)),
+    )
 
 same-length : tie.Need-same-length Inv-loop μ-loop
 same-length c = let l = c .before in l .loop .inv .1 .long ∙ sym (l .before .before .before .pre .3)
