@@ -32,6 +32,7 @@ pub enum Call {
     Loads,
     Signature { room: usize },
     Reads { words: Vec<u64>, room: usize },
+    Night { model: u8, words: Vec<u64>, room: usize },
 }
 
 /// Models that there are not.
@@ -41,7 +42,7 @@ pub const OTHER_MODELS: [u8; 5] = [0, LAST_MODEL + 1, LAST_MODEL + 2, 128, 255];
 pub const LAST_MODEL: u8 = MODELS as u8;
 
 /// The entries' names without the front that all share.
-pub const ENTRIES: [&str; 26] = [
+pub const ENTRIES: [&str; 27] = [
     "report",
     "number",
     "line",
@@ -68,6 +69,7 @@ pub const ENTRIES: [&str; 26] = [
     "loads",
     "signature",
     "reads",
+    "night",
 ];
 
 impl Call {
@@ -100,6 +102,7 @@ impl Call {
             Call::Loads => 23,
             Call::Signature { .. } => 24,
             Call::Reads { .. } => 25,
+            Call::Night { .. } => 26,
         }
     }
 
@@ -127,6 +130,7 @@ impl fmt::Display for Call {
             Call::Waiting { room } => write!(f, " into {room} bytes"),
             Call::Signature { room } => write!(f, " into {room} words"),
             Call::Reads { words, room } => write!(f, " of {words:?} into {room} reads"),
+            Call::Night { model, words, room } => write!(f, " under {model} of {words:?} into {room} numbers"),
             Call::Number
             | Call::Line
             | Call::Start
