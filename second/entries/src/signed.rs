@@ -12,8 +12,14 @@ pub fn compare<D: Desk>(case: &mut Case<'_, D>) {
     let sizes = sizes(case);
     let packed = packed(case);
     let unpacked = unpacked(case);
-    let judged = judged(case);
-    if !(sizes && packed && unpacked && judged) {
+    if !(sizes && packed && unpacked) {
+        case.counts.texts_failed += 1;
+    }
+}
+
+/// Runs judged by their words; asked last, so that what is drawn for the other entries does not hang on it.
+pub fn compare_runs<D: Desk>(case: &mut Case<'_, D>) {
+    if !judged(case) {
         case.counts.texts_failed += 1;
     }
 }

@@ -590,6 +590,7 @@ impl Desk for Faulty {
     fn add(&self, session: &mut [u8], fields: &Fields) -> u8 {
         let front = session.len().saturating_sub(RECORD);
         let Some(mut seen) = self.seen(&session[..front]) else { return 12 };
+        let given = desk::taken(&seen);
         seen.extend(&session[front..]);
         let mut fields = *fields;
         if self.is("add: any kind past 3 is a fence") && fields.kind > 3 {
@@ -599,7 +600,7 @@ impl Desk for Faulty {
             fields.read *= u16::from(fields.kind != 1);
             fields.written *= u16::from(fields.kind != 0);
         }
-        let (given, before) = (desk::taken(&session[..front]), seen.clone());
+        let before = seen.clone();
         let answer = desk::add(&mut seen, &fields);
         if self.is("add: numbers before 12") && answer == 12 && fields.record().is_none() {
             return NO_ENTRY;
@@ -627,7 +628,7 @@ impl Desk for Faulty {
             seen[CONTRADICTED_AT..HEAD].copy_from_slice(&before[CONTRADICTED_AT..HEAD]);
         }
         while self.is("add: pairs dropped") && desk::take_back(&mut seen) == DONE {}
-        session.copy_from_slice(&seen);
+        session[..seen.len()].copy_from_slice(&seen);
         answer
     }
 
