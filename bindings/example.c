@@ -141,6 +141,35 @@ static void print_signature(void) {
     printf("\n");
 }
 
+/* Three runs of the program under SC: every load saw the first value; the text's own reads; and, where it has two words, each load saw the last of its list of two. */
+static void print_night(void) {
+    uint64_t words[3 * WHEELOTTER_RECORDS];
+    static uint16_t out[3 * WHEELOTTER_BLOCK];
+    size_t count = wheelotter_words(text, text_len);
+    if (wheelotter_signature(text, text_len, words + count, count) != 0) {
+        printf("night: none\n");
+        return;
+    }
+    for (size_t i = 0; i < count; i++) {
+        words[i] = 0;
+        words[2 * count + i] = 1;
+    }
+    size_t answer = wheelotter_night(text, text_len, WHEELOTTER_SC, words, 3 * count, out, 3 * WHEELOTTER_BLOCK);
+    if (answer != 0) {
+        printf("night: refused %u\n", (unsigned)answer % 256);
+        return;
+    }
+    for (size_t run = 0; run < 3; run++) {
+        const uint16_t *block = out + run * WHEELOTTER_BLOCK;
+        const char *kind = block[0] == WHEELOTTER_ORDER ? "order" : block[0] == WHEELOTTER_CIRCLE ? "circle" : "none left";
+        printf("%s%s", run == 0 ? "night: " : "; ", kind);
+        for (size_t i = 0; i < block[1]; i++) {
+            printf(" %u", block[WHEELOTTER_BLOCK_OPERATIONS + i]);
+        }
+    }
+    printf("\n");
+}
+
 /* The verdict within 20 steps. */
 static void print_limited(uint8_t model) {
     uint8_t out[WHEELOTTER_LIMITED];
@@ -266,6 +295,7 @@ int main(void) {
     print_paper(WHEELOTTER_TSO);
     print_packed();
     print_signature();
+    print_night();
     talk();
     return 0;
 }

@@ -93,6 +93,9 @@ extern "C" {
 #define WHEELOTTER_BYTES_AT 2           /* where a packed file or a text begins behind its length */
 #define WHEELOTTER_PACKED 2106          /* a buffer of this many bytes holds any packed file behind its length */
 #define WHEELOTTER_UNPACKED 32770       /* and of this many the text of any packed file */
+#define WHEELOTTER_BLOCK 514            /* the verdict on a run in a night's worth has so many numbers */
+#define WHEELOTTER_BLOCK_OPERATIONS 2   /* where the operations begin in it */
+#define WHEELOTTER_BLOCK_RULES 258      /* and where the rules begin */
 #define WHEELOTTER_JUDGEMENT 4          /* what the judge names has so many bytes */
 #define WHEELOTTER_PLACE 2              /* the place of an impossible step, and the number of a record that waits, has so many bytes */
 #define WHEELOTTER_STEPS 512            /* a list of possible steps has at most so many */
@@ -240,6 +243,21 @@ size_t wheelotter_signature(const uint8_t *text, size_t text_len, uint64_t *word
  *   0                                      the reads are unpacked.
  * Beside any but 0 the reads stay as they were. */
 size_t wheelotter_reads(const uint8_t *text, size_t text_len, const uint64_t *words, size_t words_len, uint16_t *reads, size_t reads_len);
+
+/* The verdicts on a night's worth of runs of the program that a text writes, under a model. A run is told by its words, as many as wheelotter_words says; the words of
+ * the runs stand one behind the other. There are as many runs as out has blocks of WHEELOTTER_BLOCK numbers; the block of a run is
+ *   0                             its kind, as wheelotter_verdict answers: WHEELOTTER_ORDER, WHEELOTTER_CIRCLE, WHEELOTTER_NONE_LEFT or WHEELOTTER_NO_SOURCE
+ *   1                             how many operations it names
+ *   WHEELOTTER_BLOCK_OPERATIONS   WHEELOTTER_RECORDS operations: of a circle, or the first valid order; unused places are 0
+ *   WHEELOTTER_BLOCK_RULES        WHEELOTTER_RECORDS rules, of a circle as in a verdict; unused places are 0
+ * Each is what wheelotter_verdict says of the program with the reads that wheelotter_reads makes of the run's words. Gives back
+ *   1 to 8, 17 or 22                       the text is turned back;
+ *   WHEELOTTER_NO_MODEL                    else there is no such model;
+ *   26                                     else out is no whole number of blocks, or the words are not those of as many runs;
+ *   24 + 256 * word + 65536 * run          else a word is too large for its digits: the first such run, and its lowest word;
+ *   0                                      the verdicts stand in out.
+ * Beside any but 0 out stays as it was. */
+size_t wheelotter_night(const uint8_t *text, size_t text_len, uint8_t model, const uint64_t *words, size_t words_len, uint16_t *out, size_t out_len);
 
 /* A session in bytes, WHEELOTTER_HEAD and as many more as its trace's packed file has:
  *   0                      the model

@@ -15,6 +15,7 @@
 //! | `plain` | the plain machine of document 02, number 25 |
 //! | `limited` | the verdict within a limit of steps |
 //! | `signatures` | what the loads saw, packed into words (request 13), numbers 23, 24 and 26 |
+//! | `nights` | many runs of one program judged by their words |
 //! | `smaller` | a faulty trace cut down (request 9), literally |
 //! | `papers` | lists of reasons why there is no order (request 11): a reader, and a writer for the comparison |
 //! | `session` | suppose, take back, ask, add, waiting, numbers 9 to 16 |
@@ -34,6 +35,7 @@ pub mod files;
 pub mod limited;
 pub mod lists;
 pub mod machine;
+pub mod nights;
 pub mod orders;
 pub mod packed;
 pub mod packs;

@@ -3,7 +3,7 @@
 //! packed file is, whether a paper shows that there is no order, and a short talk with a session under TSO.
 
 use std::io::{self, Read};
-use wheelotter::{accepts, check, check_file, judge, limited, pack, reads, report, run, signature, smaller, steps, unpack, verdict};
+use wheelotter::{accepts, check, check_file, judge, limited, night, pack, reads, report, run, signature, smaller, steps, unpack, verdict};
 use wheelotter::{Answer, Asked, Judgement, Limited, Model, NoSignature, Ran, Record, Session, Smaller, Verdict, ENTRIES, MODELS};
 
 fn main() -> io::Result<()> {
@@ -16,6 +16,7 @@ fn main() -> io::Result<()> {
     [Model::Sc, Model::Tso].iter().for_each(|&model| print_paper(&text, model));
     print_packed(&text);
     print_signature(&text);
+    print_night(&text);
     match Session::open(&text, Model::Tso) {
         Err(_) => println!("open: refused"),
         Ok(session) => {
@@ -123,6 +124,26 @@ fn print_signature(text: &[u8]) {
         Ok((words, reads)) => println!("signature:{}; reads:{}", listed(&words), listed(&reads)),
         Err(NoSignature::Text(answer)) => println!("signature: refused {}", answer as u8),
         Err(other) => println!("signature: {other:?}"),
+    }
+}
+
+/// Three runs of the program under SC: every load saw the first value; the text's own reads; and, where it has two words, each load saw the last of its list of two.
+fn print_night(text: &[u8]) {
+    let Ok(own) = signature(text) else { return println!("night: none") };
+    let words: Vec<u64> =
+        std::iter::repeat(0).take(own.len()).chain(own.iter().copied()).chain(std::iter::repeat(1).take(own.len())).collect();
+    match night(text, Model::Sc, &words, 3) {
+        Ok(verdicts) => println!("night: {}", verdicts.iter().map(kind).collect::<Vec<_>>().join("; ")),
+        Err(other) => println!("night: {other:?}"),
+    }
+}
+
+fn kind(verdict: &Verdict) -> String {
+    match verdict {
+        Verdict::NoSource(x) => format!("no source {x}"),
+        Verdict::Circle { operations, .. } => format!("circle{}", listed(operations)),
+        Verdict::Order(operations) => format!("order{}", listed(operations)),
+        Verdict::NoneLeft => "none left".into(),
     }
 }
 

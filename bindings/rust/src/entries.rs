@@ -55,6 +55,15 @@ mod linked {
             reads: *mut u16,
             reads_len: usize,
         ) -> usize;
+        pub fn wheelotter_night(
+            text: *const u8,
+            text_len: usize,
+            model: u8,
+            words: *const u64,
+            words_len: usize,
+            out: *mut u16,
+            out_len: usize,
+        ) -> usize;
         pub fn wheelotter_open(text: *const u8, text_len: usize, model: u8, session: *mut u8, session_len: usize) -> u8;
         pub fn wheelotter_open_file(file: *const u8, file_len: usize, model: u8, session: *mut u8, session_len: usize) -> u8;
         pub fn wheelotter_suppose(session: *mut u8, session_len: usize, x: usize, y: usize) -> u8;
@@ -183,6 +192,13 @@ pub fn signature(text: &[u8], words: &mut [u64]) -> usize {
 /// text; or 26 where words or reads are not as many; or 24 and 256 times the lowest word that is too large. Beside any but 0 `reads` stay as they were.
 pub fn reads(text: &[u8], words: &[u64], reads: &mut [u16]) -> usize {
     unsafe { linked::wheelotter_reads(text.as_ptr(), text.len(), words.as_ptr(), words.len(), reads.as_mut_ptr(), reads.len()) }
+}
+
+/// The verdicts on runs of a text's program under a model, told by their words, as many a run as [`words`] says; as many runs as `out` has blocks of
+/// [`BLOCK`](crate::BLOCK) numbers. 0; or what is wrong with the text; or 9; or 26 where `out` is no whole number of blocks or the words are not those of as many runs; or
+/// 24 and 256 times the lowest word and 65536 times the first run where it is too large. Beside any but 0 `out` stays as it was.
+pub fn night(text: &[u8], model: u8, words: &[u64], out: &mut [u16]) -> usize {
+    unsafe { linked::wheelotter_night(text.as_ptr(), text.len(), model, words.as_ptr(), words.len(), out.as_mut_ptr(), out.len()) }
 }
 
 /// Opens a session on a text in the first [`HEAD`](crate::HEAD) and as many bytes more as the packed file of its trace has, at most

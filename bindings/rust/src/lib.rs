@@ -296,6 +296,41 @@ pub fn reads(text: &[u8], words: &[u64]) -> Result<Vec<u16>, NoSignature> {
     signed(entries::reads(text, words, &mut reads), reads)
 }
 
+/// Why no run of a night's worth was judged.
+#[derive(Clone, Copy, Debug, PartialEq, Eq)]
+pub enum NoNight {
+    /// What is wrong with the text.
+    Text(Answer),
+    /// The first run with a word that is too large for its digits, and the lowest of these.
+    TooLarge { run: usize, word: usize },
+    /// The words are not those of so many runs.
+    WrongLength,
+}
+
+/// What the memory did in each of so many runs of a text's program, told by their words, one run behind the other: [`reads`] says what each run saw.
+pub fn night(text: &[u8], model: Model, words: &[u64], runs: usize) -> Result<Vec<Verdict>, NoNight> {
+    let mut out = vec![0; runs * BLOCK];
+    let code = entries::night(text, model as u8, words, &mut out);
+    match (code % 256, code / 256 % 256, code / 65536) {
+        (0, _, _) => Ok(out.chunks(BLOCK).map(block).collect()),
+        (24, word, run) => Err(NoNight::TooLarge { run, word }),
+        (26, _, _) => Err(NoNight::WrongLength),
+        (number, _, _) => Err(NoNight::Text(Answer::of(number as u8))),
+    }
+}
+
+/// The verdict in the numbers of a run.
+fn block(out: &[u16]) -> Verdict {
+    let named = usize::from(out[1]);
+    let operations = out[BLOCK_OPERATIONS..][..named].to_vec();
+    match Answer::of(out[0] as u8) {
+        Answer::NoSource => Verdict::NoSource(operations[0]),
+        Answer::Circle => Verdict::Circle { operations, rules: out[BLOCK_RULES..][..named].iter().map(|&rule| rule as u8).collect() },
+        Answer::Order => Verdict::Order(operations),
+        _ => Verdict::NoneLeft,
+    }
+}
+
 /// What a session knows of two operations.
 #[derive(Clone, Copy, Debug, PartialEq, Eq)]
 pub enum Asked {

@@ -69,6 +69,15 @@ pub const PACKED: usize = 2106;
 /// And of this many the text of any packed file.
 pub const UNPACKED: usize = 32770;
 
+/// The verdict on a run in a night's worth has so many numbers.
+pub const BLOCK: usize = 514;
+
+/// Where the operations begin in it.
+pub const BLOCK_OPERATIONS: usize = 2;
+
+/// And where the rules begin.
+pub const BLOCK_RULES: usize = 258;
+
 /// What the judge names has so many bytes.
 pub const JUDGEMENT: usize = 4;
 

@@ -18,4 +18,5 @@ pub mod Cores
 pub mod Heard
 pub mod Sourceless
 pub mod Signing
+pub mod Nightly
 pub mod One

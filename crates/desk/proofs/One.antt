@@ -13,6 +13,7 @@ use Rattle.desk.proofs.Judging.{judged-one}
 use Rattle.desk.proofs.Papering.{papered-one}
 use Rattle.desk.proofs.Hosted.{run-one, replayed-one}
 use Rattle.desk.proofs.Leaving.{smaller-one}
+use Rattle.desk.proofs.Nightly.{nighted-one}
 use Rattle.desk.proofs.texts.wheelotter_report.Reads as report
 use Rattle.desk.proofs.texts.wheelotter_report.Kinds as report-kinds
 use Rattle.desk.proofs.texts.wheelotter_number.Reads as number
@@ -67,6 +68,8 @@ use Rattle.desk.proofs.signatures.wheelotter_signature.Reads as signed-
 use Rattle.desk.proofs.signatures.wheelotter_signature.Kinds as signed-pack-kinds
 use Rattle.desk.proofs.signatures.wheelotter_reads.Reads as signed-unpack
 use Rattle.desk.proofs.signatures.wheelotter_reads.Kinds as signed-unpack-kinds
+use Rattle.desk.proofs.nights.wheelotter_night.Reads as nights
+use Rattle.desk.proofs.nights.wheelotter_night.Kinds as nights-kinds
 
 pub report-settles : Settles 2 report-kinds.ps report-kinds.r report.Post
 report-settles κs a x y s t p q = reported-one (now (a .0)) (now (a .1 .0)) (now (s .1 .0)) (now (t .1 .0)) x y p q .0
@@ -205,3 +208,9 @@ reads-settles κs a x y s t p q = p .0 ∙ sym (q .0)
 
 pub reads-leaves : Leaves 3 signed-unpack-kinds.ps signed-unpack-kinds.r (λ κs s. now (s .1 .1 .0)) signed-unpack.Post
 reads-leaves κs a x y s t p q = p .1 ∙ sym (q .1)
+
+pub night-settles : Settles 3 nights-kinds.ps nights-kinds.r nights.Post
+night-settles κs a x y s t p q = nighted-one (now (a .0)) (a .1 .0) (now (a .1 .1 .0)) (now (a .1 .1 .1 .0)) (now (s .1 .1 .1 .0)) (now (t .1 .1 .1 .0)) x y p q .0
+
+pub night-leaves : Leaves 3 nights-kinds.ps nights-kinds.r (λ κs s. now (s .1 .1 .1 .0)) nights.Post
+night-leaves κs a x y s t p q = nighted-one (now (a .0)) (a .1 .0) (now (a .1 .1 .0)) (now (a .1 .1 .1 .0)) (now (s .1 .1 .1 .0)) (now (t .1 .1 .1 .0)) x y p q .1

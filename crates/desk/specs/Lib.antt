@@ -11,6 +11,7 @@ pub mod Judged
 pub mod Paper
 pub mod Runs
 pub mod Signed
+pub mod Nights
 pub mod Head
 pub mod Kept
 pub mod Acts

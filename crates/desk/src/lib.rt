@@ -7,6 +7,7 @@ pub mod growing;
 mod heads;
 pub mod judgements;
 pub mod limits;
+pub mod nights;
 pub mod packs;
 pub mod paper;
 pub mod runs;

@@ -2,7 +2,7 @@
 --
 --   none-fails, found-some, found-none == a lowest place, or none
 --   none-unlisted                      == where no read is unlisted, each is listed
---   words-none, words-some, loads-none, loads-some == how many words and reads there are
+--   words-none, words-some, size-none, size-some, loads-none, loads-some == how many words and reads there are
 --   pack-ten, pack-length, pack-unlisted, pack-done == packing
 --   unpack-ten, unpack-words, unpack-reads, unpack-large, unpack-done == unpacking
 use mathlib.Core.Path.{_≡_, refl, sym, ap, ap₂, _∙_, subst}
@@ -28,9 +28,9 @@ use Rattle.trace.specs.declared.Trace.{Trace}
 use Rattle.trace.proofs.WellFormed.{form-iff}
 use Rattle.signature.specs.Reads.{values, rangeOf, digitOf, loads, unlisted, Listed}
 use Rattle.signature.specs.Signature.{signature, tops, tooLarge}
-use Rattle.signature.specs.Unpack.{readsOf}
-use Rattle.signature.specs.Answers.{wordsIn, loadsIn, readIn, packNext, packThen, packOf, packLeft, unpackNext, unpackThen, unpackOf, unpackLeft}
-use Rattle.signature.specs.Laying.{choice, allFrom, begun, laid}
+use Rattle.signature.specs.Unpack.{sizeOf, readsOf}
+use Rattle.signature.specs.Answers.{wordsIn, sizeIn, loadsIn, readIn, packNext, packThen, packOf, packLeft, unpackNext, unpackThen, unpackOf, unpackLeft}
+use Rattle.signature.specs.Laying.{choice, threadOf, allFrom, begun, laid}
 use Rattle.signature.specs.Found.{foundOf, Below, over}
 use Rattle.signature.specs.declared.Answer.{Answer}
 use Rattle.signature.specs.declared.Answer.the-variants.{Done, NotWellFormed, WrongLength, NotListed, TooLarge}
@@ -38,7 +38,7 @@ use Rattle.signature.specs.declared.Found.{Found}
 use Rattle.signature.specs.declared.Found.the-variants.{At, Nothing}
 use Rattle.signature.specs.declared.Open.{Open}
 use Rattle.signature.proofs.Signature.{up-long, top-chosen}
-use Rattle.signature.proofs.Laid.{tops-laid, tops-count}
+use Rattle.signature.proofs.Laid.{tops-laid, tops-count, thread-count}
 
 -- a lowest place, or none
 module _ (q : ℕ → Bool) (n : ℕ) where
@@ -78,6 +78,14 @@ module _ (t : Trace) where
   pub words-some : (w : So (wellFormed t)) → allFrom t true begun 0 THREADS .count ≡ wordsIn t
   unfolding wordsIn
   words-some w = tops-count t (form-iff t .0 w .fits) ∙ ap (λ (b : Bool). cond b (length (tops t)) 0) (sym w)
+
+  pub size-none : (τ : ℕ) → wellFormed t ≡ false → 0 ≡ sizeIn t τ
+  unfolding sizeIn
+  size-none τ e = ap (λ (b : Bool). cond b (sizeOf t τ) 0) (sym e)
+
+  pub size-some : (τ : ℕ) → (w : So (wellFormed t)) → threadOf t τ true begun .count ≡ sizeIn t τ
+  unfolding sizeIn
+  size-some τ w = thread-count t (form-iff t .0 w .fits) τ ∙ ap (λ (b : Bool). cond b (sizeOf t τ) 0) (sym w)
 
   pub loads-none : wellFormed t ≡ false → 0 ≡ loadsIn t
   unfolding loadsIn

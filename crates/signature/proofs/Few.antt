@@ -66,7 +66,7 @@ from-few p (r ∷ rs) = go (leb (p * r) LIMIT) (from-few (p * r) rs) (from-few r
     go true h k = omega arith
     go false h k = omega arith
 
-of-few : (rs : List ℕ) → wordsOf rs ≤ length rs
+pub of-few : (rs : List ℕ) → wordsOf rs ≤ length rs
 of-few [] = omega arith
 of-few (r ∷ rs) = from-few r rs
 

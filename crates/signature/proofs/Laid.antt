@@ -6,6 +6,7 @@
 --   ran-goal      == nor do all records
 --   thread-laid   == the words of a thread are laid down
 --   all-laid      == so are those of all threads
+--   thread-count  == so many words has a thread by itself
 --   tops-laid, signature-laid == the largest words; those of the reads
 use mathlib.Core.Path.{_≡_, refl, sym, ap, ap₂, _∙_, subst}
 use mathlib.Core.Logic.{_⊎_, inl, inr}
@@ -29,14 +30,15 @@ use Rattle.trace.specs.declared.Trace.{Trace}
 use Rattle.signature.specs.Words.{LIMIT, onto, packFrom, packed}
 use Rattle.signature.specs.Reads.{picks, each, values, rangeOf, digitOf, reader, readers}
 use Rattle.signature.specs.Signature.{threadWords, wordsUpTo, wordsBy, signature, tops}
+use Rattle.signature.specs.Unpack.{sizeOf}
 use Rattle.signature.specs.Answers.{readIn}
 use Rattle.signature.specs.Laying.{choice, after, closedOf, joinedOf, steppedOf, ranFrom, threadOf, allFrom, begun, laid}
 use Rattle.signature.specs.Found.{Below}
 use Rattle.signature.specs.declared.Open.{Open}
 use Rattle.signature.proofs.Words.{Digits, none, one, pack-some}
-use Rattle.signature.proofs.Lists.{pick-all, pick-in}
-use Rattle.signature.proofs.Signature.{Chosen, digits, reader-iff, up-like, top-chosen}
-use Rattle.signature.proofs.Few.{pick-none, range-small, words-few}
+use Rattle.signature.proofs.Lists.{pick-all, pick-in, each-long}
+use Rattle.signature.proofs.Signature.{Chosen, digits, reader-iff, up-like, top-chosen, thread-long}
+use Rattle.signature.proofs.Few.{pick-short, pick-none, of-few, range-small, words-few}
 use Rattle.signature.proofs.Loop.{lift, lift-same, lift-new, lift-end, product-less, digit-fits}
 
 pub record Sound (o : Open) : Type 0 where
@@ -231,6 +233,11 @@ module _ (t : Trace) (last : Bool) (ch : Below t last) where
       let r = all-laid few THREADS 0 begun begun-sound refl refl (subst (λ (us : List ℕ). length us ≤ RECORDS) (sym nothing) (omega (arith, words-few t (choice t last) ch))) in
       (r .0 ∙ nothing, r .1)
 
+-- nothing stands before the first word
+none-laid : (ws : List ℕ) → laid begun ++ ws ≡ ws
+unfolding laid
+none-laid ws = refl
+
 pub top-below : (t : Trace) → Below t true
 unfolding choice
 top-below t L b s = top-chosen t L b s
@@ -249,6 +256,21 @@ module _ (t : Trace) (few : t .len ≤ RECORDS) where
 
   pub tops-fit : allFrom t true begun 0 THREADS .count ≤ RECORDS
   tops-fit = words-laid t true (top-below t) few .1 .fits
+
+  pub thread-count : (τ : ℕ) → threadOf t τ true begun .count ≡ sizeOf t τ
+  unfolding readers
+  thread-count τ =
+      let own = threadWords t (choice t true) τ in
+      let long : length own ≡ sizeOf t τ = thread-long t τ (choice t true) (top-below t) in
+      let fits : length own ≤ RECORDS = omega (arith, long, of-few (each (rangeOf t) (readers t τ)), each-long (rangeOf t) (readers t τ), pick-short (reader t τ) 0 (t .len)) in
+      let m = thread-laid t true (top-below t) τ few begun (begun-sound t true (top-below t)) refl refl (alone own fits) in
+      sym (laid-long (threadOf t τ true begun) (m .1)) ∙ ap length (m .0 ∙ bare own) ∙ long
+    where
+      bare : (ws : List ℕ) → laid begun ++ ws ≡ ws
+      bare ws = none-laid ws
+
+      alone : (ws : List ℕ) → length ws ≤ RECORDS → length (laid begun ++ ws) ≤ RECORDS
+      alone ws h = omega (arith, ap length (none-laid ws))
 
   module _ (b : Below t false) where
     pub signature-laid : laid (allFrom t false begun 0 THREADS) ≡ signature t (readIn t)

@@ -7,6 +7,8 @@ use denote.Ref.{now}
 use Rattle.laws.specs.Settles.{Settles, Leaves}
 use Rattle.signature.proofs.packing.words_of.Reads as words-of
 use Rattle.signature.proofs.packing.words_of.Kinds as words-of-kinds
+use Rattle.signature.proofs.packing.words_in.Reads as words-in
+use Rattle.signature.proofs.packing.words_in.Kinds as words-in-kinds
 use Rattle.signature.proofs.packing.loads_of.Reads as loads-of
 use Rattle.signature.proofs.packing.loads_of.Kinds as loads-of-kinds
 use Rattle.signature.proofs.packing.pack.Reads as pack
@@ -16,6 +18,9 @@ use Rattle.signature.proofs.unpacking.unpack.Kinds as unpack-kinds
 
 pub words-of-settles : Settles 0 words-of-kinds.ps words-of-kinds.r words-of.Post
 words-of-settles κs a x y s t p q = p ∙ sym q
+
+pub words-in-settles : Settles 0 words-in-kinds.ps words-in-kinds.r words-in.Post
+words-in-settles κs a x y s t p q = p ∙ sym q
 
 pub loads-of-settles : Settles 0 loads-of-kinds.ps loads-of-kinds.r loads-of.Post
 loads-of-settles κs a x y s t p q = p ∙ sym q

@@ -2,6 +2,7 @@
 --
 --   numberOf a         == document 02's number of an answer; 0 where it is no refusal
 --   wordsIn t, loadsIn t == how many words and reads a program has; none where it is not well formed
+--   sizeIn t τ         == how many words thread τ of it has
 --   readIn t L         == what record L read, as the trace has it
 --   packOf t n         == the answer to packing the reads of t into n words
 --   packLeft t before  == and what the words hold then
@@ -20,7 +21,7 @@ use Rattle.trace.specs.WellFormed.{wellFormed}
 use Rattle.trace.specs.declared.Trace.{Trace}
 use Rattle.signature.specs.Reads.{loads, unlisted}
 use Rattle.signature.specs.Signature.{signature, tops, tooLarge}
-use Rattle.signature.specs.Unpack.{readsOf}
+use Rattle.signature.specs.Unpack.{sizeOf, readsOf}
 use Rattle.signature.specs.declared.Answer.{Answer}
 use Rattle.signature.specs.declared.Answer.the-variants.{Done, NotWellFormed, WrongLength, NotListed, TooLarge}
 
@@ -36,6 +37,9 @@ wordsIn t = cond (wellFormed t) (length (tops t)) 0
 
 unfoldable pub loadsIn : Trace → ℕ
 loadsIn t = cond (wellFormed t) (length (loads t)) 0
+
+unfoldable pub sizeIn : Trace → ℕ → ℕ
+sizeIn t τ = cond (wellFormed t) (sizeOf t τ) 0
 
 abbrev pub readIn : Trace → ℕ → ℕ
 readIn t L = read (at t L)

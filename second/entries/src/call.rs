@@ -33,6 +33,7 @@ pub enum Call {
     Loads,
     Signature { room: usize },
     Reads { words: Vec<u64>, room: usize },
+    Night { model: u8, words: Vec<u64>, room: usize },
 }
 
 /// Models that there are not.
@@ -42,7 +43,7 @@ pub const OTHER_MODELS: [u8; 5] = [0, LAST_MODEL + 1, LAST_MODEL + 2, 128, 255];
 pub const LAST_MODEL: u8 = MODELS as u8;
 
 /// The entries' names without the front that all share.
-pub const ENTRIES: [&str; 27] = [
+pub const ENTRIES: [&str; 28] = [
     "report",
     "number",
     "line",
@@ -70,6 +71,7 @@ pub const ENTRIES: [&str; 27] = [
     "signature",
     "reads",
     "open_file",
+    "night",
 ];
 
 impl Call {
@@ -103,6 +105,7 @@ impl Call {
             Call::Signature { .. } => 24,
             Call::Reads { .. } => 25,
             Call::OpenFile { .. } => 26,
+            Call::Night { .. } => 27,
         }
     }
 
@@ -130,6 +133,7 @@ impl fmt::Display for Call {
             Call::Waiting { room } => write!(f, " into {room} bytes"),
             Call::Signature { room } => write!(f, " into {room} words"),
             Call::Reads { words, room } => write!(f, " of {words:?} into {room} reads"),
+            Call::Night { model, words, room } => write!(f, " under {model} of {words:?} into {room} numbers"),
             Call::Number
             | Call::Line
             | Call::Start

@@ -19,6 +19,7 @@ pub fn compared(desk: &impl Desk, family: &Family, seed: u64, number: u64, most_
     texts::compare(&mut case);
     signed::compare(&mut case);
     sessions::compare(&mut case);
+    signed::compare_runs(&mut case);
     if before != case.text {
         case.counts.texts_failed += 1;
         case.differences.push("the text itself was changed\n".to_string());

@@ -31,6 +31,7 @@ pub trait Desk: Sync {
     fn loads(&self, text: &[u8]) -> usize;
     fn signature(&self, text: &[u8], words: &mut [u64]) -> usize;
     fn reads(&self, text: &[u8], words: &[u64], reads: &mut [u16]) -> usize;
+    fn night(&self, text: &[u8], model: u8, words: &[u64], out: &mut [u16]) -> usize;
 }
 
 /// The proved library's.
@@ -117,5 +118,8 @@ impl Desk for Proved {
     }
     fn reads(&self, text: &[u8], words: &[u64], reads: &mut [u16]) -> usize {
         entries::reads(text, words, reads)
+    }
+    fn night(&self, text: &[u8], model: u8, words: &[u64], out: &mut [u16]) -> usize {
+        entries::night(text, model, words, out)
     }
 }

@@ -1,9 +1,10 @@
-//! Signatures: how many words and reads a text's program has, its reads packed, words unpacked.
+//! Signatures: how many words and reads a text's program has, its reads packed, words unpacked, and runs judged by their words.
 
-use crate::call::Call;
+use crate::call::{Call, LAST_MODEL, OTHER_MODELS};
 use crate::case::Case;
 use crate::desk::Desk;
 use crate::lent::Lent;
+use second::nights::{night_into, BLOCK};
 use second::signatures::{layout, list, loads, pack, pack_into, unpack_into};
 use second::trace::Trace;
 
@@ -12,6 +13,13 @@ pub fn compare<D: Desk>(case: &mut Case<'_, D>) {
     let packed = packed(case);
     let unpacked = unpacked(case);
     if !(sizes && packed && unpacked) {
+        case.counts.texts_failed += 1;
+    }
+}
+
+/// Runs judged by their words; asked last, so that what is drawn for the other entries does not hang on it.
+pub fn compare_runs<D: Desk>(case: &mut Case<'_, D>) {
+    if !judged(case) {
         case.counts.texts_failed += 1;
     }
 }
@@ -96,4 +104,36 @@ fn unpacked<D: Desk>(case: &mut Case<'_, D>) -> bool {
     let got = case.desk.reads(case.text, &words, &mut theirs[1..=room]);
     let kept = before == words;
     case.same(Call::Reads { words, room }, (wanted, &bytes(&mine, u16::to_le_bytes)), (got, &bytes(&theirs, u16::to_le_bytes))) && kept
+}
+
+/// Up to three runs under one model: mostly words of listed reads, now and then one that is too large, words too many or a block that is not whole.
+fn judged<D: Desk>(case: &mut Case<'_, D>) -> bool {
+    let runs = case.chance.below(4);
+    let model = if case.chance.percent(85) { case.chance.between(1, LAST_MODEL.into()) as u8 } else { *case.chance.of(&OTHER_MODELS) };
+    let each = counts(case).0;
+    let mut list: Vec<u64> = (0..runs).flat_map(|_| run_words(case, each)).collect();
+    let right = list.len();
+    let many = room(case, right);
+    list.resize(many, 0);
+    let numbers = room(case, runs * BLOCK);
+    let before = list.clone();
+    let mut mine: Vec<u16> = (0..numbers + 2).map(|_| case.chance.draw() as u16).collect();
+    let mut theirs = mine.clone();
+    let wanted = match case.page.trace() {
+        Some(trace) => night_into(trace, model, &list, &mut mine[1..=numbers], case.page.most_steps()),
+        None => Some(case.page.number().into()),
+    };
+    // what is not known here is not compared
+    let Some(wanted) = wanted else { return true };
+    let got = case.desk.night(case.text, model, &list, &mut theirs[1..=numbers]);
+    let kept = before == list;
+    let call = Call::Night { model, words: list, room: numbers };
+    case.same(call, (wanted, &bytes(&mine, u16::to_le_bytes)), (got, &bytes(&theirs, u16::to_le_bytes))) && kept
+}
+
+/// The words of one run, as many as there should be.
+fn run_words<D: Desk>(case: &mut Case<'_, D>, each: usize) -> Vec<u64> {
+    let mut run = words(case);
+    run.resize(each, 0);
+    run
 }

@@ -13,6 +13,7 @@ use second::desk::{
     WRONG_LENGTH, WRONG_VALUE,
 };
 use second::families::FAMILIES;
+use second::nights::{self, night_into, BLOCK};
 use second::packed::{file_of, read_entries, FIRST, HEADER, RECORD};
 use second::packs::{self, BYTES_AT};
 use second::session::{self, Session, MOST_PAIRS};
@@ -30,7 +31,7 @@ struct Faulty(&'static str);
 
 const RIGHT: &str = "none";
 
-const FAULTS: [&str; 132] = [
+const FAULTS: [&str; 138] = [
     "report: a letter too far",
     "report: short memory written",
     "report: length of one line",
@@ -163,6 +164,12 @@ const FAULTS: [&str; 132] = [
     "reads: the largest word refused",
     "reads: too large a word taken",
     "reads: reads by thread",
+    "night: the program's own reads",
+    "night: run and word exchanged",
+    "night: any model is SC",
+    "night: no model",
+    "night: written before it is checked",
+    "night: no rules",
 ];
 
 impl Faulty {
@@ -590,6 +597,7 @@ impl Desk for Faulty {
     fn add(&self, session: &mut [u8], fields: &Fields) -> u8 {
         let front = session.len().saturating_sub(RECORD);
         let Some(mut seen) = self.seen(&session[..front]) else { return 12 };
+        let given = desk::taken(&seen);
         seen.extend(&session[front..]);
         let mut fields = *fields;
         if self.is("add: any kind past 3 is a fence") && fields.kind > 3 {
@@ -599,7 +607,7 @@ impl Desk for Faulty {
             fields.read *= u16::from(fields.kind != 1);
             fields.written *= u16::from(fields.kind != 0);
         }
-        let (given, before) = (desk::taken(&session[..front]), seen.clone());
+        let before = seen.clone();
         let answer = desk::add(&mut seen, &fields);
         if self.is("add: numbers before 12") && answer == 12 && fields.record().is_none() {
             return NO_ENTRY;
@@ -627,7 +635,7 @@ impl Desk for Faulty {
             seen[CONTRADICTED_AT..HEAD].copy_from_slice(&before[CONTRADICTED_AT..HEAD]);
         }
         while self.is("add: pairs dropped") && desk::take_back(&mut seen) == DONE {}
-        session.copy_from_slice(&seen);
+        session[..seen.len()].copy_from_slice(&seen);
         answer
     }
 
@@ -775,6 +783,36 @@ impl Desk for Faulty {
         if self.is("signature: threads in one word") && words.len() > 1 {
             words.copy_from_slice(&before);
             words[0] = 0;
+        }
+        answer
+    }
+
+    fn night(&self, text: &[u8], model: u8, words: &[u64], out: &mut [u16]) -> usize {
+        let page = self.page(text);
+        let Some(trace) = page.trace() else { return page.number().into() };
+        let there = Model::numbered(model.into()).is_some();
+        let model = match there {
+            true if self.is("night: any model is SC") => 1,
+            false if self.is("night: no model") => 2,
+            _ => model,
+        };
+        let answer = night_into(trace, model, words, out, STEPS).unwrap_or(0);
+        if self.is("night: run and word exchanged") && answer % 256 == 24 {
+            return nights::code(24, answer / 256 % 256, answer / 65536);
+        }
+        if self.is("night: written before it is checked") && answer % 256 == 24 {
+            out.fill(0);
+        }
+        if self.is("night: no rules") && answer == 0 {
+            out.chunks_mut(BLOCK).for_each(|block| block[nights::RULES_AT..].fill(0));
+        }
+        if self.is("night: the program's own reads") && answer == 0 {
+            let mut own = [0; VERDICT];
+            let Some(kind) = page.verdict(model, &mut own) else { return answer };
+            for block in out.chunks_mut(BLOCK) {
+                block[0] = kind.into();
+                block[1] = number_at(&own) as u16;
+            }
         }
         answer
     }

@@ -13,7 +13,7 @@ use signature::unpacking::unpack;
 use trace::RECORDS;
 
 // A number with a place above it; the number alone where there is no such place.
-fn with_place(number: usize, place: usize) -> usize
+pub(crate) fn with_place(number: usize, place: usize) -> usize
     requires { ⌜ number < 256 ⌝ }
     ensures { λ r. ⌜ r ≡ withPlace number place ⌝ }
 {

@@ -9,7 +9,7 @@ ghost use Rattle.trace.specs.Op.{reads};
 ghost use Rattle.trace.specs.Trace.{at};
 ghost use Rattle.trace.specs.WellFormed.{wellFormed};
 ghost use Rattle.signature.specs.Reads.{unlisted, loads};
-ghost use Rattle.signature.specs.Answers.{readIn, wordsIn, loadsIn, packOf, packLeft};
+ghost use Rattle.signature.specs.Answers.{readIn, wordsIn, sizeIn, loadsIn, packOf, packLeft};
 ghost use Rattle.signature.specs.Laying.{choice, after, closedOf, joinedOf, steppedOf, ranFrom, threadOf, allFrom, begun, laid};
 ghost use Rattle.signature.specs.Found.{foundOf, Below};
 use crate::Answer;
@@ -185,6 +185,23 @@ pub fn words_of(t: Trace) -> usize
     }
     let all = all_words(t, true);
     all.count
+}
+
+// How many words a thread of it has.
+pub fn words_in(t: Trace, core: u8) -> usize
+    ensures { λ r. ⌜ r ≡ sizeIn t core ⌝ }
+{
+    if !well_formed(t) {
+        return 0;
+    }
+    let fresh = Open {
+        of: [0; RECORDS],
+        count: 0,
+        q: 0,
+        word: 0,
+    };
+    let own = thread_words(t, core, true, fresh);
+    own.count
 }
 
 // How many reads a program has.
