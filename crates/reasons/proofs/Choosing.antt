@@ -3,22 +3,26 @@
 --   first-pair   == the first pair that passes, or none does
 --   open-iff     == when a pair is open
 --   choose-found == a pair that is chosen is open; where none is chosen, none is
+--   read-from    == a source is read from
 use mathlib.Core.Logic.{_↔_, _⊎_}
 use mathlib.Core.Bool.{So, _&&_}
 use mathlib.Core.List.{List}
 use mathlib.Core.Option.{Option, none, some}
-use Prim.Native.Nat.{ℕ, _<_}
+use Prim.Native.Nat.{ℕ, _<_, _≤_}
 use native.Mathlib.Omega.{arith}
+use lib.Dec.{eqb}
 use Rattle.laws.specs.Tests.{any}
 use Rattle.laws.specs.Relation.{Table}
 use Rattle.laws.specs.Lowest.{Lowest, lowest}
-use Rattle.laws.proofs.Tests.{and-iff, or-iff, not-iff, same-iff, so-any, any-iff}
+use Rattle.laws.proofs.Tests.{and-iff, or-iff, not-iff, same-iff, so-any, so-eq}
 use Rattle.laws.proofs.Lowest.{lowest-iff}
-use Rattle.trace.specs.Frame.{Frame, Writer, Source}
-use Rattle.rules.specs.Tests.{writer?, source?}
-use Rattle.rules.proofs.Tests.{source-iff, writer-iff}
+use Rattle.trace.specs.Bounds.{RECORDS}
+use Rattle.trace.specs.Frame.{Frame, Good, Writer, Source}
+use Rattle.rules.specs.SourceOf.{sourceOf}
+use Rattle.rules.proofs.Tests.{writer-iff}
+use Rattle.rules.proofs.SourceOf.{source-of-has}
 use Rattle.papers.specs.Paper.{Edge}
-use Rattle.reasons.specs.Writing.{heldIn, open?, falls, falls₂, firstPair, orElse, choose}
+use Rattle.reasons.specs.Writing.{readFrom, heldIn, open?, falls, falls₂, firstPair, orElse, choose}
 
 -- what a search for a pair comes to
 abbrev pub Found : ℕ → Table → Option (ℕ × ℕ) → Type 0
@@ -55,15 +59,15 @@ module _ (f : Frame) (K : Table) (E : List Edge) where
   unfolding choose
   choose-found = or-else (falls₂ f K E) _ (or-else (falls f K E) _ (first-pair (f .records) (open? f K E)))
 
-  abbrev pub Read : ℕ → ℕ → Type 0
-  Read x y = (L : ℕ) × (L < f .records) × (Source f x L × Writer f y L)
-
   abbrev pub Open : ℕ → ℕ → Type 0
-  Open x y = (((So (f .writes x) × Writer f y x) × (Read x y ⊎ Read y x)) × (So (heldIn f K E x y) → ⊥)) × (So (heldIn f K E y x) → ⊥)
+  Open x y = (((So (f .writes x) × Writer f y x) × (So (readFrom f x) ⊎ So (readFrom f y))) × (So (heldIn f K E x y) → ⊥)) × (So (heldIn f K E y x) → ⊥)
 
   pub open-iff : (x y : ℕ) → So (open? f K E x y) ↔ Open x y
   unfolding open?
-  open-iff x y = and-iff (and-iff (and-iff (and-iff same-iff (writer-iff f y x)) (or-iff (read x y) (read y x))) (not-iff same-iff)) (not-iff same-iff)
-    where
-      read : (x y : ℕ) → So (any (f .records) (λ L. source? f x L && writer? f y L)) ↔ Read x y
-      read x y = any-iff (λ L. and-iff (source-iff f x L) (writer-iff f y L))
+  open-iff x y = and-iff (and-iff (and-iff (and-iff same-iff (writer-iff f y x)) (or-iff same-iff same-iff)) (not-iff same-iff)) (not-iff same-iff)
+
+pub read-from : (f : Frame) → Good f → f .records ≤ RECORDS → (S L : ℕ) → Source f S L → So (readFrom f S)
+unfolding readFrom
+read-from f g small S L s =
+    let l : L < RECORDS = omega (arith, g .below L (g .reads L (s .reads))) in
+    so-any RECORDS (λ L. eqb (sourceOf f L) S) .1 (L, l, so-eq .1 (source-of-has f L g S (omega (arith, g .below S (g .writes S (s .writer .writes)))) s))

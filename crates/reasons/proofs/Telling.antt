@@ -6,34 +6,36 @@
 --   along-says                 == the edges of a way are told, where each can be
 --   tell-says                  == an edge of any round is told
 use mathlib.Core.Path.{_≡_, refl, sym, ap, _∙_, subst}
-use mathlib.Core.Logic.{_≢_, _⊎_, inl, inr}
-use mathlib.Core.Bool.{Bool, true, false, cond, So, _&&_, false≢true}
+use mathlib.Core.Logic.{_≢_, _↔_, _⊎_, inl, inr}
+use mathlib.Core.Bool.{Bool, true, false, not, cond, So, _&&_, false≢true}
 use mathlib.Core.List.{List, [], _∷_, _++_, append-assoc, append-nil}
 use mathlib.Core.Option.{Option, none, some}
 use Prim.Native.Nat.{ℕ, zero, suc, _<_, _≤_}
 use native.Mathlib.Omega.{arith}
 use lib.Dec.{eqb}
 use lib.ListN.{length}
-use Rattle.laws.specs.Relation.{Rel, Table, _⊆_, Chain}
+use Rattle.laws.specs.Relation.{Rel, Table, _⊆_}
 use Rattle.laws.specs.Lowest.{Lowest, lowest}
 use Rattle.laws.specs.Sorted.{On}
-use Rattle.laws.proofs.Tests.{and-iff, or-iff, same-iff, so-eq, so-le, off}
+use Rattle.laws.proofs.Tests.{and-iff, or-iff, not-iff, same-iff, so-eq, so-le, off}
 use Rattle.laws.proofs.Lowest.{lowest-iff}
 use Rattle.trace.specs.Bounds.{RECORDS}
 use Rattle.trace.specs.Frame.{Frame, Good, Source, Writer}
 use Rattle.rules.specs.Rules.{Gives, rule1, rule2, rule3, rule4, rule5, rule6, rule7, rule8, Chains, Edge as Forced, Within, nothing}
 use Rattle.rules.specs.Circle.{Run}
-use Rattle.rules.specs.Tests.{writer?, source?, chains?, edge?}
-use Rattle.rules.proofs.Tests.{gives-iff, chains-iff, edge-iff, source-iff, writer-iff}
-use Rattle.rules.proofs.Missing.{source-one}
+use Rattle.rules.specs.Tests.{gives?, chains?, edge?}
+use Rattle.rules.specs.ShownCircle.{rule?}
+use Rattle.rules.specs.SourceOf.{sourceOf}
+use Rattle.rules.proofs.Tests.{gives-iff, gives-small, chains-iff, edge-iff}
+use Rattle.rules.proofs.SourceOf.{source-of-is, source-of-has}
 use Rattle.rules.proofs.Rounds.{edge-grow}
-use Rattle.rules.proofs.Ends.{step-within}
-use Rattle.rules.proofs.ShownCircle.{rule-computed}
+use Rattle.rules.proofs.Ends.{step-within, chains-within}
 use Rattle.papers.specs.Paper.{CIRCLE, SPLIT, CHAINED, Edge, Entry, edgeAt, named, chained, roomy, bare, fits, refutes}
-use Rattle.reasons.specs.Telling.{edgesOf, inside, numberOf, numbers, along, ruleAt, startOf, endOf, resting, tell}
+use Rattle.reasons.specs.Telling.{edgesOf, inside, numberOf, numbers, along, ruleBy, loadOf, bareEntry, startOf, endOf, wayAt, resting, tell}
 use Rattle.reasons.proofs.Names.{Named, inside-iff, named-grow, named-last, named-cases, chained-one, chained-more}
 use Rattle.reasons.proofs.Short.{Distinct, further, Fair, roomy-new}
 use Rattle.reasons.proofs.Written.{Runs, runs-edge}
+use Rattle.reasons.proofs.Ways.{way-runs}
 
 module _ (E : List Edge) where
   abbrev At : ℕ → ℕ → ℕ → Type 0
@@ -46,7 +48,7 @@ module _ (E : List Edge) where
       found : Lowest (At x y) (lowest (λ i. eqb (edgeAt E i .from) x && eqb (edgeAt E i .to) y) (length E) 0)
       found = lowest-iff _ (At x y) (length E) (λ i h. (λ t. (h, and-iff so-eq so-eq .0 t), λ a. and-iff so-eq so-eq .1 (a .1))) (λ i a. a .0) (length E) 0 (omega arith) (λ i a. omega arith)
 
-      go : (o : Option ℕ) → Lowest (At x y) o → At x y (elim o [ some i ↦ i | none ↦ length E ])
+      go : (o : Option ℕ) → Lowest (At x y) o → At x y (elim o [ some i ↦ i | none ↦ 0 ])
       go (some i) l = l .0
       go none l = absurd (l (n .0) (n .1, n .2))
 
@@ -148,13 +150,43 @@ module _ (f : Frame) (K P : Table) (C : Rel) (x y : ℕ) where
   kind (rule7 S s w d c) = source S s w d c
   kind (rule8 k) = given k
 
-module _ (f : Frame) (g : Good f) (small : f .records ≤ RECORDS) (K P : Table) (inK : Within f K) (inP : Within f P) (way : ℕ → ℕ → ℕ → List ℕ)
-    (ways : (k a b : ℕ) → Chain (Forced f K P k) a b → Run (Forced f K P k) a (way k a b) b) where
+  -- what is not supposed is given all the same
+  unsupposed : (So (P x y) → ⊥) → (r : ℕ) → Kind r → Gives f K nothing C x y r
+  unsupposed n r (plain n₀ n₈ a) = a C nothing
+  unsupposed n r (given k) = absurd (n k)
+  unsupposed n r (load L s w d c) = rule6 L s w d c
+  unsupposed n r (source S s w d c) = rule7 S s w d c
+
+-- the lowest rule gives the edge, where one does
+module _ (f : Frame) (g : Good f) (K C : Table) (D : Rel) (q : (x y : ℕ) → So (C x y) ↔ D x y) (x y : ℕ) where
+  rule-by : (r : ℕ) → Gives f K nothing D x y r → Gives f K nothing D x y (ruleBy f K C x y)
+  unfolding ruleBy rule?
+  rule-by r a = go (lowest (gives? f K nothing C x y) 9 0)
+      (lowest-iff _ (Gives f K nothing D x y) 9 (λ r _. gives-iff f g K nothing C D q x y r) (λ r. gives-small) 9 0 (omega arith) (λ r _. omega arith))
+    where
+      go : (o : Option ℕ) → Lowest (Gives f K nothing D x y) o → Gives f K nothing D x y (elim o [ some r ↦ r | none ↦ 0 ])
+      go (some r) l = l .0
+      go none l = absurd (l r a)
+
+  -- and otherwise it is 0
+  rule-given : ruleBy f K C x y ≢ 0 → Gives f K nothing D x y (ruleBy f K C x y)
+  unfolding ruleBy rule?
+  rule-given n = go (lowest (gives? f K nothing C x y) 9 0)
+      (lowest-iff _ (Gives f K nothing D x y) 9 (λ r _. gives-iff f g K nothing C D q x y r) (λ r. gives-small) 9 0 (omega arith) (λ r _. omega arith)) n
+    where
+      go : (o : Option ℕ) → Lowest (Gives f K nothing D x y) o → _≢_ {A = ℕ} (elim o [ some r ↦ r | none ↦ 0 ]) 0 → Gives f K nothing D x y (elim o [ some r ↦ r | none ↦ 0 ])
+      go (some r) l n = l .0
+      go none l n = absurd (n refl)
+
+module _ (f : Frame) (g : Good f) (small : f .records ≤ RECORDS) (K P : Table) (inK : Within f K) (inP : Within f P) where
   abbrev pub Supposes : List Edge → Type 0
   Supposes E = (x y : ℕ) → So (P x y) → Named E x y
 
   pub supposes-grow : (E F : List Edge) → Supposes E → Supposes (E ++ F)
   supposes-grow E F s x y k = named-grow E F x y (s x y k)
+
+  abbrev pub Circleless : ℕ → Type 0
+  Circleless k = (j : ℕ) → j < k → (x : ℕ) → Chains f K P (suc j) x x → ⊥
 
   within : (k x y : ℕ) → Forced f K P k x y → (x < f .records) × (y < f .records)
   within k x y e = step-within f g K P inK inP (Chains f K P k) x y e
@@ -167,120 +199,164 @@ module _ (f : Frame) (g : Good f) (small : f .records ≤ RECORDS) (K P : Table)
       and-iff {a = roomy E} same-iff (and-iff {a = bare r (length is)} (or-iff so-le so-eq) (gives-iff f g K nothing (chained E is) (On (chained E is)) (λ x y. same-iff) x y r)) .1
       (roomy-new (f .records) E u x y n b small, (h, a))
 
-  lowest-rule : (k x y : ℕ) → Forced f K P k x y → Gives f K P (Chains f K P k) x y (ruleAt f K P way k x y)
-  unfolding ruleAt
-  lowest-rule k x y e = rule-computed f g K P (chains? f K P k) k (chains-iff f g K P inK inP k) x y e .0
+  none-iff : (x y : ℕ) → So (nothing x y) ↔ On nothing x y
+  none-iff x y = same-iff
 
-  -- the ends of the chain that a rule asks for
+  -- an edge by a rule that looks at no chains
+  bare-says : (k : ℕ) (E : List Edge) → Fair (f .records) E → (x y : ℕ) → Forced f K P k x y → (Named E x y → ⊥) → Gives f K nothing (On nothing) x y (ruleBy f K nothing x y)
+      → Says f K (Forced f K P k) E (bareEntry f K x y ∷ []) (λ B. Named B x y)
+  bare-says k E u x y e n a = by (kind f K nothing (On nothing) x y a)
+    where
+      by : Kind f K nothing (On nothing) x y (ruleBy f K nothing x y) → Says f K (Forced f K P k) E (bareEntry f K x y ∷ []) (λ B. Named B x y)
+      by z = go (ruleBy f K nothing x y) z
+        where
+          go : (r : ℕ) → Kind f K nothing (On nothing) x y r → Says f K (Forced f K P k) E (record { rule = r; from = x; to = y; rests = [] } ∷ []) (λ B. Named B x y)
+          go r (plain n₀ n₈ a) =
+              one-said f K (Forced f K P k) E (record { rule = r; from = x; to = y; rests = [] }) (u .once) n₀ n₈ (fits-by E x y r [] u n (within k x y e) (inr refl) (a (On (chained E [])) nothing)) n e
+          go r (given t) = absurd (false≢true t)
+          go r (load L s w d c) = absurd (false≢true c)
+          go r (source S s w d c) = absurd (false≢true c)
+
+  -- the ends of the chain of round k that a rule asks for
   module _ (k x y : ℕ) where
-    start-six : ruleAt f K P way k x y ≡ 6 → startOf f K P way k x y ≡ x
+    start-six : ruleBy f K (chains? f K P (suc k)) x y ≡ 6 → startOf f K P k x y ≡ x
     unfolding startOf
-    start-six e = ap (λ b. cond b x (elim (lowest (λ S. source? f S x) (f .records) 0) [ some S ↦ S | none ↦ 0 ])) (so-eq .1 e)
+    start-six e = ap (λ b. cond b x (sourceOf f x)) (so-eq .1 e)
 
-    end-seven : ruleAt f K P way k x y ≡ 7 → endOf f K P way k x y ≡ y
+    end-seven : ruleBy f K (chains? f K P (suc k)) x y ≡ 7 → endOf f K P k x y ≡ y
     unfolding endOf
-    end-seven e = ap (λ b. cond b (elim (lowest (λ L. source? f y L && writer? f x L && chains? f K P k x L) (f .records) 0) [ some L ↦ L | none ↦ 0 ]) y)
-        (off (λ t. let q : ruleAt f K P way k x y ≡ 6 = so-eq .0 t in omega arith))
+    end-seven e = ap (λ b. cond b (loadOf f (chains? f K P (suc k)) x y) y) (off (λ t. let q : ruleBy f K (chains? f K P (suc k)) x y ≡ 6 = so-eq .0 t in omega arith))
+
+    start-seven : ruleBy f K (chains? f K P (suc k)) x y ≡ 7 → (S : ℕ) → Source f S x → startOf f K P k x y ≡ S
+    unfolding startOf
+    start-seven e S s =
+        ap (λ b. cond b x (sourceOf f x)) (off (λ t. let q : ruleBy f K (chains? f K P (suc k)) x y ≡ 6 = so-eq .0 t in omega arith))
+        ∙ source-of-has f x g S (omega (arith, g .below S (g .writes S (s .writer .writes)))) s
 
     abbrev Load : ℕ → Type 0
-    Load L = (Source f y L × Writer f x L) × Chains f K P k x L
+    Load L = (Chains f K P (suc k) x L × (sourceOf f L ≡ y)) × (x ≢ L)
 
-    end-six : ruleAt f K P way k x y ≡ 6 → (L : ℕ) → Load L → Load (endOf f K P way k x y)
-    unfolding endOf
-    end-six e L l = subst Load (sym (ap (λ b. cond b (pick (lowest (λ L. source? f y L && writer? f x L && chains? f K P k x L) (f .records) 0)) y) (so-eq .1 e))) (go (lowest (λ L. source? f y L && writer? f x L && chains? f K P k x L) (f .records) 0) found)
+    load-found : (L : ℕ) → Load L → Load (loadOf f (chains? f K P (suc k)) x y)
+    unfolding loadOf
+    load-found L l = go (lowest (λ L. chains? f K P (suc k) x L && eqb (sourceOf f L) y && not (eqb x L)) RECORDS 0) found
       where
-        pick : Option ℕ → ℕ
-        pick o = elim o [ some L ↦ L | none ↦ 0 ]
+        below : (L : ℕ) → Load L → L < RECORDS
+        below L l = omega (arith, chains-within f g K P inK inP (suc k) x L (l .0 .0) .1)
 
-        below : (L : ℕ) → Load L → L < f .records
-        below L l = g .below L (g .reads L (l .0 .0 .reads))
+        found : Lowest Load (lowest (λ L. chains? f K P (suc k) x L && eqb (sourceOf f L) y && not (eqb x L)) RECORDS 0)
+        found = lowest-iff _ Load RECORDS (λ L h. and-iff (and-iff (chains-iff f g K P inK inP (suc k) x L) so-eq) (not-iff so-eq)) below RECORDS 0 (omega arith) (λ L l. omega arith)
 
-        found : Lowest Load (lowest (λ L. source? f y L && writer? f x L && chains? f K P k x L) (f .records) 0)
-        found = lowest-iff _ Load (f .records) (λ L h. and-iff (and-iff (source-iff f y L) (writer-iff f x L)) (chains-iff f g K P inK inP k x L)) below (f .records) 0 (omega arith) (λ L l. omega arith)
-
-        go : (o : Option ℕ) → Lowest Load o → Load (pick o)
+        go : (o : Option ℕ) → Lowest Load o → Load (elim o [ some L ↦ L | none ↦ RECORDS ])
         go (some L) h = h .0
         go none h = absurd (h L l)
 
-    start-seven : ruleAt f K P way k x y ≡ 7 → (S : ℕ) → Source f S x → startOf f K P way k x y ≡ S
-    unfolding startOf
-    start-seven e S s =
-        ap (λ b. cond b x (pick (lowest (λ S. source? f S x) (f .records) 0))) (off (λ t. let q : ruleAt f K P way k x y ≡ 6 = so-eq .0 t in omega arith))
-        ∙ go (lowest (λ S. source? f S x) (f .records) 0) found
+    -- where rule 6 gives the edge by some load, it gives it by the lowest
+    end-six : ruleBy f K (chains? f K P (suc k)) x y ≡ 6 → (L : ℕ) → Source f y L → Writer f x L → Chains f K P (suc k) x L
+        → (Source f y (endOf f K P k x y) × Writer f x (endOf f K P k x y)) × Chains f K P (suc k) x (endOf f K P k x y)
+    unfolding endOf
+    end-six e L s w c =
+        subst (λ (b : Bool). (Source f y (cond b M y) × Writer f x (cond b M y)) × Chains f K P (suc k) x (cond b M y)) (sym (so-eq .1 e)) ((reads, writes), z .0 .0)
       where
-        pick : Option ℕ → ℕ
-        pick o = elim o [ some S ↦ S | none ↦ 0 ]
+        M : ℕ
+        M = loadOf f (chains? f K P (suc k)) x y
 
-        found : Lowest (λ S. Source f S x) (lowest (λ S. source? f S x) (f .records) 0)
-        found = lowest-iff _ (λ S. Source f S x) (f .records) (λ S h. source-iff f S x) (λ S s. g .below S (g .writes S (s .writer .writes))) (f .records) 0 (omega arith) (λ S s. omega arith)
+        z : Load (loadOf f (chains? f K P (suc k)) x y)
+        z = load-found L ((c, source-of-has f L g y (omega (arith, g .below y (g .writes y (s .writer .writes)))) s), w .other)
 
-        go : (o : Option ℕ) → Lowest (λ S. Source f S x) o → pick o ≡ S
-        go (some T) h = source-one f g T S x (h .0) s
-        go none h = absurd (h S s)
+        reads : Source f y (loadOf f (chains? f K P (suc k)) x y)
+        reads =
+            let l : y < RECORDS = omega (arith, g .below y (g .writes y (s .writer .writes))) in
+            subst (λ (S : ℕ). Source f S (loadOf f (chains? f K P (suc k)) x y)) (z .0 .1) (source-of-is f (loadOf f (chains? f K P (suc k)) x y) (omega (arith, z .0 .1)))
+
+        writes : Writer f x (loadOf f (chains? f K P (suc k)) x y)
+        writes = record { writes = w .writes; same = w .same ∙ sym (s .writer .same) ∙ reads .writer .same; other = z .1 }
 
   -- an edge that rests on a chain of round k, and is no edge of that round
-  rest-says : (k : ℕ) (E : List Edge) → Supposes E → Fair (f .records) E → (x y a b r : ℕ) → Forced f K P (suc k) x y
-      → ((E : List Edge) → Supposes E → Fair (f .records) E → (x y : ℕ) → Forced f K P k x y → Says f K (Forced f K P k) E (tell f K P way k E x y) (λ B. Named B x y))
-      → (Named E x y → ⊥) → (Forced f K P k x y → ⊥) → Chain (Forced f K P k) a b → CHAINED ≤ r → r < SPLIT
-      → ((B : List Edge) (is : List ℕ) → So (chained B is a b) → Gives f K nothing (On (chained B is)) x y r)
+  rest-says : (k : ℕ) (E : List Edge) → Supposes E → Fair (f .records) E → (x y r : ℕ) → Forced f K P (suc k) x y
+      → ((E : List Edge) → Supposes E → Fair (f .records) E → (x y : ℕ) → Forced f K P k x y → Says f K (Forced f K P k) E (tell f K P k E x y) (λ B. Named B x y))
+      → (Named E x y → ⊥) → (Forced f K P k x y → ⊥) → Run (Forced f K P k) (startOf f K P k x y) (wayAt f K P k x y) (endOf f K P k x y) → CHAINED ≤ r → r < SPLIT
+      → ((B : List Edge) (is : List ℕ) → So (chained B is (startOf f K P k x y) (endOf f K P k x y)) → Gives f K nothing (On (chained B is)) x y r)
       → Says f K (Forced f K P (suc k)) E
-      (along (tell f K P way k) E a (way k a b) b ++ record { rule = r; from = x; to = y; rests = numbers (E ++ edgesOf (along (tell f K P way k) E a (way k a b) b)) a (way k a b) b } ∷ [])
+      (along (tell f K P k) E (startOf f K P k x y) (wayAt f K P k x y) (endOf f K P k x y)
+      ++ record { rule = r; from = x; to = y; rests = numbers (E ++ edgesOf (along (tell f K P k) E (startOf f K P k x y) (wayAt f K P k x y) (endOf f K P k x y))) (startOf f K P k x y) (wayAt f K P k x y) (endOf f K P k x y) } ∷ [])
       (λ B. Named B x y)
-  rest-says k E s u x y a b r e tells n₁ n₂ c low high by =
-      let es = along (tell f K P way k) E a (way k a b) b in
+  rest-says k E s u x y r e tells n₁ n₂ c low high by =
+      let a = startOf f K P k x y in
+      let b = endOf f K P k x y in
+      let zs = wayAt f K P k x y in
+      let es = along (tell f K P k) E a zs b in
       let E₁ = E ++ edgesOf es in
-      let Q : List Edge → Type 0 = λ B. Run (Named B) a (way k a b) b in
-      let v = along-says f K (Forced f K P k) (f .records) (within k) (tell f K P way k) Supposes supposes-grow tells (way k a b) E s u a b (ways k a b c) in
-      let is = numbers E₁ a (way k a b) b in
+      let Q : List Edge → Type 0 = λ B. Run (Named B) a zs b in
+      let v = along-says f K (Forced f K P k) (f .records) (within k) (tell f K P k) Supposes supposes-grow tells zs E s u a b c in
+      let is = numbers E₁ a zs b in
       let new : Named E₁ x y → ⊥ = λ m. elim (v .only x y m) [ inl z ↦ n₁ z | inr z ↦ n₂ z ] in
       let fair = says-fair f K (Forced f K P k) (f .records) (within k) E es Q u v in
-      let t = fits-by E₁ x y r is fair new (within (suc k) x y e) (inl low) (by E₁ is (numbers-chained E₁ a (way k a b) b (v .told))) in
+      let t = fits-by E₁ x y r is fair new (within (suc k) x y e) (inl low) (by E₁ is (numbers-chained E₁ a zs b (v .told))) in
       join f K (Forced f K P (suc k)) E es (record { rule = r; from = x; to = y; rests = is } ∷ []) Q (λ B. Named B x y)
       (wider f K (Forced f K P k) (Forced f K P (suc k)) (edge-grow f K P k) E es Q v)
       (one-said f K (Forced f K P (suc k)) E₁ (record { rule = r; from = x; to = y; rests = is }) (fair .once) (λ q. omega arith) (λ q. omega arith) t new e)
 
-  pub tell-says : (k : ℕ) (E : List Edge) → Supposes E → Fair (f .records) E → (x y : ℕ) → Forced f K P k x y → Says f K (Forced f K P k) E (tell f K P way k E x y) (λ B. Named B x y)
-  unfolding tell resting
-  tell-says zero E s u x y e = go (inside E x y) refl
-    where
-      by : (Named E x y → ⊥) → (r : ℕ) → Kind f K P (Chains f K P 0) x y r
-          → Says f K (Forced f K P 0) E (record { rule = r; from = x; to = y; rests = [] } ∷ []) (λ B. Named B x y)
-      by n r (plain n₀ n₈ a) =
-          one-said f K (Forced f K P 0) E (record { rule = r; from = x; to = y; rests = [] }) (u .once) n₀ n₈ (fits-by E x y r [] u n (within 0 x y e) (inr refl) (a (On (chained E [])) nothing)) n e
-      by n r (given k) = absurd (n (s x y k))
-      by n r (load L u w d c) = absurd c
-      by n r (source S u w d c) = absurd c
+  -- the way of a chain of a round that has no circle
+  way-at : (k x y : ℕ) → ((x : ℕ) → Chains f K P (suc k) x x → ⊥) → Chains f K P (suc k) (startOf f K P k x y) (endOf f K P k x y)
+      → Run (Forced f K P k) (startOf f K P k x y) (wayAt f K P k x y) (endOf f K P k x y)
+  unfolding wayAt
+  way-at k x y clear c =
+      way-runs (Forced f K P k) (λ x y e. let b = within k x y e in (omega (arith, b .0), omega (arith, b .1))) (edge? f K P k) (chains? f K P (suc k))
+      (edge-iff f g K P inK inP k) (chains-iff f g K P inK inP (suc k)) clear (startOf f K P k x y) (endOf f K P k x y) c
 
-      go : (b : Bool) → inside E x y ≡ b → Says f K (Forced f K P 0) E (elim b [ true ↦ [] | false ↦ record { rule = ruleAt f K P way 0 x y; from = x; to = y; rests = [] } ∷ [] ]) (λ B. Named B x y)
+  pub tell-says : (k : ℕ) → Circleless k → (E : List Edge) → Supposes E → Fair (f .records) E → (x y : ℕ) → Forced f K P k x y
+      → Says f K (Forced f K P k) E (tell f K P k E x y) (λ B. Named B x y)
+  unfolding tell resting
+  tell-says zero clear E s u x y e = go (inside E x y) refl
+    where
+      go : (b : Bool) → inside E x y ≡ b → Says f K (Forced f K P 0) E (elim b [ true ↦ [] | false ↦ bareEntry f K x y ∷ [] ]) (λ B. Named B x y)
       go true t = none-said f K (Forced f K P 0) E (λ B. Named B x y) (u .once) (inside-iff E x y .0 t)
-      go false t = by (λ n. false≢true (sym t ∙ inside-iff E x y .1 n)) (ruleAt f K P way 0 x y) (kind f K P (Chains f K P 0) x y (lowest-rule 0 x y e))
-  tell-says (suc k) E s u x y e = go (inside E x y) (edge? f K P k x y) refl refl (tell-says k)
+      go false t =
+          let n : Named E x y → ⊥ = λ n. false≢true (sym t ∙ inside-iff E x y .1 n) in
+          bare-says 0 E u x y e n (rule-by f g K nothing (On nothing) none-iff x y (e .0) (by n (e .0) (kind f K P (Chains f K P 0) x y (e .1))))
+        where
+          by : (Named E x y → ⊥) → (r : ℕ) → Kind f K P (Chains f K P 0) x y r → Gives f K nothing (On nothing) x y r
+          by n r (plain n₀ n₈ a) = a (On nothing) nothing
+          by n r (given k) = absurd (n (s x y k))
+          by n r (load L u w d c) = absurd c
+          by n r (source S u w d c) = absurd c
+  tell-says (suc k) clear E s u x y e = go (inside E x y) (eqb (ruleBy f K nothing x y) 0) (edge? f K P k x y) refl refl refl (tell-says k (λ j l. clear j (omega arith)))
     where
       Tells : Type 0
-      Tells = (E : List Edge) → Supposes E → Fair (f .records) E → (x y : ℕ) → Forced f K P k x y → Says f K (Forced f K P k) E (tell f K P way k E x y) (λ B. Named B x y)
+      Tells = (E : List Edge) → Supposes E → Fair (f .records) E → (x y : ℕ) → Forced f K P k x y → Says f K (Forced f K P k) E (tell f K P k E x y) (λ B. Named B x y)
 
-      by : Tells → (Named E x y → ⊥) → (Forced f K P k x y → ⊥) → (r : ℕ) → ruleAt f K P way (suc k) x y ≡ r → Kind f K P (Chains f K P (suc k)) x y r
-          → Says f K (Forced f K P (suc k)) E (resting f K P way (tell f K P way k) k E x y) (λ B. Named B x y)
+      C : Table
+      C = chains? f K P (suc k)
+
+      by : Tells → (Named E x y → ⊥) → (Forced f K P k x y → ⊥) → (r : ℕ) → ruleBy f K (chains? f K P (suc k)) x y ≡ r → Kind f K nothing (Chains f K P (suc k)) x y r
+          → Says f K (Forced f K P (suc k)) E (resting f K P (tell f K P k) k E x y) (λ B. Named B x y)
       by tells n₁ n₂ r q (plain n₀ n₈ a) = absurd (n₂ (r, a (Chains f K P k) P))
-      by tells n₁ n₂ r q (given p) = absurd (n₁ (s x y p))
+      by tells n₁ n₂ r q (given p) = absurd (false≢true p)
       by tells n₁ n₂ r q (load L v w d c) =
-          let z = end-six (suc k) x y q L ((v, w), c) in
-          let i = start-six (suc k) x y q in
-          rest-says k E s u x y (startOf f K P way (suc k) x y) (endOf f K P way (suc k) x y) (ruleAt f K P way (suc k) x y) e tells n₁ n₂
-          (subst (λ (a : ℕ). Chain (Forced f K P k) a (endOf f K P way (suc k) x y)) (sym i) (z .1)) (omega arith) (omega arith)
-          (λ B is t. subst (Gives f K nothing (On (chained B is)) x y) (sym q) (rule6 (endOf f K P way (suc k) x y) (z .0 .0) (z .0 .1) d (subst (λ (a : ℕ). So (chained B is a (endOf f K P way (suc k) x y))) i t)))
+          let z = end-six k x y q L v w c in
+          let i = start-six k x y q in
+          rest-says k E s u x y (ruleBy f K (chains? f K P (suc k)) x y) e tells n₁ n₂
+          (way-at k x y (clear k (omega arith)) (subst (λ (a : ℕ). Chains f K P (suc k) a (endOf f K P k x y)) (sym i) (z .1))) (omega arith) (omega arith)
+          (λ B is t. subst (Gives f K nothing (On (chained B is)) x y) (sym q) (rule6 (endOf f K P k x y) (z .0 .0) (z .0 .1) d (subst (λ (a : ℕ). So (chained B is a (endOf f K P k x y))) i t)))
       by tells n₁ n₂ r q (source S v w d c) =
-          let i = start-seven (suc k) x y q S v in
-          let j = end-seven (suc k) x y q in
-          rest-says k E s u x y (startOf f K P way (suc k) x y) (endOf f K P way (suc k) x y) (ruleAt f K P way (suc k) x y) e tells n₁ n₂
-          (subst (λ (a : ℕ). Chain (Forced f K P k) a (endOf f K P way (suc k) x y)) (sym i) (subst (Chain (Forced f K P k) S) (sym j) c)) (omega arith) (omega arith)
-          (λ B is t. subst (Gives f K nothing (On (chained B is)) x y) (sym q) (rule7 S v w d (subst (λ (a : ℕ). So (chained B is a y)) i (subst (λ (b : ℕ). So (chained B is (startOf f K P way (suc k) x y) b)) j t))))
+          let i = start-seven k x y q S v in
+          let j = end-seven k x y q in
+          rest-says k E s u x y (ruleBy f K (chains? f K P (suc k)) x y) e tells n₁ n₂
+          (way-at k x y (clear k (omega arith)) (subst (λ (a : ℕ). Chains f K P (suc k) a (endOf f K P k x y)) (sym i) (subst (Chains f K P (suc k) S) (sym j) c))) (omega arith) (omega arith)
+          (λ B is t. subst (Gives f K nothing (On (chained B is)) x y) (sym q) (rule7 S v w d (subst (λ (a : ℕ). So (chained B is a y)) i (subst (λ (b : ℕ). So (chained B is (startOf f K P k x y) b)) j t))))
 
-      go : (b c : Bool) → inside E x y ≡ b → edge? f K P k x y ≡ c → Tells
-          → Says f K (Forced f K P (suc k)) E (elim b [ true ↦ [] | false ↦ elim c [ true ↦ tell f K P way k E x y | false ↦ resting f K P way (tell f K P way k) k E x y ] ]) (λ B. Named B x y)
-      go true c t v tells = none-said f K (Forced f K P (suc k)) E (λ B. Named B x y) (u .once) (inside-iff E x y .0 t)
-      go false true t v tells =
-          wider f K (Forced f K P k) (Forced f K P (suc k)) (edge-grow f K P k) E (tell f K P way k E x y) (λ B. Named B x y) (tells E s u x y (edge-iff f g K P inK inP k x y .0 v))
-      go false false t v tells =
-          by tells (λ n. false≢true (sym t ∙ inside-iff E x y .1 n)) (λ h. false≢true (sym v ∙ edge-iff f g K P inK inP k x y .1 h)) (ruleAt f K P way (suc k) x y) refl
-          (kind f K P (Chains f K P (suc k)) x y (lowest-rule (suc k) x y e))
+      go : (b p c : Bool) → inside E x y ≡ b → eqb (ruleBy f K nothing x y) 0 ≡ p → edge? f K P k x y ≡ c → Tells
+          → Says f K (Forced f K P (suc k)) E (elim b [
+            | true ↦ []
+            | false ↦ elim p [ true ↦ elim c [ true ↦ tell f K P k E x y | false ↦ resting f K P (tell f K P k) k E x y ] | false ↦ bareEntry f K x y ∷ [] ]
+          ]) (λ B. Named B x y)
+      go true p c t w v tells = none-said f K (Forced f K P (suc k)) E (λ B. Named B x y) (u .once) (inside-iff E x y .0 t)
+      go false false c t w v tells =
+          bare-says (suc k) E u x y e (λ n. false≢true (sym t ∙ inside-iff E x y .1 n)) (rule-given f g K nothing (On nothing) none-iff x y (λ z. false≢true (sym w ∙ so-eq .1 z)))
+      go false true true t w v tells =
+          wider f K (Forced f K P k) (Forced f K P (suc k)) (edge-grow f K P k) E (tell f K P k E x y) (λ B. Named B x y) (tells E s u x y (edge-iff f g K P inK inP k x y .0 v))
+      go false true false t w v tells =
+          let n : Named E x y → ⊥ = λ n. false≢true (sym t ∙ inside-iff E x y .1 n) in
+          by tells n (λ h. false≢true (sym v ∙ edge-iff f g K P inK inP k x y .1 h)) (ruleBy f K (chains? f K P (suc k)) x y) refl
+          (kind f K nothing (Chains f K P (suc k)) x y (rule-by f g K (chains? f K P (suc k)) (Chains f K P (suc k)) (chains-iff f g K P inK inP (suc k)) x y (e .0)
+          (unsupposed f K P (Chains f K P (suc k)) x y (λ p. n (s x y p)) (e .0) (kind f K P (Chains f K P (suc k)) x y (e .1)))))

@@ -1,76 +1,73 @@
--- Where a chain leads from a to b, the way is one.
+-- Where a chain leads from x to b and none leads back, the way is one.
 --
---   run-short == a run of more steps than there are numbers can be cut short
---   way-runs  == the way leads there
-use mathlib.Core.Path.{_≡_, refl, sym, ap, _∙_, subst}
-use mathlib.Core.Logic.{_↔_, inl, inr}
-use mathlib.Core.Bool.{So}
-use mathlib.Core.List.{List, [], _∷_, _++_}
+--   reached c x == how many records the chains c lead to from x: fewer with each step
+--   step-found  == a step that leads on is found
+--   way-runs    == the way leads there
+use mathlib.Core.Path.{_≡_, refl}
+use mathlib.Core.Logic.{_↔_}
+use mathlib.Core.Bool.{Bool, true, false, So, _&&_, false≢true}
+use mathlib.Core.List.{List, [], _∷_}
 use mathlib.Core.Option.{Option, none, some}
-use Prim.Native.Nat.{ℕ, zero, suc, _≤_, _<_}
-use native.Mathlib.Decide.{decLt}
+use Prim.Native.Nat.{ℕ, zero, suc, _*_, _≤_, _<_}
+use native.Mathlib.Decide.{decLe}
 use native.Mathlib.Omega.{arith}
-use lib.ListN.{length, length-append}
-use Rattle.laws.specs.Relation.{Rel, Table, Chain}
+use Rattle.laws.specs.Relation.{Rel, Table, Chain, one, more}
 use Rattle.laws.specs.Lowest.{Lowest, lowest}
-use Rattle.laws.specs.Places.{count}
-use Rattle.laws.proofs.Tests.{eq?}
-use Rattle.laws.proofs.Places.{count-later}
-use Rattle.laws.proofs.Counts.{cut, repeats}
+use Rattle.laws.specs.Sums.{sum, num}
+use Rattle.laws.proofs.Sums.{sum-le, sum-same, sum-bound, num-le, num-le⁻¹, num-one}
+use Rattle.laws.proofs.Tests.{and-iff}
 use Rattle.laws.proofs.Lowest.{lowest-iff}
+use Rattle.trace.specs.Bounds.{RECORDS}
 use Rattle.rules.specs.Circle.{Run}
-use Rattle.rules.specs.Walk.{Walk, Way, walk?, follow}
-use Rattle.rules.proofs.Circle.{chain-run, run-join}
-use Rattle.rules.proofs.Walk.{run-walk, walk-iff, walk-within}
-use Rattle.rules.proofs.Shown.{way-run, follow-way}
-use Rattle.reasons.specs.Ways.{wayOf}
+use Rattle.reasons.specs.Ways.{stepOf, wayOf}
 
-module _ (E : Rel) (n : ℕ) (rows : (x y : ℕ) → E x y → (x < n) × (y < n)) where
-  within : (a : ℕ) (xs : List ℕ) (z : ℕ) → Run E a xs z → (x : ℕ) → 0 < count x (a ∷ xs) → x < n
-  unfolding count
-  within a [] z r x h = elim (eq? x a) [ inl e ↦ rw e (rows a z r .0) | inr d ↦ absurd (omega (arith, count-later x a [] d)) ]
-  within a (b ∷ bs) z r x h = elim (eq? x a) [ inl e ↦ rw e (rows a b (r .0) .0) | inr d ↦ within b bs z (r .1) x (omega (arith, count-later x a (b ∷ bs) d)) ]
+module _ (E : Rel) (rows : (x y : ℕ) → E x y → (x < RECORDS) × (y < RECORDS)) (e c : Table) (q : (x y : ℕ) → So (e x y) ↔ E x y) (r : (x y : ℕ) → So (c x y) ↔ Chain E x y)
+    (clear : (x : ℕ) → Chain E x x → ⊥) where
+  reached : ℕ → ℕ
+  reached x = sum RECORDS (λ v. num (c x v))
 
-  -- without what stands between two places of one number
-  without : (a : ℕ) (xs : List ℕ) (b x : ℕ) (p m s : List ℕ) → a ∷ xs ≡ p ++ x ∷ (m ++ x ∷ s) → Run E a xs b → (ys : List ℕ) × Run E a ys b × (length ys < length xs)
-  without a xs b x [] m s e r =
-      let q : a ≡ x = cc in
-      let t : xs ≡ m ++ x ∷ s = cc in
-      (s, subst (λ (y : ℕ). Run E y s b) (sym q) (run-join E a m x s b .0 (subst (λ (l : List ℕ). Run E a l b) t r) .1), omega (arith, ap length t, length-append m (x ∷ s)))
-  without a xs b x (c ∷ p) m s e r =
-      let t : xs ≡ p ++ x ∷ (m ++ x ∷ s) = cc in
-      let u = run-join E a p x (m ++ x ∷ s) b .0 (subst (λ (l : List ℕ). Run E a l b) t r) in
-      (p ++ x ∷ s, run-join E a p x s b .1 (u .0, run-join E x m x s b .0 (u .1) .1), omega (arith, ap length t, length-append p (x ∷ (m ++ x ∷ s)), length-append m (x ∷ s), length-append p (x ∷ s)))
-
-  pub run-short : (k a b : ℕ) (xs : List ℕ) → length xs < k → Run E a xs b → (ys : List ℕ) × Run E a ys b × (length ys < n)
-  run-short zero a b xs h r = absurd (omega arith)
-  run-short (suc k) a b xs h r = elim (decLt (length xs) n) [
-    | yes l ↦ (xs, r, l)
-    | no l ↦
-        let (x, two) = repeats n (a ∷ xs) (within a xs b r) (omega arith) in
-        let (p, t, e, c) = cut x (a ∷ xs) (omega arith) in
-        let (m, s, e′, c′) = cut x t (omega arith) in
-        let w = without a xs b x p m s (e ∙ ap (λ t. p ++ x ∷ t) e′) r in
-        run-short k a b (w .0) (omega (arith, w .2)) (w .1)
+  fewer : (x z : ℕ) → E x z → reached z < reached x
+  unfolding reached
+  fewer x z d = elim (decLe (sum RECORDS (λ v. num (c x v))) (sum RECORDS (λ v. num (c z v)))) [
+    | yes l ↦ absurd (clear z (r z z .0 (num-le⁻¹ (c x z) (c z z) (sum-same RECORDS (λ v. num (c z v)) (λ v. num (c x v)) grow l z (rows x z d .1)) (r x z .1 (one d)))))
+    | no l ↦ omega arith
   ]
+    where
+      grow : (v : ℕ) → v < RECORDS → num (c z v) ≤ num (c x v)
+      grow v _ = num-le (c z v) (c x v) (λ t. r x v .1 (more d (r z v .0 t)))
 
-  module _ (e : Table) (q : (x y : ℕ) → So (e x y) ↔ E x y) where
-    pub way-runs : (a b : ℕ) → Chain E a b → Run E a (wayOf n e a b) b
-    unfolding wayOf
-    way-runs a b c = go (lowest (λ j. walk? n e (suc j) a b) n 0) found
-      where
-        short : (ys : List ℕ) × Run E a ys b × (length ys < n)
-        short = let (xs, r) = chain-run c in run-short (suc (length xs)) a b xs (omega arith) r
+  step-found : (x b : ℕ) → Chain E x b → (So (e x b) → ⊥) → E x (stepOf e c x b) × Chain E (stepOf e c x b) b
+  unfolding stepOf
+  step-found x b h n = go (lowest (λ z. e x z && c z b) RECORDS 0)
+      (lowest-iff _ At RECORDS (λ z _. and-iff (q x z) (r z b)) (λ z a. rows x z (a .0) .1) RECORDS 0 (omega arith) (λ z a. omega arith))
+    where
+      At : ℕ → Type 0
+      At z = E x z × Chain E z b
 
-        At : ℕ → Type 0
-        At j = (j < n) × Walk E (suc j) a b
+      first : Chain E x b → (So (e x b) → ⊥) → (z : ℕ) × At z
+      first (one d) n = absurd (n (q x b .1 d))
+      first (more {y = z} d k) n = (z, (d, k))
 
-        ends : (a < n) × (b < n)
-        ends = let w = run-walk E a (short .0) b (short .1) in walk-within E n rows (length (short .0)) a b w
+      go : (o : Option ℕ) → Lowest At o → At (elim o [ some z ↦ z | none ↦ RECORDS ])
+      go (some z) l = l .0
+      go none l = let a = first h n in absurd (l (a .0) (a .1))
 
-        found : Lowest At (lowest (λ j. walk? n e (suc j) a b) n 0)
-        found = lowest-iff _ At n (λ j h. let i = walk-iff E n rows e q (suc j) a b (ends .0) (ends .1) in (λ t. (h, i .0 t), λ w. i .1 (w .1))) (λ j w. w .0) n 0 (omega arith) (λ j w. omega arith)
+  goes : (m x b : ℕ) → Chain E x b → reached x ≤ m → Run E x (wayOf e c m x b) b
+  unfolding wayOf
+  goes zero x b h l = absurd (omega (arith, l, none-left x b h))
+    where
+      none-left : (x b : ℕ) → Chain E x b → 0 < reached x
+      none-left x b (one d) = omega (arith, fewer x b d)
+      none-left x b (more {y = z} d k) = omega (arith, fewer x z d)
+  goes (suc m) x b h l = go (e x b) refl (goes m)
+    where
+      go : (t : Bool) → e x b ≡ t → ((x b : ℕ) → Chain E x b → reached x ≤ m → Run E x (wayOf e c m x b) b)
+          → Run E x (elim t [ true ↦ [] | false ↦ stepOf e c x b ∷ wayOf e c m (stepOf e c x b) b ]) b
+      go true t rec = q x b .0 t
+      go false t rec =
+          let s = step-found x b h (λ u. false≢true (let w : false ≡ true = cc in w)) in
+          (s .0, rec (stepOf e c x b) b (s .1) (omega (arith, fewer x (stepOf e c x b) (s .0), l)))
 
-        go : (o : Option ℕ) → Lowest At o → Run E a (elim o [ some j ↦ follow n e b j a | none ↦ [] ]) b
-        go (some j) l = way-run E b a (follow n e b j a) (follow-way E n rows e q b j a (l .0 .1) .1)
-        go none l = absurd (l (length (short .0)) (short .2, run-walk E a (short .0) b (short .1)))
+  pub way-runs : (x b : ℕ) → Chain E x b → Run E x (wayOf e c RECORDS x b) b
+  unfolding reached
+  way-runs x b h = goes RECORDS x b h (omega (arith, sum-bound RECORDS 1 (λ v. num (c x v)) (λ v _. num-one (c x v))))

@@ -15,7 +15,7 @@ use Prim.Native.Nat.{ℕ, zero, suc, _+_, _*_, _<_, _≤_}
 use native.Mathlib.Nat.{not-suc-le-zero}
 use native.Mathlib.Omega.{arith}
 use Rattle.laws.specs.Tests.{any}
-use Rattle.laws.specs.Relation.{Table, _⊆_, Chain}
+use Rattle.laws.specs.Relation.{Table, _⊆_}
 use Rattle.laws.specs.Lowest.{Lowest, lowest}
 use Rattle.laws.specs.Sorted.{On, sorted}
 use Rattle.laws.specs.Growth.{pairs}
@@ -26,14 +26,14 @@ use Rattle.trace.specs.Bounds.{RECORDS}
 use Rattle.trace.specs.Frame.{Frame, Good}
 use Rattle.trace.specs.Order.{Keeps, Valid}
 use Rattle.rules.specs.Rules.{Contradicted, Joins, Within, Chains, Edge as Forced, rule7, rule8}
-use Rattle.rules.specs.Circle.{Run, Shown}
+use Rattle.rules.specs.Circle.{Shown}
 use Rattle.rules.specs.Clear.{Settles}
 use Rattle.rules.specs.Missing.{Sourced}
 use Rattle.rules.specs.Closing.{Closing}
 use Rattle.rules.specs.Tests.{chains?, edge?}
 use Rattle.rules.specs.Walk.{shown?}
 use Rattle.rules.proofs.Rounds.{more-pairs, held-closed}
-use Rattle.rules.proofs.Ends.{joins-within, step-within}
+use Rattle.rules.proofs.Ends.{joins-within, step-within, chains-within}
 use Rattle.rules.proofs.Tests.{chains-iff, edge-iff}
 use Rattle.rules.proofs.Circle.{circle-none}
 use Rattle.rules.proofs.Closing.{contradicted?, held?, closing-computed}
@@ -42,13 +42,12 @@ use Rattle.rules.proofs.Sorted.{held-valid, held-step}
 use Rattle.papers.specs.Paper.{Edge, Entry, named, roomy, accepted}
 use Rattle.papers.proofs.Sound.{accepted-sound}
 use Rattle.reasons.specs.Telling.{edgesOf, inside, numbers, along, tell}
-use Rattle.reasons.specs.Writing.{splitEntry, fallen, heldIn, open?, choose, circleRound, closing, leafOf, paperOf, shortest, paper}
+use Rattle.reasons.specs.Writing.{splitEntry, fallen, heldIn, open?, choose, circleRound, closing, leafOf, paperOf, paper}
 use Rattle.reasons.proofs.Names.{Named, inside-iff, named-grow, named-last, named-cases}
 use Rattle.reasons.proofs.Short.{Distinct, none-yet, Fair, fair-one, roomy-new}
 use Rattle.reasons.proofs.Written.{Written, circle, split, written-accepted}
 use Rattle.reasons.proofs.Telling.{numbers-chained, along-says, tell-says}
-use Rattle.reasons.proofs.Choosing.{Found, choose-found, open-iff}
-use Rattle.reasons.proofs.Ways.{way-runs}
+use Rattle.reasons.proofs.Choosing.{Found, choose-found, open-iff, read-from}
 
 module _ (f : Frame) (g : Good f) (K : Table) (jK : Joins f K) where
   abbrev None : List Edge → Type 0
@@ -85,10 +84,12 @@ module _ (f : Frame) (g : Good f) (K : Table) (jK : Joins f K) where
         (λ a b u. c′ .held a b .1 (more-pairs f K (inside E) (inside (named E x y)) more a b (c .held a b .0 u .0), free))
         x y (g .below x p) (g .below y q) (c′ .held x y .1 (held-closed f K (inside (named E x y)) x y (8, rule8 new), free)) out
 
-module _ (f : Frame) (g : Good f) (small : f .records ≤ RECORDS) (K : Table) (jK : Joins f K) (way : Table → ℕ → ℕ → ℕ → List ℕ)
-    (ways : (P : Table) → Within f P → (k a b : ℕ) → Chain (Forced f K P k) a b → Run (Forced f K P k) a (way P k a b) b) where
-  -- the first round with a circle has one
-  round-circle : (E : List Edge) → So (fallen f K E) → So (any (f .records) (λ x. chains? f K (inside E) (suc (circleRound f K (inside E))) x x))
+module _ (f : Frame) (g : Good f) (small : f .records ≤ RECORDS) (K : Table) (jK : Joins f K) where
+  -- the first round with a circle has one, and none before it does
+  abbrev Circling : List Edge → ℕ → Type 0
+  Circling E k = So (any (f .records) (λ x. chains? f K (inside E) (suc k) x x)) × ((j : ℕ) → j < k → So (any (f .records) (λ x. chains? f K (inside E) (suc j) x x)) → ⊥)
+
+  round-circle : (E : List Edge) → So (fallen f K E) → Circling E (circleRound f K (inside E))
   unfolding circleRound fallen
   round-circle E c = go (lowest (λ k. any (f .records) (λ x. chains? f K (inside E) (suc k) x x)) (suc (f .records * f .records)) 0)
       (lowest-iff _ At (suc (f .records * f .records)) (λ k h. (λ s. (h, s), λ r. r .1)) (λ k r. r .0) (suc (f .records * f .records)) 0 (omega arith) (λ k r. omega arith))
@@ -96,11 +97,11 @@ module _ (f : Frame) (g : Good f) (small : f .records ≤ RECORDS) (K : Table) (
       At : ℕ → Type 0
       At k = (k < suc (f .records * f .records)) × So (any (f .records) (λ x. chains? f K (inside E) (suc k) x x))
 
-      go : (o : Option ℕ) → Lowest At o → So (any (f .records) (λ x. chains? f K (inside E) (suc (elim o [ some k ↦ k | none ↦ 0 ])) x x))
-      go (some k) l = l .0 .1
+      go : (o : Option ℕ) → Lowest At o → Circling E (elim o [ some k ↦ k | none ↦ 0 ])
+      go (some k) l = (l .0 .1, λ j h s. omega (arith, l .1 j (omega (arith, l .0 .0), s)))
       go none l = absurd (l (f .records * f .records) (omega arith, c))
 
-  pub leaf-written : (E : List Edge) → Fair (f .records) E → Joins f (inside E) → So (fallen f K E) → Written f K E (leafOf f K way E)
+  pub leaf-written : (E : List Edge) → Fair (f .records) E → Joins f (inside E) → So (fallen f K E) → Written f K E (leafOf f K E)
   unfolding leafOf closing
   leaf-written E d j c = go (shown? (f .records) (edge? f K P r)) (shown-computed (Forced f K P r) (f .records) (within r) (edge? f K P r) (edge-iff f g K P inK inP r))
     where
@@ -120,33 +121,38 @@ module _ (f : Frame) (g : Good f) (small : f .records ≤ RECORDS) (K : Table) (
       within k x y e = step-within f g K (inside E) inK inP (Chains f K (inside E) k) x y e
 
       circled : (x : ℕ) × (x < f .records) × Chains f K (inside E) (suc (circleRound f K (inside E))) x x
-      circled = any-iff (λ x. chains-iff f g K (inside E) inK inP (suc (circleRound f K (inside E))) x x) .0 (round-circle E c)
+      circled = any-iff (λ x. chains-iff f g K (inside E) inK inP (suc (circleRound f K (inside E))) x x) .0 (round-circle E c .0)
+
+      -- no chain of a round before leads from a record to itself
+      circleless : (j : ℕ) → j < circleRound f K (inside E) → (x : ℕ) → Chains f K (inside E) (suc j) x x → ⊥
+      circleless j l x h = round-circle E c .1 j l
+          (any-iff (λ x. chains-iff f g K (inside E) inK inP (suc j) x x) .1 (x, chains-within f g K (inside E) inK inP (suc j) x x h .0, h))
 
       go : (o : Option (List ℕ)) → Shown (Forced f K (inside E) (circleRound f K (inside E))) o
-          → Written f K E (elim o [ some c ↦ elim c [ [] ↦ [] | s ∷ zs ↦ closing f K way (circleRound f K (inside E)) E s zs ] | none ↦ [] ])
+          → Written f K E (elim o [ some c ↦ elim c [ [] ↦ [] | s ∷ zs ↦ closing f K (circleRound f K (inside E)) E s zs ] | none ↦ [] ])
       go none s = absurd (circle-none (Forced f K (inside E) (circleRound f K (inside E))) .0 s (circled .0) (circled .2))
       go (some []) s = absurd (s .0)
       go (some (x ∷ zs)) s =
           let k = circleRound f K (inside E) in
-          let t = tell f K (inside E) (way (inside E)) k in
+          let t = tell f K (inside E) k in
           let es = along t E x zs x in
           let u = along-says f K (Forced f K (inside E) k) (f .records) (within k) t
           (λ B. (x y : ℕ) → So (inside E x y) → Named B x y) (λ B F h x y i. named-grow B F x y (h x y i))
-          (tell-says f g small K (inside E) inK inP (way (inside E)) (ways (inside E) inP) k) zs E (λ x y i. inside-iff E x y .0 i) d x x (s .0) in
+          (tell-says f g small K (inside E) inK inP k circleless) zs E (λ x y i. inside-iff E x y .0 i) d x x (s .0) in
           circle es x (numbers (E ++ edgesOf es) x zs x) (u .runs) (u .once) (numbers-chained (E ++ edgesOf es) x zs x (u .told))
 
   module _ (m : Sourced f) where
     abbrev Below : ℕ → List Edge → Type 0
     Below k E = So (fallen f K E) ⊎ (f .records * f .records < k + pairs (f .records) (heldIn f K E))
 
-    pub paper-written : (k : ℕ) (E : List Edge) → Fair (f .records) E → Joins f (inside E) → None f g K jK E → Below k E → Written f K E (paperOf f K way k E)
+    pub paper-written : (k : ℕ) (E : List Edge) → Fair (f .records) E → Joins f (inside E) → None f g K jK E → Below k E → Written f K E (paperOf f K k E)
     unfolding paperOf
     paper-written zero E d j n (inl c) = leaf-written E d j c
     paper-written zero E d j n (inr h) = absurd (omega (arith, pairs-bound (f .records) (heldIn f K E)))
     paper-written (suc k) E d j n h = go (fallen f K E) refl (paper-written k)
       where
         Rest : Type 0
-        Rest = (E : List Edge) → Fair (f .records) E → Joins f (inside E) → None f g K jK E → Below k E → Written f K E (paperOf f K way k E)
+        Rest = (E : List Edge) → Fair (f .records) E → Joins f (inside E) → None f g K jK E → Below k E → Written f K E (paperOf f K k E)
 
         shuts : Closing f K (inside E) (fallen f K E) (heldIn f K E)
         shuts = branch-closing f g K jK E j
@@ -159,7 +165,7 @@ module _ (f : Frame) (g : Good f) (small : f .records ≤ RECORDS) (K : Table) (
         unnamed q x y out z = out (shuts .held x y .1 (held-closed f K (inside E) x y (8, rule8 (inside-iff E x y .1 z)), λ b. false≢true (sym q ∙ shuts .contradicted .1 b)))
 
         -- one side of a split
-        side : Rest → fallen f K E ≡ false → (x y : ℕ) → So (f .operation x) → So (f .operation y) → (So (heldIn f K E x y) → ⊥) → Written f K (named E x y) (paperOf f K way k (named E x y))
+        side : Rest → fallen f K E ≡ false → (x y : ℕ) → So (f .operation x) → So (f .operation y) → (So (heldIn f K E x y) → ⊥) → Written f K (named E x y) (paperOf f K k (named E x y))
         side rest q x y a b out =
             let clear : So (fallen f K E) → ⊥ = λ c. false≢true (sym q ∙ c) in
             let j′ = still-joins f g K jK E x y j a b in
@@ -169,7 +175,7 @@ module _ (f : Frame) (g : Good f) (small : f .records ≤ RECORDS) (K : Table) (
             ])
 
         parts : Rest → fallen f K E ≡ false → (o : Option (ℕ × ℕ)) → Found (f .records) (open? f K E) o
-            → Written f K E (elim o [ some p ↦ splitEntry (p .0) (p .1) ∷ paperOf f K way k (named E (p .0) (p .1)) ++ paperOf f K way k (named E (p .1) (p .0)) | none ↦ [] ])
+            → Written f K E (elim o [ some p ↦ splitEntry (p .0) (p .1) ∷ paperOf f K k (named E (p .0) (p .1)) ++ paperOf f K k (named E (p .1) (p .0)) | none ↦ [] ])
         parts rest q (some (x, y)) s =
             let o = open-iff f K E x y .0 s in
             let a = g .writes x (o .0 .0 .0 .0) in
@@ -189,7 +195,7 @@ module _ (f : Frame) (g : Good f) (small : f .records ≤ RECORDS) (K : Table) (
               | inr t ↦ elim (test (heldIn f K E S S′)) [
                 | inl t′ ↦ inr (held-step f g K (inside E) (λ x y k. jK x y k .0) (λ x y k. j x y k .0) (heldIn f K E) shut L S′ (7, rule7 S u w o t′))
                 | inr t′ ↦ absurd (s S S′ (g .below S (g .writes S (u .writer .writes))) (g .below S′ (g .writes S′ (w .writes))) (open-iff f K E S S′ .1 (
-                  (((u .writer .writes, record { writes = w .writes; same = w .same ∙ sym (u .writer .same); other = o }), inl (L, g .below L (g .reads L (u .reads)), (u, w))), λ z. false≢true (sym t′ ∙ z)),
+                  (((u .writer .writes, record { writes = w .writes; same = w .same ∙ sym (u .writer .same); other = o }), inl (read-from f g small S L u)), λ z. false≢true (sym t′ ∙ z)),
                   λ z. false≢true (sym t ∙ z),
                 )))
               ]
@@ -199,8 +205,8 @@ module _ (f : Frame) (g : Good f) (small : f .records ≤ RECORDS) (K : Table) (
             v = held-valid f g K (inside E) (λ x y k. jK x y k .0) (λ x y k. j x y k .0) (heldIn f K E) shut m settles
 
         go : (b : Bool) → fallen f K E ≡ b → Rest → Written f K E (elim b [
-          | true ↦ leafOf f K way E
-          | false ↦ elim (choose f K E) [ some p ↦ splitEntry (p .0) (p .1) ∷ paperOf f K way k (named E (p .0) (p .1)) ++ paperOf f K way k (named E (p .1) (p .0)) | none ↦ [] ]
+          | true ↦ leafOf f K E
+          | false ↦ elim (choose f K E) [ some p ↦ splitEntry (p .0) (p .1) ∷ paperOf f K k (named E (p .0) (p .1)) ++ paperOf f K k (named E (p .1) (p .0)) | none ↦ [] ]
         ])
         go true q rest = leaf-written E d j q
         go false q rest = parts rest q (choose f K E) (choose-found f K E)
@@ -208,9 +214,7 @@ module _ (f : Frame) (g : Good f) (small : f .records ≤ RECORDS) (K : Table) (
 module _ (f : Frame) (g : Good f) (small : f .records ≤ RECORDS) (K : Table) (jK : Joins f K) (m : Sourced f) where
   pub paper-wrote : ((xs : List ℕ) → Valid f K xs → ⊥) → Written f K [] (paper f K)
   paper-wrote n =
-      let inK = joins-within f g K jK in
-      paper-written f g small K jK (shortest f K)
-      (λ P inP k. way-runs (Forced f K P k) (f .records) (step-within f g K P inK inP (Chains f K P k)) (edge? f K P k) (edge-iff f g K P inK inP k))
+      paper-written f g small K jK
       m (suc (f .records * f .records)) [] (record { once = none-yet; below = λ x y u. absurd (not-suc-le-zero (u .1)) })
       (λ x y u. absurd (not-suc-le-zero (inside-iff [] x y .0 u .1))) (λ xs v k. n xs v) (inr (omega arith))
 

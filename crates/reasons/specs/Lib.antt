@@ -1,4 +1,4 @@
 -- The writer of papers: the list that it makes for a trace that has no valid order.
-pub mod Telling
 pub mod Ways
+pub mod Telling
 pub mod Writing

@@ -1,15 +1,18 @@
--- How the writer tells why an edge of some round is forced. K are the kept pairs, P the supposed ones; way k a b is some way from a to b by edges of round k.
+-- How the writer tells why an edge of some round is forced. K are the kept pairs, P the supposed ones.
 --
 --   edgesOf es           == the edges that the entries es name
 --   inside E x y         == an entry of E is x before y
---   numberOf E x y       == its number in E, the lowest; the length of E where no entry is
+--   numberOf E x y       == its number in E, the lowest; 0 where no entry is
 --   numbers E a zs b     == the numbers of the edges from a by way of zs to b
---   ruleAt k x y         == the lowest rule that gives the edge by round k
---   startOf, endOf k x y == where the chain begins and ends that rule 6 or 7 asks for
+--   ruleBy f K C x y     == the lowest rule that gives the edge, where C are the chains of the round before and no pairs are supposed; 0 where none does
+--   loadOf f C x y       == the lowest load that reads from y and that a chain of C leads to from x, x itself excepted
+--   startOf, endOf k x y == where the chain begins and ends that rule 6 or 7 asks for, by the chains of round k
+--   wayAt k x y          == the way between them
 --   along tell E a zs b  == tells the edges from a by way of zs to b, one after the other, in the branch E
+--   bareEntry f K x y    == the entry of an edge that rests on nothing
 --   resting tell k E x y == tells the chain of round k that the edge rests on, and then the edge
---   tell k E x y         == tells an edge of round k in the branch E: nothing where it is named; otherwise first what it rests on
-use mathlib.Core.Bool.{true, false, cond, _&&_}
+--   tell k E x y         == tells an edge of round k in the branch E: nothing where it is named; otherwise first what it rests on, if anything
+use mathlib.Core.Bool.{true, false, not, cond, _&&_}
 use mathlib.Core.List.{List, [], _∷_, _++_}
 use mathlib.Core.Option.{none, some}
 use Prim.Native.Nat.{ℕ, zero, suc}
@@ -18,10 +21,14 @@ use lib.ListN.{length}
 use Rattle.laws.specs.Tests.{any}
 use Rattle.laws.specs.Relation.{Table}
 use Rattle.laws.specs.Lowest.{lowest}
+use Rattle.trace.specs.Bounds.{RECORDS}
 use Rattle.trace.specs.Frame.{Frame}
-use Rattle.rules.specs.Tests.{writer?, source?, chains?, edge?}
+use Rattle.rules.specs.Rules.{nothing}
+use Rattle.rules.specs.Tests.{chains?, edge?}
+use Rattle.rules.specs.SourceOf.{sourceOf}
 use Rattle.rules.specs.ShownCircle.{rule?}
 use Rattle.papers.specs.Paper.{Edge, Entry, edgeAt}
+use Rattle.reasons.specs.Ways.{wayOf}
 
 unfoldable pub edgesOf : List Entry → List Edge
 edgesOf [] = []
@@ -31,7 +38,7 @@ unfoldable pub inside : List Edge → Table
 inside E x y = any (length E) (λ i. eqb (edgeAt E i .from) x && eqb (edgeAt E i .to) y)
 
 unfoldable pub numberOf : List Edge → ℕ → ℕ → ℕ
-numberOf E x y = elim (lowest (λ i. eqb (edgeAt E i .from) x && eqb (edgeAt E i .to) y) (length E) 0) [ some i ↦ i | none ↦ length E ]
+numberOf E x y = elim (lowest (λ i. eqb (edgeAt E i .from) x && eqb (edgeAt E i .to) y) (length E) 0) [ some i ↦ i | none ↦ 0 ]
 
 unfoldable pub numbers : List Edge → ℕ → List ℕ → ℕ → List ℕ
 numbers E a [] b = numberOf E a b ∷ []
@@ -41,25 +48,38 @@ unfoldable pub along : (List Edge → ℕ → ℕ → List Entry) → List Edge 
 along tell E a [] b = tell E a b
 along tell E a (z ∷ zs) b = let es = tell E a z in es ++ along tell (E ++ edgesOf es) z zs b
 
-module _ (f : Frame) (K P : Table) (way : ℕ → ℕ → ℕ → List ℕ) where
-  unfoldable pub ruleAt : ℕ → ℕ → ℕ → ℕ
-  ruleAt k x y = rule? f K P (chains? f K P k) x y
+unfoldable pub ruleBy : Frame → Table → Table → ℕ → ℕ → ℕ
+ruleBy f K C x y = rule? f K nothing C x y
 
+unfoldable pub loadOf : Frame → Table → ℕ → ℕ → ℕ
+loadOf f C x y = elim (lowest (λ L. C x L && eqb (sourceOf f L) y && not (eqb x L)) RECORDS 0) [ some L ↦ L | none ↦ RECORDS ]
+
+abbrev pub bareEntry : Frame → Table → ℕ → ℕ → Entry
+bareEntry f K x y = record { rule = ruleBy f K nothing x y; from = x; to = y; rests = [] }
+
+module _ (f : Frame) (K P : Table) where
   -- rule 6 asks for a chain from x to a load that reads from y, rule 7 for one from x's source to y
   unfoldable pub startOf : ℕ → ℕ → ℕ → ℕ
-  startOf k x y = cond (eqb (ruleAt k x y) 6) x (elim (lowest (λ S. source? f S x) (f .records) 0) [ some S ↦ S | none ↦ 0 ])
+  startOf k x y = cond (eqb (ruleBy f K (chains? f K P (suc k)) x y) 6) x (sourceOf f x)
 
   unfoldable pub endOf : ℕ → ℕ → ℕ → ℕ
-  endOf k x y = cond (eqb (ruleAt k x y) 6) (elim (lowest (λ L. source? f y L && writer? f x L && chains? f K P k x L) (f .records) 0) [ some L ↦ L | none ↦ 0 ]) y
+  endOf k x y = cond (eqb (ruleBy f K (chains? f K P (suc k)) x y) 6) (loadOf f (chains? f K P (suc k)) x y) y
+
+  unfoldable pub wayAt : ℕ → ℕ → ℕ → List ℕ
+  wayAt k x y = wayOf (edge? f K P k) (chains? f K P (suc k)) RECORDS (startOf k x y) (endOf k x y)
 
   -- k is the round before
   unfoldable pub resting : (List Edge → ℕ → ℕ → List Entry) → ℕ → List Edge → ℕ → ℕ → List Entry
   resting tell k E x y =
-      let a = startOf (suc k) x y in
-      let b = endOf (suc k) x y in
-      let es = along tell E a (way k a b) b in
-      es ++ record { rule = ruleAt (suc k) x y; from = x; to = y; rests = numbers (E ++ edgesOf es) a (way k a b) b } ∷ []
+      let es = along tell E (startOf k x y) (wayAt k x y) (endOf k x y) in
+      es ++ record { rule = ruleBy f K (chains? f K P (suc k)) x y; from = x; to = y; rests = numbers (E ++ edgesOf es) (startOf k x y) (wayAt k x y) (endOf k x y) } ∷ []
 
   unfoldable pub tell : ℕ → List Edge → ℕ → ℕ → List Entry
-  tell zero E x y = elim (inside E x y) [ true ↦ [] | false ↦ record { rule = ruleAt 0 x y; from = x; to = y; rests = [] } ∷ [] ]
-  tell (suc k) E x y = elim (inside E x y) [ true ↦ [] | false ↦ elim (edge? f K P k x y) [ true ↦ tell k E x y | false ↦ resting (tell k) k E x y ] ]
+  tell zero E x y = elim (inside E x y) [ true ↦ [] | false ↦ bareEntry f K x y ∷ [] ]
+  tell (suc k) E x y = elim (inside E x y) [
+    | true ↦ []
+    | false ↦ elim (eqb (ruleBy f K nothing x y) 0) [
+      | true ↦ elim (edge? f K P k x y) [ true ↦ tell k E x y | false ↦ resting (tell k) k E x y ]
+      | false ↦ bareEntry f K x y ∷ []
+    ]
+  ]

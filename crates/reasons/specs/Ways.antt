@@ -1,12 +1,18 @@
--- The way that the writer takes.
+-- The way that the writer takes, where e has edges, c their chains, and no chain leads from a number to itself.
 --
---   wayOf n e a b == the shortest way from a to b by the edges e below n, by the lowest steps: what stands between the two
-use mathlib.Core.List.{List, []}
+--   stepOf e c x b == the lowest step from x from which a chain leads on to b
+--   wayOf e c m x b == what stands between x and b on the way by such steps, at most m of them; an edge from x to b is taken at once
+use mathlib.Core.Bool.{true, false, _&&_}
+use mathlib.Core.List.{List, [], _∷_}
 use mathlib.Core.Option.{none, some}
-use Prim.Native.Nat.{ℕ, suc}
+use Prim.Native.Nat.{ℕ, zero, suc}
 use Rattle.laws.specs.Relation.{Table}
 use Rattle.laws.specs.Lowest.{lowest}
-use Rattle.rules.specs.Walk.{walk?, follow}
+use Rattle.trace.specs.Bounds.{RECORDS}
 
-unfoldable pub wayOf : ℕ → Table → ℕ → ℕ → List ℕ
-wayOf n e a b = elim (lowest (λ j. walk? n e (suc j) a b) n 0) [ some j ↦ follow n e b j a | none ↦ [] ]
+unfoldable pub stepOf : Table → Table → ℕ → ℕ → ℕ
+stepOf e c x b = elim (lowest (λ z. e x z && c z b) RECORDS 0) [ some z ↦ z | none ↦ RECORDS ]
+
+unfoldable pub wayOf : Table → Table → ℕ → ℕ → ℕ → List ℕ
+wayOf e c zero x b = []
+wayOf e c (suc m) x b = elim (e x b) [ true ↦ [] | false ↦ stepOf e c x b ∷ wayOf e c m (stepOf e c x b) b ]

@@ -1,32 +1,34 @@
--- The list that the writer makes. way P k a b is the way taken from a to b by edges of round k, where the pairs of P are supposed.
+-- The list that the writer makes.
 --
 --   circleEntry, splitEntry == the entries that end and split a branch
 --   fallen f K E            == what the branch E names is contradicted: by round n * n some round has added nothing
 --   heldIn f K E x y        == x before y is held in the branch E, which is not contradicted
---   open? f K E x y         == two writers of one address, one of them read by a load other than the other, held neither way in the branch E
+--   readFrom f x            == some load or swap reads from x
+--   open? f K E x y         == two writers of one address, one of them read from, held neither way in the branch E
 --   falls, falls₂ f K E x y == a side of the split on x and y closes at once; both sides do
 --   firstPair n t           == the first pair below n that passes t, in dictionary order
 --   orElse o p              == o, or p where there is none
 --   choose f K E            == the first open pair of which both sides fall, or else the first of which one does, or else the first
 --   circleRound f K P       == the first round with a circle
---   closing f K way k E s c == tells the circle of s and then c, of round k, and closes the branch E by it
---   leafOf f K way E        == the same of the circle shown, of the first round that has one
---   paperOf f K way m E     == the list for the branch E; m is above what is not held
---   shortest f K            == the shortest ways
+--   closing f K k E s c     == tells the circle of s and then c, of round k, and closes the branch E by it
+--   leafOf f K E            == the same of the circle shown, of the first round that has one
+--   paperOf f K m E         == the list for the branch E; m is above what is not held
 --   paper f K               == the list for a trace
 use mathlib.Core.Bool.{Bool, true, false, not, _&&_, _||_}
 use mathlib.Core.List.{List, [], _∷_, _++_}
 use mathlib.Core.Option.{Option, none, some}
 use Prim.Native.Nat.{ℕ, zero, suc, _*_}
+use lib.Dec.{eqb}
 use Rattle.laws.specs.Tests.{any}
 use Rattle.laws.specs.Relation.{Table}
 use Rattle.laws.specs.Lowest.{lowest}
+use Rattle.trace.specs.Bounds.{RECORDS}
 use Rattle.trace.specs.Frame.{Frame}
-use Rattle.rules.specs.Tests.{writer?, source?, chains?, edge?}
+use Rattle.rules.specs.Tests.{writer?, chains?, edge?}
+use Rattle.rules.specs.SourceOf.{sourceOf}
 use Rattle.rules.specs.Walk.{shown?}
 use Rattle.papers.specs.Paper.{CIRCLE, SPLIT, Edge, Entry, named}
 use Rattle.reasons.specs.Telling.{edgesOf, inside, numbers, along, tell}
-use Rattle.reasons.specs.Ways.{wayOf}
 
 abbrev pub circleEntry : ℕ → List ℕ → Entry
 circleEntry x is = record { rule = CIRCLE; from = x; to = x; rests = is }
@@ -40,11 +42,12 @@ fallen f K E = any (f .records) (λ x. chains? f K (inside E) (suc (f .records *
 unfoldable pub heldIn : Frame → Table → List Edge → Table
 heldIn f K E x y = chains? f K (inside E) (suc (f .records * f .records)) x y && not (fallen f K E)
 
+unfoldable pub readFrom : Frame → ℕ → Bool
+readFrom f x = any RECORDS (λ L. eqb (sourceOf f L) x)
+
 unfoldable pub open? : Frame → Table → List Edge → Table
 open? f K E x y =
-    f .writes x && writer? f y x
-    && (any (f .records) (λ L. source? f x L && writer? f y L) || any (f .records) (λ L. source? f y L && writer? f x L))
-    && not (heldIn f K E x y) && not (heldIn f K E y x)
+    f .writes x && writer? f y x && (readFrom f x || readFrom f y) && not (heldIn f K E x y) && not (heldIn f K E y x)
 
 unfoldable pub falls : Frame → Table → List Edge → Table
 falls f K E x y = fallen f K (named E x y) || fallen f K (named E y x)
@@ -67,10 +70,10 @@ choose f K E =
 unfoldable pub circleRound : Frame → Table → Table → ℕ
 circleRound f K P = elim (lowest (λ k. any (f .records) (λ x. chains? f K P (suc k) x x)) (suc (f .records * f .records)) 0) [ some k ↦ k | none ↦ 0 ]
 
-module _ (f : Frame) (K : Table) (way : Table → ℕ → ℕ → ℕ → List ℕ) where
+module _ (f : Frame) (K : Table) where
   unfoldable pub closing : ℕ → List Edge → ℕ → List ℕ → List Entry
   closing k E s zs =
-      let es = along (tell f K (inside E) (way (inside E)) k) E s zs s in
+      let es = along (tell f K (inside E) k) E s zs s in
       es ++ circleEntry s (numbers (E ++ edgesOf es) s zs s) ∷ []
 
   unfoldable pub leafOf : List Edge → List Entry
@@ -89,8 +92,5 @@ module _ (f : Frame) (K : Table) (way : Table → ℕ → ℕ → ℕ → List �
     ]
   ]
 
-abbrev pub shortest : Frame → Table → Table → ℕ → ℕ → ℕ → List ℕ
-shortest f K P k = wayOf (f .records) (edge? f K P k)
-
 abbrev pub paper : Frame → Table → List Entry
-paper f K = paperOf f K (shortest f K) (suc (f .records * f .records)) []
+paper f K = paperOf f K (suc (f .records * f .records)) []
