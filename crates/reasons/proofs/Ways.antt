@@ -3,20 +3,19 @@
 --   reached c x == how many records the chains c lead to from x: fewer with each step
 --   step-found  == a step that leads on is found
 --   way-runs    == the way leads there
-use mathlib.Core.Path.{_≡_, refl}
+use mathlib.Core.Path.{_≡_, refl, sym, subst}
 use mathlib.Core.Logic.{_↔_}
 use mathlib.Core.Bool.{Bool, true, false, So, _&&_, false≢true}
 use mathlib.Core.List.{List, [], _∷_}
-use mathlib.Core.Option.{Option, none, some}
 use Prim.Native.Nat.{ℕ, zero, suc, _*_, _≤_, _<_}
 use native.Mathlib.Decide.{decLe}
 use native.Mathlib.Omega.{arith}
 use Rattle.laws.specs.Relation.{Rel, Table, Chain, one, more}
-use Rattle.laws.specs.Lowest.{Lowest, lowest}
+use Rattle.laws.specs.Latest.{Latest, nobody-yet, at, lastOf}
 use Rattle.laws.specs.Sums.{sum, num}
 use Rattle.laws.proofs.Sums.{sum-le, sum-same, sum-bound, num-le, num-le⁻¹, num-one}
 use Rattle.laws.proofs.Tests.{and-iff}
-use Rattle.laws.proofs.Lowest.{lowest-iff}
+use Rattle.laws.proofs.Latest.{latest-of}
 use Rattle.trace.specs.Bounds.{RECORDS}
 use Rattle.rules.specs.Circle.{Run}
 use Rattle.reasons.specs.Ways.{stepOf, wayOf}
@@ -38,19 +37,15 @@ module _ (E : Rel) (rows : (x y : ℕ) → E x y → (x < RECORDS) × (y < RECOR
 
   step-found : (x b : ℕ) → Chain E x b → (So (e x b) → ⊥) → E x (stepOf e c x b) × Chain E (stepOf e c x b) b
   unfolding stepOf
-  step-found x b h n = go (lowest (λ z. e x z && c z b) RECORDS 0)
-      (lowest-iff _ At RECORDS (λ z _. and-iff (q x z) (r z b)) (λ z a. rows x z (a .0) .1) RECORDS 0 (omega arith) (λ z a. omega arith))
+  step-found x b h n = go (lastOf (λ z. e x z && c z b) (λ z. z) RECORDS RECORDS) (latest-of (λ z. e x z && c z b) (λ z. z) RECORDS RECORDS)
     where
-      At : ℕ → Type 0
-      At z = E x z × Chain E z b
-
-      first : Chain E x b → (So (e x b) → ⊥) → (z : ℕ) × At z
+      first : Chain E x b → (So (e x b) → ⊥) → (z : ℕ) × E x z × Chain E z b
       first (one d) n = absurd (n (q x b .1 d))
-      first (more {y = z} d k) n = (z, (d, k))
+      first (more {y = z} d k) n = (z, d, k)
 
-      go : (o : Option ℕ) → Lowest At o → At (elim o [ some z ↦ z | none ↦ RECORDS ])
-      go (some z) l = l .0
-      go none l = let a = first h n in absurd (l (a .0) (a .1))
+      go : (v : ℕ) → Latest (λ z. e x z && c z b) (λ z. z) RECORDS RECORDS v → E x v × Chain E v b
+      go v (nobody-yet _ none) = let a = first h n in absurd (none (a .0) (rows x (a .0) (a .1) .1) (and-iff (q x (a .0)) (r (a .0) b) .1 (a .1, a .2)))
+      go v (at j _ w t _) = subst (λ (z : ℕ). E x z × Chain E z b) (sym w) (and-iff (q x j) (r j b) .0 t)
 
   goes : (m x b : ℕ) → Chain E x b → reached x ≤ m → Run E x (wayOf e c m x b) b
   unfolding wayOf
