@@ -17,7 +17,7 @@ use lib.ListN.{length}
 use Rattle.laws.specs.Relation.{Rel, Table, _⊆_}
 use Rattle.laws.specs.Lowest.{Lowest, lowest}
 use Rattle.laws.specs.Sorted.{On}
-use Rattle.laws.proofs.Tests.{and-iff, or-iff, not-iff, same-iff, so-eq, so-le, off}
+use Rattle.laws.proofs.Tests.{and-iff, or-iff, not-iff, same-iff, so-eq, so-lt, so-le, off}
 use Rattle.laws.proofs.Lowest.{lowest-iff}
 use Rattle.trace.specs.Bounds.{RECORDS}
 use Rattle.trace.specs.Frame.{Frame, Good, Source, Writer}
@@ -31,7 +31,7 @@ use Rattle.rules.proofs.SourceOf.{source-of-is, source-of-has}
 use Rattle.rules.proofs.Rounds.{edge-grow}
 use Rattle.rules.proofs.Ends.{step-within, chains-within}
 use Rattle.papers.specs.Paper.{CIRCLE, SPLIT, CHAINED, Edge, Entry, edgeAt, named, chained, roomy, bare, fits, refutes}
-use Rattle.reasons.specs.Telling.{edgesOf, inside, numberOf, numbers, along, ruleBy, loadOf, bareEntry, startOf, endOf, wayAt, resting, tell}
+use Rattle.reasons.specs.Telling.{edgesOf, inside, placeOf, numberOf, numbers, along, ruleBy, loadOf, bareEntry, startOf, endOf, wayAt, resting, tell}
 use Rattle.reasons.proofs.Names.{Named, inside-iff, named-grow, named-last, named-cases, chained-one, chained-more}
 use Rattle.reasons.proofs.Short.{Distinct, further, Fair, roomy-new}
 use Rattle.reasons.proofs.Written.{Runs, runs-edge}
@@ -41,16 +41,20 @@ module _ (E : List Edge) where
   abbrev At : ℕ → ℕ → ℕ → Type 0
   At x y i = (i < length E) × ((edgeAt E i .from ≡ x) × (edgeAt E i .to ≡ y))
 
-  pub number-at : (x y : ℕ) → Named E x y → At x y (numberOf E x y)
-  unfolding numberOf
-  number-at x y n = go (lowest (λ i. eqb (edgeAt E i .from) x && eqb (edgeAt E i .to) y) (length E) 0) found
+  place-at : (x y : ℕ) → Named E x y → At x y (placeOf E x y)
+  unfolding placeOf
+  place-at x y n = go (lowest (λ i. eqb (edgeAt E i .from) x && eqb (edgeAt E i .to) y) (length E) 0) found
     where
       found : Lowest (At x y) (lowest (λ i. eqb (edgeAt E i .from) x && eqb (edgeAt E i .to) y) (length E) 0)
       found = lowest-iff _ (At x y) (length E) (λ i h. (λ t. (h, and-iff so-eq so-eq .0 t), λ a. and-iff so-eq so-eq .1 (a .1))) (λ i a. a .0) (length E) 0 (omega arith) (λ i a. omega arith)
 
-      go : (o : Option ℕ) → Lowest (At x y) o → At x y (elim o [ some i ↦ i | none ↦ 0 ])
+      go : (o : Option ℕ) → Lowest (At x y) o → At x y (elim o [ some i ↦ i | none ↦ length E ])
       go (some i) l = l .0
       go none l = absurd (l (n .0) (n .1, n .2))
+
+  pub number-at : (x y : ℕ) → Named E x y → At x y (numberOf E x y)
+  unfolding numberOf
+  number-at x y n = let p = place-at x y n in subst (λ (b : Bool). At x y (cond b (placeOf E x y) 0)) (sym (so-lt .1 (p .0))) p
 
   pub numbers-chained : (a : ℕ) (zs : List ℕ) (b : ℕ) → Run (Named E) a zs b → So (chained E (numbers E a zs b) a b)
   unfolding numbers
@@ -61,7 +65,7 @@ module _ (E : List Edge) where
       go [] t = let p = number-at a z (r .0) in chained-more E (numberOf E a z) a z (p .0) (p .1 .0) (p .1 .1) b (numberOf E z b) [] t
       go (w ∷ zs) t = let p = number-at a z (r .0) in chained-more E (numberOf E a z) a z (p .0) (p .1 .0) (p .1 .1) b (numberOf E z w) (numbers E w zs b) t
 
-edges-append : (es fs : List Entry) → edgesOf (es ++ fs) ≡ edgesOf es ++ edgesOf fs
+pub edges-append : (es fs : List Entry) → edgesOf (es ++ fs) ≡ edgesOf es ++ edgesOf fs
 unfolding edgesOf
 edges-append [] fs = refl
 edges-append (e ∷ es) fs = ap (λ E. record { from = e .from; to = e .to } ∷ E) (edges-append es fs)

@@ -2,3 +2,4 @@
 pub mod Ways
 pub mod Telling
 pub mod Writing
+pub mod Laid

@@ -2,7 +2,8 @@
 --
 --   edgesOf es           == the edges that the entries es name
 --   inside E x y         == an entry of E is x before y
---   numberOf E x y       == its number in E, the lowest; 0 where no entry is
+--   placeOf E x y        == the lowest place of such an entry; the length of E where there is none
+--   numberOf E x y       == the number of such an entry; 0 where there is none
 --   numbers E a zs b     == the numbers of the edges from a by way of zs to b
 --   ruleBy f K C x y     == the lowest rule that gives the edge, where C are the chains of the round before and no pairs are supposed; 0 where none does
 --   loadOf f C x y       == the lowest load that reads from y and that a chain of C leads to from x, x itself excepted
@@ -16,7 +17,7 @@ use mathlib.Core.Bool.{true, false, not, cond, _&&_}
 use mathlib.Core.List.{List, [], _∷_, _++_}
 use mathlib.Core.Option.{none, some}
 use Prim.Native.Nat.{ℕ, zero, suc}
-use lib.Dec.{eqb}
+use lib.Dec.{eqb, ltb}
 use lib.ListN.{length}
 use Rattle.laws.specs.Tests.{any}
 use Rattle.laws.specs.Relation.{Table}
@@ -37,8 +38,11 @@ edgesOf (e ∷ es) = record { from = e .from; to = e .to } ∷ edgesOf es
 unfoldable pub inside : List Edge → Table
 inside E x y = any (length E) (λ i. eqb (edgeAt E i .from) x && eqb (edgeAt E i .to) y)
 
+unfoldable pub placeOf : List Edge → ℕ → ℕ → ℕ
+placeOf E x y = elim (lowest (λ i. eqb (edgeAt E i .from) x && eqb (edgeAt E i .to) y) (length E) 0) [ some i ↦ i | none ↦ length E ]
+
 unfoldable pub numberOf : List Edge → ℕ → ℕ → ℕ
-numberOf E x y = elim (lowest (λ i. eqb (edgeAt E i .from) x && eqb (edgeAt E i .to) y) (length E) 0) [ some i ↦ i | none ↦ 0 ]
+numberOf E x y = cond (ltb (placeOf E x y) (length E)) (placeOf E x y) 0
 
 unfoldable pub numbers : List Edge → ℕ → List ℕ → ℕ → List ℕ
 numbers E a [] b = numberOf E a b ∷ []

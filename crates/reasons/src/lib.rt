@@ -1,1 +1,4 @@
-// The writer of papers: laws alone so far, of the list that it makes for a trace that has no valid order.
+// The writer of papers: why a trace has no valid order, as a list that the small reader accepts.
+mod choice;
+mod naming;
+mod paths;
