@@ -1,0 +1,11 @@
+-- Laws of the writer.
+pub mod Names
+pub mod Places
+pub mod Laying
+pub mod Short
+pub mod Written
+pub mod Ways
+pub mod Telling
+pub mod Joining
+pub mod Choosing
+pub mod Writing

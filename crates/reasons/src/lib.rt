@@ -1,0 +1,4 @@
+// The writer of papers: why a trace has no valid order, as a list that the small reader accepts.
+mod choice;
+mod naming;
+mod paths;
