@@ -5,8 +5,8 @@ ghost use lib.ListN.{length};
 ghost use Rattle.trace.specs.Bounds.{RECORDS};
 ghost use Rattle.text.specs.Number.{decimal};
 ghost use Rattle.verdict.specs.Told.{Numbers};
-ghost use Rattle.report.specs.Bounds.{SAID, NAME, LINE};
-ghost use Rattle.report.specs.Words.{order, noOrder, noSource, circle, by, refused};
+ghost use Rattle.report.specs.Bounds.{LONG, SAID, NAME, LINE};
+ghost use Rattle.report.specs.Words.{order, noOrder, circle, by};
 ghost use Rattle.report.specs.Report.{spaced, saying, nameOf, lineOf, refusalOf};
 ghost use Rattle.report.specs.Wrote.{Wrote};
 use crate::pieces::put_decimal;
@@ -16,13 +16,13 @@ use crate::pieces::put_word;
 use verdict::Outcome;
 use verdict::Verdict;
 
-// That a record has no source.
-fn put_source(x: usize, out: &mut [u8], at: usize) -> usize
-    requires { ⌜ at + SAID ≤ length (now out) ⌝ }
-    ensures { λ r. ⌜ Wrote (now (out .entry)) at ((noOrder ++ noSource) ++ decimal x) (now (out .exit)) r × (r ≤ at + SAID) ⌝ }
+// A word, and a number behind it.
+fn put_after(word: &[u8], n: usize, out: &mut [u8], at: usize) -> usize
+    requires { ⌜ at + length (now word) + LONG ≤ length (now out) ⌝ }
+    ensures { λ r. ⌜ Wrote (now (out .entry)) at (now (word .entry) ++ decimal n) (now (out .exit)) r × (r ≤ at + length (now (word .entry)) + LONG) ⌝ }
 {
-    let end = put_word(b"no order, no source ", out, at);
-    put_decimal(x, out, end)
+    let end = put_word(word, out, at);
+    put_decimal(n, out, end)
 }
 
 // A circle and its rules.
@@ -45,15 +45,6 @@ fn put_order(operations: &[u16], out: &mut [u8], at: usize) -> usize
     put_numbers(operations, out, end)
 }
 
-// That a question is turned back, by its number.
-fn put_refused(n: usize, out: &mut [u8], at: usize) -> usize
-    requires { ⌜ at + SAID ≤ length (now out) ⌝ }
-    ensures { λ r. ⌜ Wrote (now (out .entry)) at (refused ++ decimal n) (now (out .exit)) r × (r ≤ at + 28) ⌝ }
-{
-    let end = put_word(b"refused ", out, at);
-    put_decimal(n, out, end)
-}
-
 // What is said of a verdict.
 fn put_said(v: Verdict, out: &mut [u8], at: usize) -> usize
     requires { ⌜ (at + SAID ≤ length (now out)) × (v .len ≤ RECORDS) × Numbers (v .operations) ⌝ }
@@ -64,12 +55,12 @@ fn put_said(v: Verdict, out: &mut [u8], at: usize) -> usize
     let rules = v.rules;
     let outcome = v.outcome;
     match outcome {
-        Outcome::NoSource(x) => put_source(x, out, at),
+        Outcome::NoSource(x) => put_after(b"no order, no source ", x, out, at),
         Outcome::Circle => put_circle(&operations[..len], &rules[..len], out, at),
         Outcome::Order => put_order(&operations[..len], out, at),
         Outcome::NoneLeft => put_word(b"no order, none left", out, at),
-        Outcome::NoModel => put_refused(9, out, at),
-        Outcome::NotWellFormed => put_refused(10, out, at),
+        Outcome::NoModel => put_after(b"refused ", 9, out, at),
+        Outcome::NotWellFormed => put_after(b"refused ", 10, out, at),
     }
 }
 
@@ -103,7 +94,7 @@ pub(crate) fn put_refusal(n: usize, line: usize, out: &mut [u8], at: usize) -> u
     requires { ⌜ at + LINE ≤ length (now out) ⌝ }
     ensures { λ r. ⌜ Wrote (now (out .entry)) at (refusalOf n line) (now (out .exit)) r × (r ≤ at + LINE) ⌝ }
 {
-    let named = put_refused(n, out, at);
+    let named = put_after(b"refused ", n, out, at);
     let begun = put_word(b" line ", out, named);
     let end = put_decimal(line, out, begun);
     put_word(b"\n", out, end)

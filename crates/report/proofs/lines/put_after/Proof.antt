@@ -1,13 +1,10 @@
--- `report::lines::put_refused`: the word, and the number behind it.
+-- `report::lines::put_after`: the word, and the number behind it.
 use native.Mathlib.Omega.{arith}
 use Rattle.report.proofs.Wrote.{wrote-then}
 use Rattle.report.proofs.Digits.{decimal-usize}
 use borrow.Author.Needs.{needs}
-use Rattle.report.proofs.lines.put_refused.Statement.{statement}
-use Rattle.report.proofs.lines.put_refused.Tie as tie
-
-slice-aggregate-put-word : tie.Need-slice-aggregate-put-word
-slice-aggregate-put-word c = search needs
+use Rattle.report.proofs.lines.put_after.Statement.{statement}
+use Rattle.report.proofs.lines.put_after.Tie as tie
 
 put-word-requires : tie.Need-put-word-requires
 put-word-requires c κs = search needs
@@ -28,7 +25,7 @@ returns c = let d = c .before .before in
       omega (arith, decimal-usize (s .args .n) (omega arith), w .put-word .ensures .ends, d .put-decimal .ensures .ends),
     )
 
-pub put-refused-spec : {M : Type 1} → statement M
-put-refused-spec =
+pub put-after-spec : {M : Type 1} → statement M
+put-after-spec =
     tie.close
-    (tie.spec slice-aggregate-put-word put-word-requires put-decimal-requires same-length returns)
+    (tie.spec put-word-requires put-decimal-requires same-length returns)
