@@ -4,8 +4,8 @@ ghost use Prim.Native.Nat.{_+_, _≤_};
 ghost use lib.ListN.{length};
 ghost use Rattle.trace.specs.Bounds.{RECORDS};
 ghost use Rattle.text.specs.Number.{decimal};
-ghost use Rattle.verdict.specs.Told.{Numbers};
-ghost use Rattle.report.specs.Bounds.{LONG, SAID, NAME, LINE};
+ghost use Rattle.verdict.specs.VerdictOf.{RecordNumbers};
+ghost use Rattle.report.specs.Bounds.{LONG, SAID, NAME, VERDICT-LINE};
 ghost use Rattle.report.specs.Words.{order, noOrder, circle, by};
 ghost use Rattle.report.specs.Report.{spaced, saying, nameOf, lineOf, refusalOf};
 ghost use Rattle.report.specs.Wrote.{Wrote};
@@ -27,7 +27,7 @@ fn put_after(word: &[u8], n: usize, out: &mut [u8], at: usize) -> usize
 
 // A circle and its rules.
 fn put_circle(operations: &[u16], rules: &[u8], out: &mut [u8], at: usize) -> usize
-    requires { ⌜ (at + SAID ≤ length (now out)) × (length (now operations) ≤ RECORDS) × Numbers (now operations) × (length (now rules) ≤ RECORDS) ⌝ }
+    requires { ⌜ (at + SAID ≤ length (now out)) × (length (now operations) ≤ RECORDS) × RecordNumbers (now operations) × (length (now rules) ≤ RECORDS) ⌝ }
     ensures { λ r. ⌜ Wrote (now (out .entry)) at ((noOrder ++ circle) ++ spaced (now (operations .entry)) ++ by ++ spaced (now (rules .entry))) (now (out .exit)) r × (r ≤ at + SAID) ⌝ }
 {
     let named = put_word(b"no order, circle", out, at);
@@ -38,7 +38,7 @@ fn put_circle(operations: &[u16], rules: &[u8], out: &mut [u8], at: usize) -> us
 
 // An order.
 fn put_order(operations: &[u16], out: &mut [u8], at: usize) -> usize
-    requires { ⌜ (at + SAID ≤ length (now out)) × (length (now operations) ≤ RECORDS) × Numbers (now operations) ⌝ }
+    requires { ⌜ (at + SAID ≤ length (now out)) × (length (now operations) ≤ RECORDS) × RecordNumbers (now operations) ⌝ }
     ensures { λ r. ⌜ Wrote (now (out .entry)) at (order ++ spaced (now (operations .entry))) (now (out .exit)) r × (r ≤ at + SAID) ⌝ }
 {
     let end = put_word(b"order", out, at);
@@ -47,7 +47,7 @@ fn put_order(operations: &[u16], out: &mut [u8], at: usize) -> usize
 
 // What is said of a verdict.
 fn put_said(v: Verdict, out: &mut [u8], at: usize) -> usize
-    requires { ⌜ (at + SAID ≤ length (now out)) × (v .len ≤ RECORDS) × Numbers (v .operations) ⌝ }
+    requires { ⌜ (at + SAID ≤ length (now out)) × (v .len ≤ RECORDS) × RecordNumbers (v .operations) ⌝ }
     ensures { λ r. ⌜ Wrote (now (out .entry)) at (saying v) (now (out .exit)) r × (r ≤ at + SAID) ⌝ }
 {
     let len = v.len;
@@ -80,8 +80,8 @@ fn put_name(model: u8, out: &mut [u8], at: usize) -> usize
 
 // The line of a verdict, under the model's name.
 pub(crate) fn put_line(model: u8, v: Verdict, out: &mut [u8], at: usize) -> usize
-    requires { ⌜ (at + LINE ≤ length (now out)) × (v .len ≤ RECORDS) × Numbers (v .operations) ⌝ }
-    ensures { λ r. ⌜ Wrote (now (out .entry)) at (lineOf model v) (now (out .exit)) r × (r ≤ at + LINE) ⌝ }
+    requires { ⌜ (at + VERDICT-LINE ≤ length (now out)) × (v .len ≤ RECORDS) × RecordNumbers (v .operations) ⌝ }
+    ensures { λ r. ⌜ Wrote (now (out .entry)) at (lineOf model v) (now (out .exit)) r × (r ≤ at + VERDICT-LINE) ⌝ }
 {
     let named = put_name(model, out, at);
     let begun = put_word(b": ", out, named);
@@ -91,8 +91,8 @@ pub(crate) fn put_line(model: u8, v: Verdict, out: &mut [u8], at: usize) -> usiz
 
 // The line of a text that is turned back.
 pub(crate) fn put_refusal(n: usize, line: usize, out: &mut [u8], at: usize) -> usize
-    requires { ⌜ at + LINE ≤ length (now out) ⌝ }
-    ensures { λ r. ⌜ Wrote (now (out .entry)) at (refusalOf n line) (now (out .exit)) r × (r ≤ at + LINE) ⌝ }
+    requires { ⌜ at + VERDICT-LINE ≤ length (now out) ⌝ }
+    ensures { λ r. ⌜ Wrote (now (out .entry)) at (refusalOf n line) (now (out .exit)) r × (r ≤ at + VERDICT-LINE) ⌝ }
 {
     let named = put_after(b"refused ", n, out, at);
     let begun = put_word(b" line ", out, named);
