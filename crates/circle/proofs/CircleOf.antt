@@ -19,7 +19,7 @@ use lib.Seq.{length-take-le, getD-take}
 use Rattle.laws.specs.Relation.{Rel, Table}
 use Rattle.laws.proofs.Tests.{off, test, and-iff, same-iff}
 use Rattle.trace.specs.Bounds.{RECORDS}
-use Rattle.trace.specs.Frame.{Frame, Good}
+use Rattle.rules.specs.Frame.{Frame, Good}
 use Rattle.trace.specs.Meaning.{frameOf}
 use Rattle.trace.specs.WellFormed.{wellFormed}
 use Rattle.trace.specs.declared.Trace.{Trace}
@@ -32,10 +32,10 @@ use Rattle.rules.specs.Rules.{Edge, nothing}
 use Rattle.edges.specs.Supposed.{supposedOf}
 use Rattle.rules.specs.Circle.{Run, Circle as Ring, Shown, after}
 use Rattle.rules.specs.ShownCircle.{Circled}
-use Rattle.edges.specs.Ended.{Ends}
+use Rattle.edges.specs.LastRound.{Ends}
 use Rattle.circle.specs.ShownIn.{circleOf, ShownIn}
-use Rattle.circle.specs.Named.{Named}
-use Rattle.edges.specs.Answers.{answered, Rounded}
+use Rattle.circle.specs.inner.NamedRules.{Named}
+use Rattle.edges.specs.ForcedPairs.{answered, Rounded}
 use Rattle.circle.specs.CircleOf.{ruledOf, CircleOf}
 use Rattle.circle.specs.declared.show.Circle.{Circle}
 use Rattle.edges.specs.declared.force.Round.{Round}

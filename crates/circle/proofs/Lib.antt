@@ -1,10 +1,10 @@
-pub mod Added
+pub mod WalkRows
 pub mod Further
 pub mod Lowest
-pub mod Least
-pub mod Reach
+pub mod LeastWalk
+pub mod BackSteps
 pub mod Tracing
 pub mod ShownIn
-pub mod OneCircle
-pub mod Named
+pub mod Unique
+pub mod NamedRules
 pub mod CircleOf

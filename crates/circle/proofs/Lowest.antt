@@ -8,7 +8,7 @@ use Prim.Native.Nat.{ℕ, _<_}
 use native.Mathlib.Decide.{decLe}
 use native.Mathlib.Omega.{arith}
 use Rattle.laws.specs.Lowest.{Lowest}
-use Rattle.circle.specs.Least.{LowestBelow}
+use Rattle.circle.specs.inner.LeastWalk.{LowestBelow}
 
 module _ (n : ℕ) (A : ℕ → Type 0) where
   pub lowest-found : (r : ℕ) → r < n → ((y : ℕ) → y < r → A y → ⊥) → A r → LowestBelow n A r

@@ -22,9 +22,9 @@ use Rattle.rows.specs.Bounds.{CELLS}
 use Rattle.rows.specs.Rows.{Edges}
 use Rattle.rows.proofs.Rows.{bit-bounds}
 use Rattle.rules.specs.Circle.{Shown}
-use Rattle.rules.specs.Walk.{Walk}
-use Rattle.circle.specs.Least.{Least, LowestBelow}
-use Rattle.circle.specs.Reach.{Laid}
+use Rattle.rules.specs.inner.ExactWalks.{Walk}
+use Rattle.circle.specs.inner.LeastWalk.{LeastWalk, LowestBelow}
+use Rattle.circle.specs.inner.BackSteps.{LaidWay}
 use Rattle.circle.specs.ShownIn.{circleOf, ShownIn}
 use Rattle.rules.proofs.Circle.{shown-one}
 use Rattle.rules.proofs.Shown.{traced-shown}
@@ -46,7 +46,7 @@ shown-nothing edges room out wiped h = rw wiped record {
   other = λ _. refl;
 }
 
-module _ (E walks : List ℕ) (k s : ℕ) (p : 0 < k) (least : Least (Edges E) k walks) (low : LowestBelow RECORDS (λ x. Edges walks x x) s) where
+module _ (E walks : List ℕ) (k s : ℕ) (p : 0 < k) (least : LeastWalk (Edges E) k walks) (low : LowestBelow RECORDS (λ x. Edges walks x x) s) where
   pub closed-lowest : (s < RECORDS) × Lowest (λ x. Walk (Edges E) k x x) (some s)
   closed-lowest =
       let (x, w) = least .closed p in
@@ -54,7 +54,7 @@ module _ (E walks : List ℕ) (k s : ℕ) (p : 0 < k) (least : Least (Edges E) k
       let (b, (a, l)) = lowest-some RECORDS _ (λ y t. bit-bounds walks y y t .0) s x low (exact x x .1 w) in
       (b, (exact s s .0 a, λ y v. l y (exact y y .1 v)))
 
-  pub shown-laid : (room : ℕ) (before out : List ℕ) → length E ≡ CELLS → room ≡ RECORDS → before ≡ replicate room 0 → Laid (Edges E) s k before out → ShownIn E room k out
+  pub shown-laid : (room : ℕ) (before out : List ℕ) → length E ≡ CELLS → room ≡ RECORDS → before ≡ replicate room 0 → LaidWay (Edges E) s k before out → ShownIn E room k out
   unfolding circleOf
   shown-laid room before out full places wiped laid = record {
     long = laid .long ∙ ap length wiped ∙ length-replicate {A = ℕ} room 0;

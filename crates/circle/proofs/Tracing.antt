@@ -18,9 +18,9 @@ use Rattle.laws.proofs.Tests.{eq?}
 use Rattle.trace.specs.Bounds.{RECORDS}
 use Rattle.rows.specs.Rows.{Edges}
 use Rattle.rows.proofs.Rows.{bit-bounds}
-use Rattle.rules.specs.Walk.{Walk, Traced}
-use Rattle.circle.specs.Least.{LowestBelow}
-use Rattle.circle.specs.Reach.{Reach}
+use Rattle.rules.specs.inner.ExactWalks.{Walk, Traced}
+use Rattle.circle.specs.inner.LeastWalk.{LowestBelow}
+use Rattle.circle.specs.inner.BackSteps.{Reach}
 use Rattle.circle.proofs.Lowest.{lowest-some}
 
 -- y is the lowest step from x after which j steps lead to s

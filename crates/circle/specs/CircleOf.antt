@@ -12,7 +12,7 @@ use Rattle.trace.specs.Bounds.{RECORDS}
 use Rattle.trace.specs.Meaning.{frameOf}
 use Rattle.trace.specs.declared.Trace.{Trace}
 use Rattle.pairs.specs.Kept.{keptOf}
-use Rattle.edges.specs.Answers.{answered}
+use Rattle.edges.specs.ForcedPairs.{answered}
 use Rattle.rules.specs.ShownCircle.{Circled}
 use Rattle.circle.specs.declared.show.Circle.{Circle}
 

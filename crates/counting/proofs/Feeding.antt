@@ -15,7 +15,7 @@ use Rattle.rows.specs.AddRow.{addRowOf}
 use Rattle.rows.specs.DropRow.{dropRowOf}
 use Rattle.rows.proofs.Closing.{row-added}
 use Rattle.rows.proofs.Dropping.{drop-long, row-dropped}
-use Rattle.counting.specs.Counting.{feeds, Fed}
+use Rattle.counting.specs.inner.NextTests.{feeds, Fed}
 
 pub fed-of : (fed rivals placed served : List ℕ) (y : ℕ) → Words fed → length served ≡ WORDS
     → Fed fed rivals placed served y (dropRowOf placed 0 (addRowOf fed y (dropRowOf rivals y served 0) 0) 0)

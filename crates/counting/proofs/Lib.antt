@@ -1,8 +1,8 @@
 -- Laws of the plain search by sets and rows, for the proofs of its functions.
 pub mod Feeding
 pub mod Sets
-pub mod Walking
+pub mod CountedWalk
 pub mod Slots
-pub mod Laying
-pub mod Answering
-pub mod One
+pub mod CountingRows
+pub mod CountedAnswer
+pub mod Unique

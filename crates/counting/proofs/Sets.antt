@@ -13,25 +13,25 @@ use native.Mathlib.Omega.{arith}
 use Rattle.laws.specs.Places.{count}
 use Rattle.laws.specs.Relation.{Table}
 use Rattle.laws.specs.Latest.{lastOf, Latest, nobody-yet, at}
-use Rattle.laws.specs.Steps.{Steps}
+use Rattle.laws.specs.inner.Steps.{Steps}
 use Rattle.laws.proofs.Tests.{and-iff, or-iff, not-iff, same-iff, so-eq, so-not, test, off, eq?}
 use Rattle.laws.proofs.Latest.{latest-of}
 use Rattle.laws.proofs.Steps.{steps-join}
 use Rattle.trace.specs.Bounds.{RECORDS}
-use Rattle.trace.specs.Frame.{Frame, Good, Writer, Source}
+use Rattle.rules.specs.Frame.{Frame, Good, Writer, Source}
 use Rattle.rows.specs.Rows.{bit}
 use Rattle.rows.specs.Within.{Within}
-use Rattle.rows.specs.Sets.{More}
+use Rattle.rows.specs.inner.Sets.{More}
 use Rattle.rows.proofs.Sets.{more-holds}
 use Rattle.plain.specs.Plain.{waits, soFar, expected, Next}
-use Rattle.plain.specs.Alike.{Served}
-use Rattle.plain.specs.Remembered.{Stands}
+use Rattle.plain.specs.inner.SameBelow.{Served}
+use Rattle.plain.specs.inner.Remembered.{StandsFor}
 use Rattle.plain.proofs.Next.{waits-iff}
 use Rattle.plain.proofs.Remembered.{served-step}
-use Rattle.counting.specs.Counting.{waiting, lastWaiting, RightBy, Nexts, feeds, Fed}
-use Rattle.counting.specs.Walking.{Tables, Laid}
+use Rattle.counting.specs.inner.NextTests.{waitingOwn, lastWaiting, RightBy, Nexts, feeds, Fed}
+use Rattle.counting.specs.inner.CountedWalk.{CountingTables, LaidTables}
 
-module _ (f : Frame) (K : Table) (T : Tables) (laid : Laid f K T) (few : T .n ≤ RECORDS) (p placed served : List ℕ) (s : Stands f K p (bit placed 0) (bit served 0)) where
+module _ (f : Frame) (K : Table) (T : CountingTables) (laid : LaidTables f K T) (few : T .n ≤ RECORDS) (p placed served : List ℕ) (s : StandsFor f K p (bit placed 0) (bit served 0)) where
   -- not in the set, not in the list
   out : (x : ℕ) → bit placed 0 x ≡ false → count x p ≡ 0
   out x e = elim (eq? (count x p) 0) [ inl z ↦ z | inr n ↦ absurd (false≢true (sym e ∙ s .holds x .1 (omega arith))) ]
@@ -39,8 +39,8 @@ module _ (f : Frame) (K : Table) (T : Tables) (laid : Laid f K T) (few : T .n �
   away : (x : ℕ) → count x p ≡ 0 → bit placed 0 x ≡ false
   away x e = off (λ t. omega (arith, s .holds x .0 t))
 
-  pub waiting-iff : (c S : ℕ) → c < T .n → So (waiting (T .own) placed c S) ↔ So (waits f p c S)
-  unfolding waiting
+  pub waiting-iff : (c S : ℕ) → c < T .n → So (waitingOwn (T .own) placed c S) ↔ So (waits f p c S)
+  unfolding waitingOwn
   waiting-iff c S h =
       let i : So (bit (T .own) c S && not (bit placed 0 S)) ↔ _ = and-iff (laid .own S c h) (not-iff (s .holds S)) in (
         λ t. let r = i .0 t in waits-iff f p c S .1 (r .0, omega (arith, r .1)),
@@ -52,14 +52,14 @@ module _ (f : Frame) (K : Table) (T : Tables) (laid : Laid f K T) (few : T .n �
     below S t = omega (arith, laid .records, laid .good .below S (laid .good .writes S (waits-iff f p c S .0 t .0 .0 .writes)))
 
     pub right-iff : RightBy (T .n) (T .own) (T .fed) placed served c ↔ (f .read c ≡ expected f p c)
-    unfolding expected lastWaiting waiting
-    right-iff = go (latest-of (waiting (T .own) placed c) (λ S. S) RECORDS (T .n)) (latest-of (waits f p c) (f .written) (soFar f p c) (f .records))
+    unfolding expected lastWaiting waitingOwn
+    right-iff = go (latest-of (waitingOwn (T .own) placed c) (λ S. S) RECORDS (T .n)) (latest-of (waits f p c) (f .written) (soFar f p c) (f .records))
       where
         R : Type 0
         R = RightBy (T .n) (T .own) (T .fed) placed served c ↔ (f .read c ≡ expected f p c)
 
         -- where nobody waits, who is served
-        none-waits : ((S : ℕ) → So (waiting (T .own) placed c S) → ⊥) → expected f p c ≡ soFar f p c → R
+        none-waits : ((S : ℕ) → So (waitingOwn (T .own) placed c S) → ⊥) → expected f p c ≡ soFar f p c → R
         none-waits k q = (
           λ t. elim t [ inl (w, u) ↦ s .serves c .0 u .value ∙ sym q | inr (n, u) ↦ absurd (n all-placed) ],
           λ r. inl (all-placed, s .serves c .1 (record { reads = reads; unplaced = unplaced; value = r ∙ q })),
@@ -69,7 +69,7 @@ module _ (f : Frame) (K : Table) (T : Tables) (laid : Laid f K T) (few : T .n �
             all-placed S o = elim (test (bit placed 0 S)) [ inl t ↦ t | inr e ↦ absurd (k S (and-iff same-iff (not-iff same-iff) .1 (o, λ t. false≢true (sym e ∙ t)))) ]
 
         -- where W is the last who waits, who reads from it
-        waits-for : (W : ℕ) → W < T .n → So (waiting (T .own) placed c W) → lastWaiting (T .n) (T .own) placed c ≡ W → expected f p c ≡ f .written W → R
+        waits-for : (W : ℕ) → W < T .n → So (waitingOwn (T .own) placed c W) → lastWaiting (T .n) (T .own) placed c ≡ W → expected f p c ≡ f .written W → R
         waits-for W l t e q =
             let w = waits-iff f p c W .0 (waiting-iff c W h .0 t) .0 .0 in
             let g = laid .good in
@@ -85,7 +85,7 @@ module _ (f : Frame) (K : Table) (T : Tables) (laid : Laid f K T) (few : T .n �
               ),
             )
 
-        go : Latest (waiting (T .own) placed c) (λ S. S) RECORDS (T .n) (lastWaiting (T .n) (T .own) placed c) → Latest (waits f p c) (f .written) (soFar f p c) (f .records) (expected f p c) → R
+        go : Latest (waitingOwn (T .own) placed c) (λ S. S) RECORDS (T .n) (lastWaiting (T .n) (T .own) placed c) → Latest (waits f p c) (f .written) (soFar f p c) (f .records) (expected f p c) → R
         go (nobody-yet e k) (nobody-yet q m) = none-waits (λ S t. k S (below S (waiting-iff c S h .0 t)) t) q
         go (nobody-yet e k) (at j b q t m) = absurd (k j (below j t) (waiting-iff c j h .1 t))
         go (at W b e t k) (nobody-yet q m) = absurd (m W (omega (arith, laid .records)) (waiting-iff c W h .0 t))
@@ -110,7 +110,7 @@ module _ (f : Frame) (K : Table) (T : Tables) (laid : Laid f K T) (few : T .n �
   )
 
   pub child : (y : ℕ) → y < T .n → Next f K p y → (with after : List ℕ) → More placed y with → Fed (T .fed) (T .rivals) with served y after
-      → Stands f K (p ++ (y ∷ [])) (bit with 0) (bit after 0)
+      → StandsFor f K (p ++ (y ∷ [])) (bit with 0) (bit after 0)
   unfolding feeds
   child y h n with after m w = record {
     built = steps-join (Next f K) [] p (y ∷ []) (s .built) (n, tt);

@@ -25,7 +25,7 @@ use Rattle.session.specs.Closings.{Closings}
 use Rattle.session.specs.Session.{Intact}
 use Rattle.session.specs.Entries.{joins, addOf}
 use Rattle.session.specs.Numbers.{reasonNumber, Act, supposes, takesBack, asks, adds, awaits, replyOf}
-use Rattle.session.specs.Calls.{after, recorded}
+use Rattle.session.specs.Calls.{sessionAfter, recorded}
 use Rattle.session.specs.declared.Reason.the-variants.{NoModel, NotWellFormed, Unlike, NoOperation, OneRecord, TooManyPairs, NoPair, PastBound, FirstValue, TooMany, Twice}
 use Rattle.session.specs.declared.Answer.{Answer}
 use Rattle.session.specs.declared.Answer.the-variants.{Done, Held, NotHeld, Contradicted, Waits, Refused}
@@ -35,11 +35,11 @@ use Rattle.session.proofs.Sessions.{intact-iff}
 use Rattle.session.proofs.Answering.{add-turn}
 use Rattle.session.proofs.Standing.{act-stays}
 use Rattle.session.proofs.Lasting.{act-intact, act-trace}
-use Rattle.desk.specs.Head.{Fit, HEAD, headOf, bytesOf}
-use Rattle.desk.specs.Kept.{fileIn, sessionIn, like, keptOf}
-use Rattle.desk.specs.Acts.{codeOf, answerIn, fileAfter, bytesIn, bytesAfter}
+use Rattle.desk.specs.SessionHead.{Fit, SESSION-HEAD, sessionHead, sessionBytes}
+use Rattle.desk.specs.SessionBytes.{fileIn, sessionIn, like, sessionOf}
+use Rattle.desk.specs.SessionCalls.{codeOf, answerIn, fileAfter, bytesIn, bytesAfter}
 use Rattle.desk.specs.declared.sessions.Lent.{Lent}
-use Rattle.desk.proofs.Laying.{intact-fit}
+use Rattle.desk.proofs.HeadBytes.{intact-fit}
 use Rattle.desk.proofs.Keeping.{On, on-own, like-parts, like-same, named-intact, file-again, session-again, like-again}
 
 module _ (C : Closings) (b : List ℕ) (a : Act) where
@@ -47,7 +47,7 @@ module _ (C : Closings) (b : List ℕ) (a : Act) where
   unfolding answerIn
   answer-like s = rw s refl
 
-  pub bytes-like : So (like C b) → bytesIn C b a ≡ headOf (replyOf C (sessionIn C b) a .session) ++ fileAfter C b a
+  pub bytes-like : So (like C b) → bytesIn C b a ≡ sessionHead (replyOf C (sessionIn C b) a .session) ++ fileAfter C b a
   unfolding bytesIn
   bytes-like s = rw s refl
 
@@ -59,13 +59,13 @@ module _ (C : Closings) (b : List ℕ) (a : Act) where
   unfolding bytesIn
   bytes-unlike n = rw n refl
 
-module _ (C : Closings) (b : List ℕ) (f : Lent) (e : f ≡ keptOf C b) where
+module _ (C : Closings) (b : List ℕ) (f : Lent) (e : f ≡ sessionOf C b) where
   pub lent-like : f .like ≡ like C b
-  unfolding keptOf
+  unfolding sessionOf
   lent-like = ap (λ (l : Lent). l .like) e
 
   pub lent-session : So (f .like) → f .session ≡ sessionIn C b
-  unfolding keptOf
+  unfolding sessionOf
   lent-session s = let l : So (like C b) = sym lent-like ∙ s in ap (λ (l : Lent). l .session) e ∙ (rw l refl)
 
   pub act-turned : f .like ≡ false → (a : Act) → (reasonNumber Unlike ≡ answerIn C b a) × (b ≡ bytesIn C b a)
@@ -76,14 +76,14 @@ module _ (C : Closings) (b : List ℕ) (f : Lent) (e : f ≡ keptOf C b) where
     named : r ≡ replyOf C (sessionIn C b) a
     named = q ∙ ap (λ (x : Session). replyOf C x a) (lent-session s)
 
-    pub act-leaves : Fit (r .session) × (HEAD ≤ length b)
+    pub act-leaves : Fit (r .session) × (SESSION-HEAD ≤ length b)
     act-leaves = (subst (λ (x : Reply). Fit (x .session)) (sym named) (intact-fit C _ (act-intact C (sessionIn C b) (named-intact C b) a)), like-parts C b .0 (sym lent-like ∙ s) .long)
 
     pub act-answers : codeOf (r .answer) ≡ answerIn C b a
     act-answers = ap (λ (x : Reply). codeOf (x .answer)) named ∙ sym (answer-like C b a (sym lent-like ∙ s))
 
-    pub act-lays : fileIn b ≡ fileAfter C b a → headOf (r .session) ++ drop HEAD b ≡ bytesIn C b a
-    act-lays e = ap₂ (λ (x : Reply) (f : List ℕ). headOf (x .session) ++ f) named e ∙ sym (bytes-like C b a (sym lent-like ∙ s))
+    pub act-lays : fileIn b ≡ fileAfter C b a → sessionHead (r .session) ++ drop SESSION-HEAD b ≡ bytesIn C b a
+    act-lays e = ap₂ (λ (x : Reply) (f : List ℕ). sessionHead (x .session) ++ f) named e ∙ sym (bytes-like C b a (sym lent-like ∙ s))
 
 module _ (C : Closings) (s : Session) (i : Intact C s) where
   -- it stands on its own file
@@ -91,7 +91,7 @@ module _ (C : Closings) (s : Session) (i : Intact C s) where
   o = on-own C s i
 
   -- its file stays, but for a record that is added
-  file-recorded : (a : Act) → fileAfter C (bytesOf s) a ≡ fileOf (recorded (s .trace) a)
+  file-recorded : (a : Act) → fileAfter C (sessionBytes s) a ≡ fileOf (recorded (s .trace) a)
   file-recorded (supposes x y) = file-again s (fileOf (s .trace))
   file-recorded takesBack = file-again s (fileOf (s .trace))
   file-recorded (asks x y) = file-again s (fileOf (s .trace))
@@ -105,17 +105,17 @@ module _ (C : Closings) (s : Session) (i : Intact C s) where
   file-recorded awaits = file-again s (fileOf (s .trace))
 
   module _ (a : Act) where
-    pub answer-act : answerIn C (bytesOf s) a ≡ codeOf (replyOf C s a .answer)
-    answer-act = answer-like C (bytesOf s) a (like-again s (fileOf (s .trace)) C o) ∙ ap (λ (x : Session). codeOf (replyOf C x a .answer)) (session-again s (fileOf (s .trace)) C o)
+    pub answer-act : answerIn C (sessionBytes s) a ≡ codeOf (replyOf C s a .answer)
+    answer-act = answer-like C (sessionBytes s) a (like-again s (fileOf (s .trace)) C o) ∙ ap (λ (x : Session). codeOf (replyOf C x a .answer)) (session-again s (fileOf (s .trace)) C o)
 
-    pub bytes-act : bytesIn C (bytesOf s) a ≡ bytesOf (replyOf C s a .session)
+    pub bytes-act : bytesIn C (sessionBytes s) a ≡ sessionBytes (replyOf C s a .session)
     bytes-act =
-        bytes-like C (bytesOf s) a (like-again s (fileOf (s .trace)) C o)
-        ∙ ap₂ (λ (x : Session) (t : List ℕ). headOf (replyOf C x a .session) ++ t) (session-again s (fileOf (s .trace)) C o) (file-recorded a)
-        ∙ ap (λ (t : Trace). headOf (replyOf C s a .session) ++ fileOf t) (sym (act-trace C s i a))
+        bytes-like C (sessionBytes s) a (like-again s (fileOf (s .trace)) C o)
+        ∙ ap₂ (λ (x : Session) (t : List ℕ). sessionHead (replyOf C x a .session) ++ t) (session-again s (fileOf (s .trace)) C o) (file-recorded a)
+        ∙ ap (λ (t : Trace). sessionHead (replyOf C s a .session) ++ fileOf t) (sym (act-trace C s i a))
 
-pub bytes-after : (C : Closings) (cs : List Act) (s : Session) → Intact C s → bytesAfter C (bytesOf s) cs ≡ bytesOf (after C s cs)
-unfolding bytesAfter after
+pub bytes-after : (C : Closings) (cs : List Act) (s : Session) → Intact C s → bytesAfter C (sessionBytes s) cs ≡ sessionBytes (sessionAfter C s cs)
+unfolding bytesAfter sessionAfter
 bytes-after C [] s i = refl
 bytes-after C (a ∷ cs) s i = ap (λ (b : List ℕ). bytesAfter C b cs) (bytes-act C s i a) ∙ bytes-after C cs (replyOf C s a .session) (act-intact C s i a)
 
@@ -167,6 +167,6 @@ pub given : (C : Closings) (b : List ℕ) (a : Act) → answerIn C b a ≢ 0 →
 given C b a n = elim (test (like C b)) [
   | inl l ↦
       let d = off (λ d. n (answer-like C b a l ∙ done-code (replyOf C (sessionIn C b) a .answer) d)) in
-      bytes-like C b a l ∙ ap₂ (λ (x : Session) (f : List ℕ). headOf x ++ f) (act-stays C (sessionIn C b) a d) (file-stays C b a d) ∙ like-same C b l
+      bytes-like C b a l ∙ ap₂ (λ (x : Session) (f : List ℕ). sessionHead x ++ f) (act-stays C (sessionIn C b) a d) (file-stays C b a d) ∙ like-same C b l
   | inr u ↦ bytes-unlike C b a u
 ]

@@ -20,7 +20,7 @@ use Rattle.trace.specs.declared.Trace.{Trace}
 use Rattle.trace.proofs.Lost.{lost-iff}
 use Rattle.text.specs.Lines.{Line, lines}
 use Rattle.reader.specs.Bounds.{TEXT}
-use Rattle.reader.specs.Answer.{turned, begins}
+use Rattle.reader.specs.Answer.{turned, initGiven}
 use Rattle.reader.specs.Answer as answer
 use Rattle.reader.specs.Read.{refusal, none, readLines, readInits, readText}
 use Rattle.reader.specs.TextOf.{TextOf}
@@ -37,16 +37,16 @@ use Rattle.reader.specs.declared.Reading.{Reading}
 use Rattle.reader.proofs.RoundTrip.{read-exactly}
 use Rattle.reader.proofs.Whole.{whole-lost, whole-good, whole-refused, whole-exactly}
 use Rattle.packed.specs.Layout.{fileOf}
-use Rattle.packed.specs.Read as file
-use Rattle.packed.specs.Whole as packs
-use Rattle.packed.specs.Cases.{BackWhole, before, skipped}
+use Rattle.packed.specs.FileRead as file
+use Rattle.packed.specs.WholeFile as packs
+use Rattle.packed.specs.FileCases.{BackWhole, before, skipped}
 use Rattle.packed.specs.declared.Reason as file-reason
 use Rattle.packed.specs.declared.Reason.the-variants as why
 use Rattle.packed.specs.declared.Answer as file-answer
 use Rattle.packed.specs.declared.Answer.the-variants as told
 use Rattle.packed.proofs.Codec.{Bytes}
-use Rattle.packed.proofs.Whole as held
-use Rattle.desk.specs.Text.{numberIn, numberOf}
+use Rattle.packed.proofs.WholeFile as held
+use Rattle.desk.specs.Text.{numberIn, textNumber}
 use Rattle.desk.specs.File.{fileNumberIn}
 use Rattle.desk.specs.Packs.{wholeNumber}
 
@@ -74,7 +74,7 @@ lines-not (l ∷ ls) n t = go (turned t l) (λ o. lines-not ls (n + 1) (pushed t
 inits-not : (ls : List Line) (n : ℕ) (given : List Bool) (t : Trace) → kind (readInits n given t ls .answer) < 2
 unfolding readInits
 inits-not [] n given t = omega arith
-inits-not (l ∷ ls) n given t = go (begins given l) (λ a v. inits-not ls (n + 1) (set given a true) (started t a v)) (lines-not (l ∷ ls) n t)
+inits-not (l ∷ ls) n given t = go (initGiven given l) (λ a v. inits-not ls (n + 1) (set given a true) (started t a v)) (lines-not (l ∷ ls) n t)
   where
     go : (i : Init) → ((a v : ℕ) → kind (readInits (n + 1) (set given a true) (started t a v) ls .answer) < 2) → kind (readLines n t (l ∷ ls) .answer) < 2
         → (let r : Reading = elim i [ init.Of a v ↦ readInits (n + 1) (set given a true) (started t a v) ls | init.Nothing ↦ readLines n t (l ∷ ls) ] in kind (r .answer) < 2)
@@ -113,7 +113,7 @@ module _ (text : List ℕ) where
     λ p. whole-exactly text t .1 (read-exactly text t .1 (p .0, p .2), lost-iff t (p .0) .1 (p .1)),
   )
 
-  pub text-lost : (numberOf text ≡ LOST) ↔ ((t : Trace) × So (wellFormed t) × TextOf t text × (Whole t → ⊥))
+  pub text-lost : (textNumber text ≡ LOST) ↔ ((t : Trace) × So (wellFormed t) × TextOf t text × (Whole t → ⊥))
   text-lost = (
     λ e. go (readText text .answer) refl (lost-told (readWhole text .answer) e),
     λ p. ap (λ (r : Reading). numberIn (r .answer)) (sym (whole-lost text (good (p .0)) (sym (read-exactly text (p .0) .1 (p .1, p .2))) refl (held.lost-not (p .0) (p .1) .1 (p .3)) empty refl)),
@@ -132,17 +132,17 @@ module _ (text : List ℕ) where
 
 -- ---- a packed file
 -- a case that is told as 22 is a lost core's
-file-case : {b : List ℕ} (r : file-reason.Reason) (line : ℕ) → file.numberOf r ≡ LOST → BackWhole b r line → (t : Trace) × So (wellFormed t) × (b ≡ fileOf t) × (Whole t → ⊥)
+file-case : {b : List ℕ} (r : file-reason.Reason) (line : ℕ) → file.fileReasonNumber r ≡ LOST → BackWhole b r line → (t : Trace) × So (wellFormed t) × (b ≡ fileOf t) × (Whole t → ⊥)
 file-case r line e (before k) = absurd (held.back-not r line k e)
 file-case r line e (skipped t w q d) = (t, w, q, d)
 
 module _ (b : List ℕ) (h : Bytes b) where
-  pub file-whole : (t : Trace) → (packs.readWhole b ≡ file.good t) ↔ (So (wellFormed t) × Whole t × (b ≡ fileOf t))
+  pub file-whole : (t : Trace) → (packs.readWholeFile b ≡ file.good t) ↔ (So (wellFormed t) × Whole t × (b ≡ fileOf t))
   file-whole = held.whole-exactly b h
 
   pub file-lost : (wholeNumber b ≡ LOST) ↔ ((t : Trace) × So (wellFormed t) × (b ≡ fileOf t) × (Whole t → ⊥))
-  file-lost = (λ e. go (packs.readWhole b .answer) refl e, λ p. ap fileNumberIn (held.back-whole b h why.Lost 0 .1 (skipped (p .0) (p .1) (p .2) (p .3))))
+  file-lost = (λ e. go (packs.readWholeFile b .answer) refl e, λ p. ap fileNumberIn (held.back-whole b h why.Lost 0 .1 (skipped (p .0) (p .1) (p .2) (p .3))))
     where
-      go : (a : file-answer.Answer) → packs.readWhole b .answer ≡ a → fileNumberIn a ≡ LOST → (t : Trace) × So (wellFormed t) × (b ≡ fileOf t) × (Whole t → ⊥)
+      go : (a : file-answer.Answer) → packs.readWholeFile b .answer ≡ a → fileNumberIn a ≡ LOST → (t : Trace) × So (wellFormed t) × (b ≡ fileOf t) × (Whole t → ⊥)
       go told.Good q e = absurd (omega (arith, e))
       go (told.Refused r line) q e = file-case r line e (held.back-whole b h r line .0 q)

@@ -23,10 +23,10 @@ use Rattle.reader.proofs.RoundTrip.{round-trip}
 use Rattle.reader.proofs.Cases.{read-good}
 use Rattle.packed.specs.Layout.{fileOf}
 use Rattle.packed.specs.Write.{longOf, wroteOf, leftOf}
-use Rattle.packed.proofs.Laying.{file-long, places, len-fits, many-fits}
-use Rattle.desk.specs.Answers.{NO-ROOM}
-use Rattle.desk.specs.Verdict.{wide}
-use Rattle.desk.specs.Packs.{COUNT, counted, FILE, Laid, lengthIn, answerFor, bytesFor}
+use Rattle.packed.proofs.FileLaid.{file-long, places, len-fits, many-fits}
+use Rattle.desk.specs.AnswerNumbers.{NO-ROOM}
+use Rattle.desk.specs.VerdictBytes.{wide}
+use Rattle.desk.specs.Packs.{COUNT, withCount, FILE, LaidBytes, lengthIn, answerFor, bytesFor}
 
 module _ (n : ℕ) (bs b : List ℕ) where
   pub for-wrong : n ≢ 0 → (n ≡ answerFor n bs b) × (b ≡ bytesFor n bs b)
@@ -45,22 +45,22 @@ module _ (bs b : List ℕ) where
   unfolding wide
   count-long = refl
 
-  long : length (counted bs) ≡ COUNT + length bs
+  long : length (withCount bs) ≡ COUNT + length bs
   long = length-append count bs ∙ ap (λ (k : ℕ). k + length bs) count-long
 
   pub tell-short : length b < COUNT + length bs → (NO-ROOM ≡ answerFor 0 bs b) × (b ≡ bytesFor 0 bs b)
   unfolding answerFor bytesFor
-  tell-short h = ((rw (lt-leb (length (counted bs)) (length b) (omega (arith, long))) refl), sym (put-none (counted bs) b 0 (omega (arith, long))))
+  tell-short h = ((rw (lt-leb (length (withCount bs)) (length b) (omega (arith, long))) refl), sym (put-none (withCount bs) b 0 (omega (arith, long))))
 
   pub tell-done : COUNT + length bs ≤ length b → (now : List ℕ) → now ≡ putAt bs (putAt count b 0) COUNT → (0 ≡ answerFor 0 bs b) × (now ≡ bytesFor 0 bs b)
   unfolding answerFor bytesFor
   tell-done h now q = (
-    (rw (le-leb (length (counted bs)) (length b) (omega (arith, long))) refl),
+    (rw (le-leb (length (withCount bs)) (length b) (omega (arith, long))) refl),
     q ∙ ap (putAt bs (putAt count b 0)) (let z : COUNT ≡ 0 + length count = omega (arith, count-long) in z) ∙ put-then count bs b 0 (omega (arith, count-long)),
   )
 
 module _ (t : Trace) (w : So (wellFormed t)) (b : List ℕ) where
-  pub laid-file : FILE ≤ length b → (after : List ℕ) → after ≡ leftOf t b → (n : ℕ) → n ≡ lengthIn (wroteOf t b) → Laid (fileOf t) FILE after n
+  pub laid-file : FILE ≤ length b → (after : List ℕ) → after ≡ leftOf t b → (n : ℕ) → n ≡ lengthIn (wroteOf t b) → LaidBytes (fileOf t) FILE after n
   unfolding wroteOf leftOf
   laid-file h after q n e =
       let l : longOf t ≤ FILE = omega (arith, file-long t (places t w), len-fits t w, many-fits t w) in
@@ -77,7 +77,7 @@ module _ (t : Trace) (w : So (wellFormed t)) (b : List ℕ) where
   pub text-short : length (renderTrace t) ≤ TEXT
   text-short = read-good (renderTrace t) t .0 (round-trip t w) .0
 
-  pub laid-text : TEXT ≤ length b → (after : List ℕ) → after ≡ putAt (renderTrace t) b 0 → (n : ℕ) → n ≡ behind (renderTrace t) b 0 → Laid (renderTrace t) TEXT after n
+  pub laid-text : TEXT ≤ length b → (after : List ℕ) → after ≡ putAt (renderTrace t) b 0 → (n : ℕ) → n ≡ behind (renderTrace t) b 0 → LaidBytes (renderTrace t) TEXT after n
   laid-text h after q n e =
       let m : n ≡ length (renderTrace t) = omega (arith, e, behind-room (renderTrace t) b 0 (omega (arith, text-short, h))) in
       let r : after ≡ renderTrace t ++ drop (length (renderTrace t)) b = q ∙ put-front (renderTrace t) b (omega (arith, text-short, h)) in

@@ -32,13 +32,13 @@ use Rattle.trace.proofs.Good.{good}
 use Rattle.trace.proofs.Places.{pushed-len, pushed-firsts}
 use Rattle.trace.proofs.WellFormed.{form-iff}
 use Rattle.packed.specs.Layout.{RECORD, many, sizeOf, fileOf}
-use Rattle.packed.specs.Read.{numberOf}
+use Rattle.packed.specs.FileRead.{fileReasonNumber}
 use Rattle.packed.specs.declared.Reason.the-variants.{NoEntry}
 use Rattle.packed.specs.declared.Entry.{Entry}
 use Rattle.packed.specs.declared.Entry.the-variants.{Of, Nothing}
-use Rattle.packed.proofs.Laying.{file-long}
+use Rattle.packed.proofs.FileLaid.{file-long}
 use Rattle.rules.specs.Missing.{Missing}
-use Rattle.orders.proofs.Accepted.{well-fits}
+use Rattle.pairs.proofs.ValidOrders.{well-fits}
 use Rattle.session.specs.Opening.{isDone}
 use Rattle.session.specs.Closings.{Closings}
 use Rattle.session.specs.Session.{Intact}
@@ -53,27 +53,27 @@ use Rattle.session.proofs.Openings.{openable-iff}
 use Rattle.session.proofs.Joining.{joined-follows, joined-opens}
 use Rattle.session.proofs.Lasting.{act-trace}
 use Rattle.session.proofs.Promises.{waiting-lowest}
-use Rattle.desk.specs.Answers.{NO-ROOM}
-use Rattle.desk.specs.Verdict.{wide}
+use Rattle.desk.specs.AnswerNumbers.{NO-ROOM}
+use Rattle.desk.specs.VerdictBytes.{wide}
 use Rattle.desk.specs.Runs.{PLACE}
-use Rattle.desk.specs.Head.{HEAD, headOf, bytesOf}
-use Rattle.desk.specs.Kept.{sessionIn, like}
-use Rattle.desk.specs.Acts.{codeOf, answerIn, bytesIn}
+use Rattle.desk.specs.SessionHead.{SESSION-HEAD, sessionHead, sessionBytes}
+use Rattle.desk.specs.SessionBytes.{sessionIn, like}
+use Rattle.desk.specs.SessionCalls.{codeOf, answerIn, bytesIn}
 use Rattle.desk.specs.Grown.{shorter, addAnswer, addBytes, recordIn, waitingAnswer, waitingBytes}
-use Rattle.desk.proofs.Laying.{head-long}
+use Rattle.desk.proofs.HeadBytes.{head-long}
 use Rattle.desk.proofs.Keeping.{unlike-short, named-intact}
 use Rattle.desk.proofs.Acting.{answer-like, bytes-like, answer-unlike, answer-act, bytes-act, code-done, add-joins, add-done}
 
 -- what a record more leaves of lent bytes
 abbrev left : Closings → Session → Op → List ℕ → List ℕ
-left C s o b = cond (eqb (codeOf (addOf C s o .answer)) 0) (putAt (bytesOf (addOf C s o .session)) b 0) b
+left C s o b = cond (eqb (codeOf (addOf C s o .answer)) 0) (putAt (sessionBytes (addOf C s o .session)) b 0) b
 
 module _ (C : Closings) (s : Session) (o : Op) (b : List ℕ) (n : ℕ) (e : n ≡ codeOf (addOf C s o .answer)) where
   pub taken-not : n ≢ 0 → (n ≡ codeOf (addOf C s o .answer)) × (b ≡ left C s o b)
-  taken-not d = (e, sym (ap (λ (x : Bool). cond x (putAt (bytesOf (addOf C s o .session)) b 0) b) (ne-eqb _ 0 (λ z. d (e ∙ z)))))
+  taken-not d = (e, sym (ap (λ (x : Bool). cond x (putAt (sessionBytes (addOf C s o .session)) b 0) b) (ne-eqb _ 0 (λ z. d (e ∙ z)))))
 
-  pub taken-done : n ≡ 0 → (last : List ℕ) → last ≡ putAt (bytesOf (addOf C s o .session)) b 0 → (n ≡ codeOf (addOf C s o .answer)) × (last ≡ left C s o b)
-  taken-done z last q = (e, q ∙ sym (ap (λ (x : Bool). cond x (putAt (bytesOf (addOf C s o .session)) b 0) b) (eq-eqb _ 0 (sym e ∙ z))))
+  pub taken-done : n ≡ 0 → (last : List ℕ) → last ≡ putAt (sessionBytes (addOf C s o .session)) b 0 → (n ≡ codeOf (addOf C s o .answer)) × (last ≡ left C s o b)
+  taken-done z last q = (e, q ∙ sym (ap (λ (x : Bool). cond x (putAt (sessionBytes (addOf C s o .session)) b 0) b) (eq-eqb _ 0 (sym e ∙ z))))
 
 module _ (C : Closings) (b : List ℕ) where
   pub shorter-none : length b < RECORD → like C (shorter b) ≡ false
@@ -83,11 +83,11 @@ module _ (C : Closings) (b : List ℕ) where
   add-unlike n (Of o) =
       let e = answer-unlike C (shorter b) (adds o) n in
       (sym e, sym (ap (λ (k : ℕ). cond (eqb k 0) (putAt (bytesIn C (shorter b) (adds o)) b 0) b) e))
-  add-unlike n Nothing = (sym (ap (λ (x : Bool). cond x (numberOf NoEntry) (reasonNumber Unlike)) n), refl)
+  add-unlike n Nothing = (sym (ap (λ (x : Bool). cond x (fileReasonNumber NoEntry) (reasonNumber Unlike)) n), refl)
 
   module _ (l : So (like C (shorter b))) where
-    pub add-none : (numberOf NoEntry ≡ addAnswer C b Nothing) × (b ≡ addBytes C b Nothing)
-    add-none = (sym (ap (λ (x : Bool). cond x (numberOf NoEntry) (reasonNumber Unlike)) l), refl)
+    pub add-none : (fileReasonNumber NoEntry ≡ addAnswer C b Nothing) × (b ≡ addBytes C b Nothing)
+    add-none = (sym (ap (λ (x : Bool). cond x (fileReasonNumber NoEntry) (reasonNumber Unlike)) l), refl)
 
     module _ (o : Op) where
       -- the session before the last eight bytes, and what it answers
@@ -98,11 +98,11 @@ module _ (C : Closings) (b : List ℕ) where
       answers = answer-like C (shorter b) (adds o) l
 
       -- where the record is taken, the bytes of the longer session
-      lays : codeOf (addOf C here o .answer) ≡ 0 → bytesOf (addOf C here o .session) ≡ bytesIn C (shorter b) (adds o)
+      lays : codeOf (addOf C here o .answer) ≡ 0 → sessionBytes (addOf C here o .session) ≡ bytesIn C (shorter b) (adds o)
       lays z =
           let j : So (joins (here .trace) o) = sym (add-joins C (shorter b) o) ∙ code-done (addOf C here o .answer) z in
-          ap (λ (t : Trace). headOf (addOf C here o .session) ++ fileOf t) (act-trace C here (named-intact C (shorter b)) (adds o) ∙ ap (λ (x : Bool). cond x (pushed (here .trace) o) (here .trace)) j)
-          ∙ sym (bytes-like C (shorter b) (adds o) l ∙ ap (λ (x : Bool). headOf (addOf C here o .session) ++ cond x (fileOf (pushed (here .trace) o)) (drop HEAD (shorter b))) j)
+          ap (λ (t : Trace). sessionHead (addOf C here o .session) ++ fileOf t) (act-trace C here (named-intact C (shorter b)) (adds o) ∙ ap (λ (x : Bool). cond x (pushed (here .trace) o) (here .trace)) j)
+          ∙ sym (bytes-like C (shorter b) (adds o) l ∙ ap (λ (x : Bool). sessionHead (addOf C here o .session) ++ cond x (fileOf (pushed (here .trace) o)) (drop SESSION-HEAD (shorter b))) j)
 
       pub add-of : (s : Session) → s ≡ here → (n : ℕ) (last : List ℕ) → (n ≡ codeOf (addOf C s o .answer)) × (last ≡ left C s o b) → (n ≡ addAnswer C b (Of o)) × (last ≡ addBytes C b (Of o))
       add-of s e n last p = (p .0 ∙ ap (λ (x : Session). codeOf (addOf C x o .answer)) e ∙ sym answers, p .1 ∙ ap (λ (x : Session). left C x o b) e ∙ same)
@@ -110,11 +110,11 @@ module _ (C : Closings) (b : List ℕ) where
           same : left C here o b ≡ addBytes C b (Of o)
           same = elim (eq? (codeOf (addOf C here o .answer)) 0) [
             | inl z ↦
-                ap (λ (x : Bool). cond x (putAt (bytesOf (addOf C here o .session)) b 0) b) (eq-eqb _ 0 z)
+                ap (λ (x : Bool). cond x (putAt (sessionBytes (addOf C here o .session)) b 0) b) (eq-eqb _ 0 z)
                 ∙ ap (λ (w : List ℕ). putAt w b 0) (lays z)
                 ∙ sym (ap (λ (x : Bool). cond x (putAt (bytesIn C (shorter b) (adds o)) b 0) b) (eq-eqb _ 0 (answers ∙ z)))
             | inr d ↦
-                ap (λ (x : Bool). cond x (putAt (bytesOf (addOf C here o .session)) b 0) b) (ne-eqb _ 0 d)
+                ap (λ (x : Bool). cond x (putAt (sessionBytes (addOf C here o .session)) b 0) b) (ne-eqb _ 0 d)
                 ∙ sym (ap (λ (x : Bool). cond x (putAt (bytesIn C (shorter b) (adds o)) b 0) b) (ne-eqb _ 0 (λ z. d (sym answers ∙ z))))
           ]
 
@@ -131,30 +131,30 @@ file-pushed t o w w′ room =
 module _ (C : Closings) (s : Session) (i : Intact C s) (o : Op) (x : List ℕ) (l : length x ≡ RECORD) where
   -- the lent bytes
   abbrev lent : List ℕ
-  lent = bytesOf s ++ x
+  lent = sessionBytes s ++ x
 
-  shorter-own : shorter lent ≡ bytesOf s
-  shorter-own = take-at (bytesOf s) x (length lent - RECORD) (omega (arith, length-append (bytesOf s) x))
+  shorter-own : shorter lent ≡ sessionBytes s
+  shorter-own = take-at (sessionBytes s) x (length lent - RECORD) (omega (arith, length-append (sessionBytes s) x))
 
   pub grown-answer : addAnswer C lent (Of o) ≡ codeOf (addOf C s o .answer)
   grown-answer = ap (λ (b : List ℕ). answerIn C b (adds o)) shorter-own ∙ answer-act C s i (adds o)
 
-  bytes-long : (u : Session) → length (bytesOf u) ≡ HEAD + length (fileOf (u .trace))
-  bytes-long u = length-append (headOf u) (fileOf (u .trace)) ∙ ap (λ (n : ℕ). n + length (fileOf (u .trace))) (head-long u)
+  bytes-long : (u : Session) → length (sessionBytes u) ≡ SESSION-HEAD + length (fileOf (u .trace))
+  bytes-long u = length-append (sessionHead u) (fileOf (u .trace)) ∙ ap (λ (n : ℕ). n + length (fileOf (u .trace))) (head-long u)
 
-  pub grown-bytes : addOf C s o .answer ≡ Done → addBytes C lent (Of o) ≡ bytesOf (addOf C s o .session)
+  pub grown-bytes : addOf C s o .answer ≡ Done → addBytes C lent (Of o) ≡ sessionBytes (addOf C s o .session)
   unfolding addOf joins
   grown-bytes d =
       let z : codeOf (addOf C s o .answer) ≡ 0 = ap codeOf d in
       let w = openable-iff (s .trace) (s .model) .0 (i .opens) .form in
       let e : addOf C s o .session .trace ≡ pushed (s .trace) o = act-trace C s i (adds o) ∙ ap (λ (b : Bool). cond b (pushed (s .trace) o) (s .trace)) joined in
-      let n : length (bytesOf (addOf C s o .session)) ≡ length lent = bytes-long (addOf C s o .session) ∙ ap (λ (t : Trace). HEAD + length (fileOf t)) e
-      ∙ (let p = file-pushed (s .trace) o w (openable-iff (pushed (s .trace) o) (s .model) .0 (joined-opens (s .trace) o joined (s .model) (i .opens)) .form) (joined-follows (s .trace) o joined .0) in omega (arith, bytes-long s, length-append (bytesOf s) x)) in
+      let n : length (sessionBytes (addOf C s o .session)) ≡ length lent = bytes-long (addOf C s o .session) ∙ ap (λ (t : Trace). SESSION-HEAD + length (fileOf t)) e
+      ∙ (let p = file-pushed (s .trace) o w (openable-iff (pushed (s .trace) o) (s .model) .0 (joined-opens (s .trace) o joined (s .model) (i .opens)) .form) (joined-follows (s .trace) o joined .0) in omega (arith, bytes-long s, length-append (sessionBytes s) x)) in
       ap (λ (b : Bool). cond b (putAt (bytesIn C (shorter lent) (adds o)) lent 0) lent) (eq-eqb _ 0 (grown-answer ∙ z))
       ∙ ap (λ (b : List ℕ). putAt b lent 0) (ap (λ (b : List ℕ). bytesIn C b (adds o)) shorter-own ∙ bytes-act C s i (adds o))
-      ∙ put-front (bytesOf (addOf C s o .session)) lent (omega arith)
-      ∙ ap (λ (r : List ℕ). bytesOf (addOf C s o .session) ++ r) (drop-of-length-le lent {i = length (bytesOf (addOf C s o .session))} (omega arith))
-      ∙ append-nil (bytesOf (addOf C s o .session))
+      ∙ put-front (sessionBytes (addOf C s o .session)) lent (omega arith)
+      ∙ ap (λ (r : List ℕ). sessionBytes (addOf C s o .session) ++ r) (drop-of-length-le lent {i = length (sessionBytes (addOf C s o .session))} (omega arith))
+      ∙ append-nil (sessionBytes (addOf C s o .session))
     where
       joined : So (joins (s .trace) o)
       joined = add-done C s i o (ap isDone d)

@@ -18,8 +18,8 @@ use Rattle.machine.specs.Replay.{STEPS}
 use Rattle.machine.specs.declared.Steps.{Steps}
 use Rattle.machine.proofs.KeptLaws.{machined-iff}
 use Rattle.pairs.proofs.KeptPairs.{modelled-iff}
-use Rattle.desk.specs.Verdict.{wide}
-use Rattle.desk.specs.Runs.{PLACE, REPLAY, spread, hosted, Run, Replayed}
+use Rattle.desk.specs.VerdictBytes.{wide}
+use Rattle.desk.specs.Runs.{PLACE, REPLAY, spread, hosted, RunAnswered, Replayed}
 use Rattle.desk.proofs.Ranked.{ranked-one}
 use Rattle.desk.proofs.Spelling.{wide-long}
 
@@ -39,7 +39,7 @@ steps-laid s before long h =
     ∙ put-front (wide (s .len ∷ []) ++ s .steps) before (omega arith)
     ∙ ap (λ (k : ℕ). (wide (s .len ∷ []) ++ s .steps) ++ drop k before) all
 
-pub run-one : (text : List ℕ) (m : ℕ) (ss before a b : List ℕ) (r s : ℕ) → Run text m ss before a r → Run text m ss before b s → (r ≡ s) × (a ≡ b)
+pub run-one : (text : List ℕ) (m : ℕ) (ss before a b : List ℕ) (r s : ℕ) → RunAnswered text m ss before a r → RunAnswered text m ss before b s → (r ≡ s) × (a ≡ b)
 run-one text m ss before = ranked-one text (hosted m) PLACE _ before (λ r s a b p q. (p .0 ∙ sym (q .0), p .1 ∙ sym (q .1)))
 
 pub replayed-one : (text : List ℕ) (m : ℕ) (xs before a b : List ℕ) (r s : ℕ) → Replayed text m xs before a r → Replayed text m xs before b s → (r ≡ s) × (a ≡ b)

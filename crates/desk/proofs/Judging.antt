@@ -17,20 +17,20 @@ use Rattle.laws.specs.Lowest.{lowest}
 use Rattle.laws.proofs.Tests.{test, so-eq}
 use Rattle.laws.proofs.Sums.{sum-bound}
 use Rattle.trace.specs.Bounds.{RECORDS}
-use Rattle.trace.specs.Frame.{Frame}
+use Rattle.rules.specs.Frame.{Frame}
 use Rattle.trace.specs.Meaning.{frameOf}
 use Rattle.trace.specs.WellFormed.{wellFormed}
 use Rattle.trace.specs.declared.Trace.{Trace}
 use Rattle.pairs.specs.Kept.{modelled, keptOf}
 use Rattle.text.specs.Room.{putAt}
 use Rattle.text.proofs.Put.{put-front}
-use Rattle.orders.specs.Ready.{operations}
-use Rattle.orders.specs.Judged.{bad?, twice?, early?, out?, wrong?, pairOf, firstOf, judgedBy, judgedOf}
-use Rattle.orders.specs.declared.judging.Judgement.{Judgement}
-use Rattle.orders.proofs.Accepted.{well-fits}
-use Rattle.orders.proofs.Found.{lowest-at}
-use Rattle.desk.specs.Verdict.{wide}
-use Rattle.desk.specs.Judged.{JUDGEMENT, concerns, second, Judged}
+use Rattle.rules.specs.Ready.{operations}
+use Rattle.judge.specs.Judged.{bad?, twice?, early?, out?, wrong?, pairOf, firstFailing, judgedBy, judgedOf}
+use Rattle.judge.specs.declared.judging.Judgement.{Judgement}
+use Rattle.pairs.proofs.ValidOrders.{well-fits}
+use Rattle.pairs.proofs.Found.{lowest-at}
+use Rattle.desk.specs.VerdictBytes.{wide}
+use Rattle.desk.specs.JudgeCall.{JUDGEMENT, concerns, second, Judged}
 use Rattle.desk.proofs.Ranked.{ranked-one}
 
 -- both numbers of a judgement
@@ -46,7 +46,7 @@ pair-small x (some y) a b = (a, b y refl)
 pair-small x none a b = (omega arith, omega arith)
 
 first-small : (b : Bool) (i r x : Option ℕ) (y : ℕ → Option ℕ) (L : Option ℕ)
-    → (So b → Under i) → Under r → Under x → ((k : ℕ) → Under (y k)) → Under L → Small (firstOf b i r x y L)
+    → (So b → Under i) → Under r → Under x → ((k : ℕ) → Under (y k)) → Under L → Small (firstFailing b i r x y L)
 first-small false i r x y L hi hr hx hy hL = (omega arith, omega arith)
 first-small true (some i) r x y L hi hr hx hy hL = (hi refl i refl, omega arith)
 first-small true none (some r) x y L hi hr hx hy hL = (hr r refl, omega arith)

@@ -17,12 +17,12 @@ use Prim.Native.Nat.{ℕ, _+_, _*_, _-_, _/_, _%_, _<_, _≤_}
 use native.Mathlib.Omega.{arith}
 use lib.ListN.{length, getD, take, drop, take-append-drop, length-append, length-drop, List·getD-append}
 use lib.Seq.{take-all, take-at, drop-at, ext-getD}
-use Rattle.laws.specs.Warshall.{row}
+use Rattle.laws.specs.ListOf.{row}
 use Rattle.laws.proofs.Tests.{off, and-iff, same-iff, so-le, so-eq}
 use Rattle.laws.proofs.Alike.{alike-iff}
 use Rattle.laws.proofs.Rows.{row-long, row-place}
-use Rattle.packed.specs.Layout.{fileOf}
-use Rattle.packed.specs.Read.{readFile}
+use Rattle.packed.specs.Layout.{fileOf, BYTE}
+use Rattle.packed.specs.FileRead.{readFile}
 use Rattle.packed.specs.declared.Reason.the-variants.{PastBound, FirstValue, TooMany, Twice, NoFile, OtherVersion, NoEntry, Lost}
 use Rattle.packed.specs.declared.Answer.{Answer}
 use Rattle.packed.specs.declared.Answer.the-variants as told
@@ -48,48 +48,48 @@ use Rattle.session.proofs.Sessions.{intact-stands}
 use Rattle.session.proofs.Answering.{afresh-done, afresh-allows}
 use Rattle.session.proofs.Lasting.{made-intact}
 use Rattle.desk.specs.File.{fileNumberIn, fileNumber}
-use Rattle.desk.specs.Head.{BYTE, FRONT, TABLE, HEAD, numberAt, frontAt, tableAt, headOf, bytesOf}
-use Rattle.desk.specs.Kept.{fileIn, twoIn, pairIn, stackIn, madeIn, sessionIn, like, keptOf}
+use Rattle.desk.specs.SessionHead.{FRONT, TABLE, SESSION-HEAD, pairNumber, frontAt, tableAt, sessionHead, sessionBytes}
+use Rattle.desk.specs.SessionBytes.{fileIn, twoBytesIn, pairIn, stackIn, madeIn, sessionIn, like, sessionOf}
 use Rattle.desk.specs.declared.sessions.Lent.{Lent}
-use Rattle.desk.proofs.Laying.{number-first, number-second, byte-lower, byte-upper, front-model, front-count, front-pair, head-long}
+use Rattle.desk.proofs.HeadBytes.{number-first, number-second, byte-lower, byte-upper, front-model, front-count, front-pair, head-long}
 
 -- whether bytes are those of a session, and which
 abbrev both : Bool → Session → Lent
 both l s = record { like = l; session = s }
 
 -- all that stands behind the head
-pub behind : (b : List ℕ) → take (length b - HEAD) (drop HEAD b) ≡ fileIn b
-behind b = take-all (length b - HEAD) (drop HEAD b) (omega (arith, length-drop HEAD b))
+pub behind : (b : List ℕ) → take (length b - SESSION-HEAD) (drop SESSION-HEAD b) ≡ fileIn b
+behind b = take-all (length b - SESSION-HEAD) (drop SESSION-HEAD b) (omega (arith, length-drop SESSION-HEAD b))
 
 module _ (C : Closings) (b : List ℕ) where
   -- the parts of the test
   pub record Parts : Type 0 where
-    pub long : HEAD ≤ length b
+    pub long : SESSION-HEAD ≤ length b
     pub good : fileNumber (fileIn b) ≡ 0
     pub done : So (isDone (madeIn C b .answer))
-    pub head : headOf (sessionIn C b) ≡ take HEAD b
+    pub head : sessionHead (sessionIn C b) ≡ take SESSION-HEAD b
 
   pub like-parts : So (like C b) ↔ Parts
   unfolding like
   like-parts =
-      let i = and-iff (and-iff (and-iff so-le so-eq) same-iff) (alike-iff (headOf (sessionIn C b)) (take HEAD b)) in (
+      let i = and-iff (and-iff (and-iff so-le so-eq) same-iff) (alike-iff (sessionHead (sessionIn C b)) (take SESSION-HEAD b)) in (
         λ s. let p = i .0 s in record { long = p .0 .0 .0; good = p .0 .0 .1; done = p .0 .1; head = p .1 },
         λ p. i .1 (((p .long, p .good), p .done), p .head),
       )
 
-  pub like-same : So (like C b) → headOf (sessionIn C b) ++ fileIn b ≡ b
-  like-same s = ap (λ (h : List ℕ). h ++ fileIn b) (like-parts .0 s .head) ∙ take-append-drop HEAD b
+  pub like-same : So (like C b) → sessionHead (sessionIn C b) ++ fileIn b ≡ b
+  like-same s = ap (λ (h : List ℕ). h ++ fileIn b) (like-parts .0 s .head) ∙ take-append-drop SESSION-HEAD b
 
-  pub kept-like : So (like C b) → (s : Session) → s ≡ sessionIn C b → both true s ≡ keptOf C b
-  unfolding keptOf
+  pub kept-like : So (like C b) → (s : Session) → s ≡ sessionIn C b → both true s ≡ sessionOf C b
+  unfolding sessionOf
   kept-like l s e = rw l (ap (both true) e)
 
-  pub kept-unlike : like C b ≡ false → (r : Lent) → (r .like ≡ false) × (r .session ≡ blank C) → r ≡ keptOf C b
-  unfolding keptOf
+  pub kept-unlike : like C b ≡ false → (r : Lent) → (r .like ≡ false) × (r .session ≡ blank C) → r ≡ sessionOf C b
+  unfolding sessionOf
   kept-unlike n r e = rw n (ap₂ both (e .0) (e .1))
 
   -- what a function that looks at the parts in turn learns
-  pub unlike-short : length b < HEAD → like C b ≡ false
+  pub unlike-short : length b < SESSION-HEAD → like C b ≡ false
   unlike-short h = off (λ l. let g = like-parts .0 l .long in omega arith)
 
   pub unlike-file : fileNumber (fileIn b) ≢ 0 → like C b ≡ false
@@ -98,7 +98,7 @@ module _ (C : Closings) (b : List ℕ) where
   pub unlike-made : isDone (madeIn C b .answer) ≡ false → like C b ≡ false
   unlike-made n = off (λ l. false≢true (sym n ∙ like-parts .0 l .done))
 
-  pub unlike-head : (headOf (sessionIn C b) ≡ take HEAD b → ⊥) → like C b ≡ false
+  pub unlike-head : (sessionHead (sessionIn C b) ≡ take SESSION-HEAD b → ⊥) → like C b ≡ false
   unlike-head d = off (λ l. d (like-parts .0 l .head))
 
   -- what bytes name is intact, whatever they are
@@ -136,36 +136,36 @@ pub record On (C : Closings) (s : Session) (file : List ℕ) : Type 0 where
 module _ (s : Session) (file : List ℕ) where
   -- the bytes of the session
   abbrev whole : List ℕ
-  whole = headOf s ++ file
+  whole = sessionHead s ++ file
 
   pub file-again : fileIn whole ≡ file
-  file-again = drop-at (headOf s) file HEAD (head-long s)
+  file-again = drop-at (sessionHead s) file SESSION-HEAD (head-long s)
 
   front-place : (j : ℕ) → j < FRONT → getD whole j 0 ≡ frontAt s j
-  unfolding headOf
+  unfolding sessionHead
   front-place j h =
       let n = row-long (frontAt s) 0 FRONT in
-      List·getD-append (headOf s) file 0 j (omega (arith, head-long s))
+      List·getD-append (sessionHead s) file 0 j (omega (arith, head-long s))
       ∙ List·getD-append (row (frontAt s) 0 FRONT) (row (tableAt (s .held)) 0 TABLE) 0 j (omega arith)
       ∙ row-place (frontAt s) 0 FRONT j h
 
   -- two bytes of the front are a number of the pairs
-  number-again : (j : ℕ) → j < 2 * PAIRS → twoIn whole (2 + 2 * j) ≡ numberAt (s .stack) j
-  unfolding twoIn
+  number-again : (j : ℕ) → j < 2 * PAIRS → twoBytesIn whole (2 + 2 * j) ≡ pairNumber (s .stack) j
+  unfolding twoBytesIn
   number-again j h =
       let k = s .stack in
       let l : (2 + 2 * j - 2) / 2 ≡ j = omega arith in
       let u : (2 + 2 * j + 1 - 2) / 2 ≡ j = omega arith in
-      let z : numberAt k j % BYTE + BYTE * (numberAt k j / BYTE) ≡ numberAt k j = omega arith in
+      let z : pairNumber k j % BYTE + BYTE * (pairNumber k j / BYTE) ≡ pairNumber k j = omega arith in
       ap₂ (λ (x y : ℕ). x + BYTE * y)
       (front-place (2 + 2 * j) (omega arith)
       ∙ front-pair s (2 + 2 * j) (λ e. omega arith) (λ e. omega arith) (omega arith)
       ∙ byte-lower k (2 + 2 * j - 2) (omega arith)
-      ∙ ap (λ (i : ℕ). numberAt k i % BYTE) l)
+      ∙ ap (λ (i : ℕ). pairNumber k i % BYTE) l)
       (front-place (2 + 2 * j + 1) (omega arith)
       ∙ front-pair s (2 + 2 * j + 1) (λ e. omega arith) (λ e. omega arith) (omega arith)
       ∙ byte-upper k (2 + 2 * j + 1 - 2) (λ e. omega arith)
-      ∙ ap (λ (i : ℕ). numberAt k i / BYTE) u)
+      ∙ ap (λ (i : ℕ). pairNumber k i / BYTE) u)
       ∙ z
 
   pair-again : (i : ℕ) → i < PAIRS → pairIn whole i ≡ pairAt (s .stack) i
@@ -177,8 +177,8 @@ module _ (s : Session) (file : List ℕ) where
       let f : 2 + 4 * i ≡ 2 + 2 * (2 * i) = omega arith in
       let g : 4 + 4 * i ≡ 2 + 2 * (2 * i + 1) = omega arith in
       ap₂ (λ (x y : ℕ). record { first = x; second = y })
-      (ap (twoIn whole) f ∙ number-again (2 * i) (omega arith) ∙ number-first k (2 * i) (omega arith) ∙ ap (λ (j : ℕ). pairAt k j .first) e)
-      (ap (twoIn whole) g ∙ number-again (2 * i + 1) (omega arith) ∙ number-second k (2 * i + 1) (λ z. omega arith) ∙ ap (λ (j : ℕ). pairAt k j .second) o)
+      (ap (twoBytesIn whole) f ∙ number-again (2 * i) (omega arith) ∙ number-first k (2 * i) (omega arith) ∙ ap (λ (j : ℕ). pairAt k j .first) e)
+      (ap (twoBytesIn whole) g ∙ number-again (2 * i + 1) (omega arith) ∙ number-second k (2 * i + 1) (λ z. omega arith) ∙ ap (λ (j : ℕ). pairAt k j .second) o)
 
   stack-again : length (s .stack .pairs) ≡ PAIRS → stackIn whole ≡ s .stack
   unfolding stackIn
@@ -203,10 +203,10 @@ module _ (s : Session) (file : List ℕ) where
 
     pub like-again : So (like C whole)
     like-again = like-parts C whole .1 (record {
-      long = omega (arith, length-append (headOf s) file, head-long s);
+      long = omega (arith, length-append (sessionHead s) file, head-long s);
       good = ap fileNumber file-again ∙ o .good;
       done = ap (λ (r : Reply). isDone (r .answer)) made-again;
-      head = ap headOf session-again ∙ sym (take-at (headOf s) file HEAD (head-long s));
+      head = ap sessionHead session-again ∙ sym (take-at (sessionHead s) file SESSION-HEAD (head-long s));
     })
 
 -- a session's own file
@@ -225,23 +225,23 @@ module _ (C : Closings) (s : Session) (i : Intact C s) where
       let e = good-answer (readFile file) (o .good) in
       file-only file (readFile file .trace) h e .1 ∙ ap fileOf (sym (o .trace))
 
-  pub session-bytes : sessionIn C (bytesOf s) ≡ s
+  pub session-bytes : sessionIn C (sessionBytes s) ≡ s
   session-bytes = session-again s (fileOf (s .trace)) C on-own
 
-pub like-own : (C : Closings) (b : List ℕ) → Bytes b → So (like C b) → b ≡ bytesOf (sessionIn C b)
+pub like-own : (C : Closings) (b : List ℕ) → Bytes b → So (like C b) → b ≡ sessionBytes (sessionIn C b)
 like-own C b h l =
     let p = like-parts C b .0 l in
     let o : On C (sessionIn C b) (fileIn b) = record { intact = named-intact C b; good = p .good; trace = named-trace C b (p .done) } in
-    sym (like-same C b l) ∙ ap (λ (f : List ℕ). headOf (sessionIn C b) ++ f) (own-only C (sessionIn C b) (named-intact C b) (fileIn b) (bytes-drop HEAD b h) o)
+    sym (like-same C b l) ∙ ap (λ (f : List ℕ). sessionHead (sessionIn C b) ++ f) (own-only C (sessionIn C b) (named-intact C b) (fileIn b) (bytes-drop SESSION-HEAD b h) o)
 
-pub like-exactly : (C : Closings) (b : List ℕ) → Bytes b → So (like C b) ↔ ((s : Session) × Intact C s × (b ≡ bytesOf s))
+pub like-exactly : (C : Closings) (b : List ℕ) → Bytes b → So (like C b) ↔ ((s : Session) × Intact C s × (b ≡ sessionBytes s))
 like-exactly C b h = (
   λ l. (sessionIn C b, named-intact C b, like-own C b h l),
   λ w. subst (λ (x : List ℕ). So (like C x)) (sym (w .2)) (like-again (w .0) (fileOf (w .0 .trace)) C (on-own C (w .0) (w .1))),
 )
 
-pub bytes-one : (C : Closings) (s s′ : Session) → Intact C s → Intact C s′ → (s ≡ s′) ↔ (bytesOf s ≡ bytesOf s′)
-bytes-one C s s′ i i′ = (ap bytesOf, λ e. sym (session-bytes C s i) ∙ ap (λ (b : List ℕ). sessionIn C b) e ∙ session-bytes C s′ i′)
+pub bytes-one : (C : Closings) (s s′ : Session) → Intact C s → Intact C s′ → (s ≡ s′) ↔ (sessionBytes s ≡ sessionBytes s′)
+bytes-one C s s′ i i′ = (ap sessionBytes, λ e. sym (session-bytes C s i) ∙ ap (λ (b : List ℕ). sessionIn C b) e ∙ session-bytes C s′ i′)
 
 pub session-one : (C : Closings) (b b′ : List ℕ) → Bytes b → Bytes b′ → So (like C b) → So (like C b′) → sessionIn C b ≡ sessionIn C b′ → b ≡ b′
-session-one C b b′ h h′ l l′ e = like-own C b h l ∙ ap bytesOf e ∙ sym (like-own C b′ h′ l′)
+session-one C b b′ h h′ l l′ e = like-own C b h l ∙ ap sessionBytes e ∙ sym (like-own C b′ h′ l′)

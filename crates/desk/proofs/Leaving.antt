@@ -28,17 +28,17 @@ use Rattle.reader.specs.Whole.{readWhole}
 use Rattle.reader.specs.TextOf.{renderTrace}
 use Rattle.reader.proofs.Whole.{whole-well}
 use Rattle.pairs.specs.Kept.{modelled, keptOf}
-use Rattle.orders.specs.Verdict.{Verdict, noSource, circle, order, noneLeft, Says}
-use Rattle.orders.proofs.Accepted.{well-fits}
+use Rattle.rules.specs.Verdict.{Verdict, noSource, circle, order, noneLeft, Says}
+use Rattle.pairs.proofs.ValidOrders.{well-fits}
 use Rattle.parts.proofs.Alike.{picked-few}
 use Rattle.report.specs.Bounds.{RENDER}
-use Rattle.smaller.specs.Smaller.{By, Told}
+use Rattle.smaller.specs.Smaller.{By, ToldSmaller}
 use Rattle.smaller.specs.declared.Smaller.{Smaller}
-use Rattle.smaller.proofs.One.{told-one}
-use Rattle.desk.specs.Answers.{NO-ROOM}
-use Rattle.desk.specs.Text.{numberOf}
-use Rattle.desk.specs.Verdict.{wide}
-use Rattle.desk.specs.Cuts.{LEFT, smallerNumber, heading, leftBytes, Answered}
+use Rattle.smaller.proofs.Unique.{told-one}
+use Rattle.desk.specs.AnswerNumbers.{NO-ROOM}
+use Rattle.desk.specs.Text.{textNumber}
+use Rattle.desk.specs.VerdictBytes.{wide}
+use Rattle.desk.specs.Cuts.{LEFT, smallerNumber, heading, leftBytes, CutAnswered}
 use Rattle.desk.proofs.Ranked.{ranked-says, ranked-one}
 use Rattle.desk.proofs.Spelling.{wide-long}
 
@@ -81,7 +81,7 @@ module _ (m : ℕ) (t : Trace) (w : So (wellFormed t)) where
   by-few (order xs) h s e = rw e (omega arith)
   by-few noneLeft h s (A, l, e) = rw e (omega (arith, picked-few t A (t .len), well-fits t w))
 
-  pub heading-few : (s : Smaller) → Told t m s → Few s
+  pub heading-few : (s : Smaller) → ToldSmaller t m s → Few s
   heading-few s h = elim (test (modelled m)) [
     | inl k ↦ let (v, q, b) = h .says k w in by-few v q s b
     | inr k ↦ rw (h .nine k) (omega arith)
@@ -97,19 +97,19 @@ left-laid a b ns lines before long h =
     ∙ ap (putAt lines (putAt (wide (a ∷ b ∷ ns)) before 0)) (let e : LEFT ≡ 0 + length (wide (a ∷ b ∷ ns)) = omega arith in e)
     ∙ put-then (wide (a ∷ b ∷ ns)) lines before 0 (omega arith)
 
-pub left-said : (text : List ℕ) (m : ℕ) (before : List ℕ) → numberOf text ≡ 0 → So (modelled m) → (s : Smaller) → Told (readWhole text .trace) m s → (after : List ℕ) (r : ℕ)
-    → r ≡ cond (hasRoom (leftBytes s) before 0) (smallerNumber (s .answer)) NO-ROOM → after ≡ putAt (leftBytes s) before 0 → Answered text m before after r
+pub left-said : (text : List ℕ) (m : ℕ) (before : List ℕ) → textNumber text ≡ 0 → So (modelled m) → (s : Smaller) → ToldSmaller (readWhole text .trace) m s → (after : List ℕ) (r : ℕ)
+    → r ≡ cond (hasRoom (leftBytes s) before 0) (smallerNumber (s .answer)) NO-ROOM → after ≡ putAt (leftBytes s) before 0 → CutAnswered text m before after r
 left-said text m before z k s told after r e d = ranked-says text m 0 _ before z k (omega arith) after r (s, told, e, d)
 
-pub smaller-one : (text : List ℕ) (m : ℕ) (before a b : List ℕ) (r s : ℕ) → Answered text m before a r → Answered text m before b s → (r ≡ s) × (a ≡ b)
+pub smaller-one : (text : List ℕ) (m : ℕ) (before a b : List ℕ) (r s : ℕ) → CutAnswered text m before a r → CutAnswered text m before b s → (r ≡ s) × (a ≡ b)
 smaller-one text m before = ranked-one text m 0 _ before (λ r s a b p q. one p q)
   where
     t : Trace
     t = readWhole text .trace
 
     one : {r s : ℕ} {a b : List ℕ}
-        → (x : Smaller) × Told t m x × (r ≡ cond (hasRoom (leftBytes x) before 0) (smallerNumber (x .answer)) NO-ROOM) × (a ≡ putAt (leftBytes x) before 0)
-        → (x : Smaller) × Told t m x × (s ≡ cond (hasRoom (leftBytes x) before 0) (smallerNumber (x .answer)) NO-ROOM) × (b ≡ putAt (leftBytes x) before 0)
+        → (x : Smaller) × ToldSmaller t m x × (r ≡ cond (hasRoom (leftBytes x) before 0) (smallerNumber (x .answer)) NO-ROOM) × (a ≡ putAt (leftBytes x) before 0)
+        → (x : Smaller) × ToldSmaller t m x × (s ≡ cond (hasRoom (leftBytes x) before 0) (smallerNumber (x .answer)) NO-ROOM) × (b ≡ putAt (leftBytes x) before 0)
         → (r ≡ s) × (a ≡ b)
     one (x, p, e, f) (y, q, i, j) =
         let same = told-one t m x y p q in (

@@ -6,7 +6,7 @@ pub mod Judging
 pub mod Papering
 pub mod Hosted
 pub mod Leaving
-pub mod Laying
+pub mod HeadBytes
 pub mod Tabled
 pub mod Keeping
 pub mod Acting
@@ -15,8 +15,9 @@ pub mod Opens
 pub mod Packing
 pub mod Counted
 pub mod Cores
-pub mod Heard
+pub mod ReadBack
 pub mod Sourceless
 pub mod Signing
 pub mod Nightly
-pub mod One
+pub mod Unique
+pub mod VerdictReadBack

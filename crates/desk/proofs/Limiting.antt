@@ -21,18 +21,18 @@ use Rattle.text.proofs.Put.{put-front, put-then}
 use Rattle.reader.specs.Whole.{readWhole}
 use Rattle.reader.proofs.Whole.{whole-well}
 use Rattle.pairs.specs.Kept.{modelled, keptOf}
-use Rattle.orders.specs.Verdict as verdict
-use Rattle.verdict.specs.Told as full
+use Rattle.rules.specs.Verdict as verdict
+use Rattle.verdict.specs.VerdictOf as full
 use Rattle.verdict.specs.declared.Verdict.{Verdict}
 use Rattle.plain.specs.Limited as said
 use Rattle.plain.proofs.Limited.{limits-one}
-use Rattle.limited.specs.Told.{laid, Told}
+use Rattle.limited.specs.LimitedVerdict.{laidLimit, ToldLimited}
 use Rattle.limited.specs.declared.Limit.{Limit}
-use Rattle.desk.specs.Answers.{answerTo, outcomeNumber}
-use Rattle.desk.specs.Text.{numberOf}
-use Rattle.desk.specs.Verdict.{VERDICT, wide, bytesOf}
-use Rattle.desk.specs.Spelled.{lacking, spelled, laidOut}
-use Rattle.desk.specs.Limits.{LIMITED, eight, answerAt, verdictIn, countIn, bytesAt, limitNumber, shown, Answered}
+use Rattle.desk.specs.AnswerNumbers.{answerTo, outcomeNumber}
+use Rattle.desk.specs.Text.{textNumber}
+use Rattle.desk.specs.VerdictBytes.{VERDICT, wide, verdictBytes}
+use Rattle.desk.specs.inner.SpelledVerdict.{lacking, spelled, laidOut}
+use Rattle.desk.specs.Limits.{LIMITED, eight, answerAt, verdictIn, countIn, bytesAt, limitNumber, shown, LimitAnswered}
 use Rattle.desk.proofs.Ranked.{ranked-says, ranked-one}
 use Rattle.desk.proofs.Spelling.{wide-long, below, spelled-laid, answer-laid}
 
@@ -41,11 +41,11 @@ unfolding eight wide
 eight-long n = refl
 
 module _ (m : ℕ) (t : Trace) (w : So (wellFormed t)) where
-  below-at : (l : ℕ) (a : said.Limited) → said.Limits (frameOf t) (keptOf m t) l a → lacking (shown (laid a) .outcome) < RECORDS
+  below-at : (l : ℕ) (a : said.Limited) → said.Limits (frameOf t) (keptOf m t) l a → lacking (shown (laidLimit a) .outcome) < RECORDS
   below-at l (said.decided v n) s = below m t w v (s .0)
   below-at l (said.undecided n) s = omega arith
 
-  pub shown-below : (l : ℕ) (r : Limit) → Told t m l r → lacking (shown r .outcome) < RECORDS
+  pub shown-below : (l : ℕ) (r : Limit) → ToldLimited t m l r → lacking (shown r .outcome) < RECORDS
   shown-below l r h = elim (test (modelled m)) [
     | inl k ↦ let (a, s, e) = h .says k w in rw e (below-at l a s)
     | inr k ↦ rw (h .nine k) (omega arith)
@@ -63,20 +63,20 @@ laid-behind word before n l h =
     ∙ ap (λ (k : ℕ). (word ++ eight n) ++ drop k before) all
 
 -- of what is laid, its number, its bytes and its count
-number-at : (a : said.Limited) → limitNumber (laid a .outcome) ≡ answerAt a
+number-at : (a : said.Limited) → limitNumber (laidLimit a .outcome) ≡ answerAt a
 number-at (said.decided v n) = answer-laid v
 number-at (said.undecided n) = refl
 
-bytes-at : (a : said.Limited) → laidOut (spelled (shown (laid a))) ≡ bytesOf (verdictIn a)
+bytes-at : (a : said.Limited) → laidOut (spelled (shown (laidLimit a))) ≡ verdictBytes (verdictIn a)
 bytes-at (said.decided v n) = spelled-laid v
 bytes-at (said.undecided n) = spelled-laid verdict.noneLeft
 
-count-at : (a : said.Limited) → laid a .steps ≡ countIn a
+count-at : (a : said.Limited) → laidLimit a .steps ≡ countIn a
 count-at (said.decided v n) = refl
 count-at (said.undecided n) = refl
 
-pub limited-good : (text : List ℕ) (m l : ℕ) (before : List ℕ) → numberOf text ≡ 0 → So (modelled m) → LIMITED ≤ length before → (r : Limit) → Told (readWhole text .trace) m l r
-    → Answered text m l before ((laidOut (spelled (shown r)) ++ eight (r .steps)) ++ drop LIMITED before) (limitNumber (r .outcome))
+pub limited-good : (text : List ℕ) (m l : ℕ) (before : List ℕ) → textNumber text ≡ 0 → So (modelled m) → LIMITED ≤ length before → (r : Limit) → ToldLimited (readWhole text .trace) m l r
+    → LimitAnswered text m l before ((laidOut (spelled (shown r)) ++ eight (r .steps)) ++ drop LIMITED before) (limitNumber (r .outcome))
 limited-good text m l before z k h r t =
     let (a, s, e) = t .says k (whole-well text) in
     ranked-says text m LIMITED _ before z k h _ _ (
@@ -84,11 +84,11 @@ limited-good text m l before z k h r t =
       s,
       ap (λ (r : Limit). limitNumber (r .outcome)) e ∙ number-at a,
       ap (λ (r : Limit). (laidOut (spelled (shown r)) ++ eight (r .steps)) ++ drop LIMITED before) e
-          ∙ ap (λ (bytes : List ℕ). (bytes ++ eight (laid a .steps)) ++ drop LIMITED before) (bytes-at a)
-          ∙ ap (λ (n : ℕ). (bytesOf (verdictIn a) ++ eight n) ++ drop LIMITED before) (count-at a),
+          ∙ ap (λ (bytes : List ℕ). (bytes ++ eight (laidLimit a .steps)) ++ drop LIMITED before) (bytes-at a)
+          ∙ ap (λ (n : ℕ). (verdictBytes (verdictIn a) ++ eight n) ++ drop LIMITED before) (count-at a),
     )
 
-pub limited-one : (text : List ℕ) (m l : ℕ) (before a b : List ℕ) (r s : ℕ) → Answered text m l before a r → Answered text m l before b s → (r ≡ s) × (a ≡ b)
+pub limited-one : (text : List ℕ) (m l : ℕ) (before a b : List ℕ) (r s : ℕ) → LimitAnswered text m l before a r → LimitAnswered text m l before b s → (r ≡ s) × (a ≡ b)
 limited-one text m l before = ranked-one text m LIMITED _ before (λ r s a b p q. one p q)
   where
     t : Trace

@@ -17,8 +17,8 @@ use Rattle.trace.specs.declared.Trace.{Trace}
 use Rattle.reader.specs.Whole.{readWhole}
 use Rattle.night.specs.Night.{Nights}
 use Rattle.night.specs.declared.Answer.{Answer}
-use Rattle.night.proofs.One.{nights-one}
-use Rattle.desk.specs.Text.{numberOf}
+use Rattle.night.proofs.Unique.{nights-one}
+use Rattle.desk.specs.Text.{textNumber}
 use Rattle.desk.specs.Signed.{withPlace}
 use Rattle.desk.specs.Nights.{PLACES, RUNS, withRun, nightCode, Nighted}
 
@@ -40,14 +40,14 @@ place-low n k h = go (ltb k RECORDS) refl
     go false e = omega arith
 
 module _ (text : List ℕ) (m : ℕ) (ws before : List ℕ) where
-  pub night-wrong : 0 < numberOf text → (r : ℕ) → r ≡ numberOf text → Nighted text m ws before before r
+  pub night-wrong : 0 < textNumber text → (r : ℕ) → r ≡ textNumber text → Nighted text m ws before before r
   night-wrong h r e = record { wrong = λ _. (e, refl); good = λ z. absurd (omega (arith, z)) }
 
-  pub night-good : numberOf text ≡ 0 → (t : Trace) → t ≡ readWhole text .trace → (after : List ℕ) (a : Answer) → Nights t m ws before after a → (r : ℕ) → r ≡ nightCode a → Nighted text m ws before after r
+  pub night-good : textNumber text ≡ 0 → (t : Trace) → t ≡ readWhole text .trace → (after : List ℕ) (a : Answer) → Nights t m ws before after a → (r : ℕ) → r ≡ nightCode a → Nighted text m ws before after r
   night-good z t e after a p r c = record { wrong = λ h. absurd (omega (arith, z)); good = λ _. (a, subst (λ (t : Trace). Nights t m ws before after a) e p, c) }
 
   pub nighted-one : (a b : List ℕ) (r s : ℕ) → Nighted text m ws before a r → Nighted text m ws before b s → (r ≡ s) × (a ≡ b)
-  nighted-one a b r s p q = elim (eq? (numberOf text) 0) [
+  nighted-one a b r s p q = elim (eq? (textNumber text) 0) [
     | inl z ↦
         let (x, u, e) = p .good z in
         let (y, v, f) = q .good z in

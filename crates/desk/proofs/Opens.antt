@@ -27,8 +27,8 @@ use Rattle.packed.specs.declared.Reason.the-variants as reason
 use Rattle.packed.specs.declared.Answer as packed
 use Rattle.packed.specs.declared.Answer.the-variants as unpacked
 use Rattle.packed.proofs.Codec.{Bytes}
-use Rattle.packed.proofs.Whole as files
-use Rattle.packed.specs.Whole as whole
+use Rattle.packed.proofs.WholeFile as files
+use Rattle.packed.specs.WholeFile as whole
 use Rattle.trace.specs.WellFormed.{wellFormed}
 use Rattle.trace.specs.declared.Trace.{Trace}
 use Rattle.reader.specs.Whole.{readWhole}
@@ -42,21 +42,21 @@ use Rattle.session.specs.Closings.{Closings}
 use Rattle.session.specs.Session.{afresh, Intact, blank}
 use Rattle.session.specs.Entries.{openOf}
 use Rattle.session.specs.Numbers.{Act}
-use Rattle.session.specs.Calls.{after, recordedAfter, standingAfter, supposeAll}
+use Rattle.session.specs.Calls.{sessionAfter, recordedAfter, standingAfter, supposeAll}
 use Rattle.session.specs.declared.Reason.the-variants.{NoModel}
 use Rattle.session.specs.declared.Answer.the-variants.{Done, Refused}
 use Rattle.session.specs.declared.Session.{Session}
 use Rattle.session.proofs.Openings.{opening-nine, opening-asks}
 use Rattle.session.proofs.Standing.{opened, after-opened, after-again}
 use Rattle.session.proofs.Lasting.{blank-intact, opened-intact}
-use Rattle.desk.specs.Answers.{NO-ROOM}
-use Rattle.desk.specs.Text.{numberIn, numberOf}
-use Rattle.desk.specs.Head.{HEAD, headOf, bytesOf}
-use Rattle.desk.specs.Acts.{codeOf, bytesAfter}
+use Rattle.desk.specs.AnswerNumbers.{NO-ROOM}
+use Rattle.desk.specs.Text.{numberIn, textNumber}
+use Rattle.desk.specs.SessionHead.{SESSION-HEAD, sessionHead, sessionBytes}
+use Rattle.desk.specs.SessionCalls.{codeOf, bytesAfter}
 use Rattle.desk.specs.File.{fileNumberIn}
 use Rattle.desk.specs.Packs.{wholeNumber, wholeTrace}
-use Rattle.desk.specs.Opened.{roomy, openNumber, openSession, openAnswer, openBytes}
-use Rattle.desk.proofs.Laying.{head-long}
+use Rattle.desk.specs.OpenedBytes.{roomToOpen, openNumber, openSession, openAnswer, openBytes}
+use Rattle.desk.proofs.HeadBytes.{head-long}
 use Rattle.desk.proofs.Acting.{bytes-after, code-done}
 
 module _ (n : ℕ) (trace : Trace) (m : ℕ) where
@@ -99,20 +99,20 @@ module _ (n : ℕ) (trace : Trace) (m : ℕ) where
 
     module _ (z : openNumber n trace m ≡ 0) (C : Closings) where
       -- room for the session is room for a head and the file
-      same-room : leb (length (bytesOf (openSession C n trace m))) (length b) ≡ roomy trace b
+      same-room : leb (length (sessionBytes (openSession C n trace m))) (length b) ≡ roomToOpen trace b
       same-room =
           let s = openSession C n trace m in
-          ap (λ (n : ℕ). leb n (length b)) (length-append (headOf s) (fileOf (s .trace)) ∙ ap₂ (λ (n : ℕ) (t : Trace). n + length (fileOf t)) (head-long s) (opened-trace z C))
+          ap (λ (n : ℕ). leb n (length b)) (length-append (sessionHead s) (fileOf (s .trace)) ∙ ap₂ (λ (n : ℕ) (t : Trace). n + length (fileOf t)) (head-long s) (opened-trace z C))
 
-      pub open-done : So (leb (length (bytesOf (openSession C n trace m))) (length b)) → openAnswer n trace m b ≡ 0
+      pub open-done : So (leb (length (sessionBytes (openSession C n trace m))) (length b)) → openAnswer n trace m b ≡ 0
       unfolding openAnswer
-      open-done r = let y : So (roomy trace b) = sym same-room ∙ r in rw (eq-eqb (openNumber n trace m) 0 z, y) refl
+      open-done r = let y : So (roomToOpen trace b) = sym same-room ∙ r in rw (eq-eqb (openNumber n trace m) 0 z, y) refl
 
-      pub no-room : leb (length (bytesOf (openSession C n trace m))) (length b) ≡ false → openAnswer n trace m b ≡ NO-ROOM
+      pub no-room : leb (length (sessionBytes (openSession C n trace m))) (length b) ≡ false → openAnswer n trace m b ≡ NO-ROOM
       unfolding openAnswer
-      no-room r = let y : roomy trace b ≡ false = sym same-room ∙ r in rw (eq-eqb (openNumber n trace m) 0 z, y) refl
+      no-room r = let y : roomToOpen trace b ≡ false = sym same-room ∙ r in rw (eq-eqb (openNumber n trace m) 0 z, y) refl
 
-    module _ (C : Closings) (g : n ≡ 0) (o : So (openable trace m)) (l : length b ≡ HEAD + length (fileOf trace)) where
+    module _ (C : Closings) (g : n ≡ 0) (o : So (openable trace m)) (l : length b ≡ SESSION-HEAD + length (fileOf trace)) where
       -- the opened session, and its trace
       abbrev first : Session
       first = openOf C trace m .session
@@ -121,25 +121,25 @@ module _ (n : ℕ) (trace : Trace) (m : ℕ) where
       unfolding afresh
       on-trace = ap (λ (s : Session). s .trace) (opened C trace m o)
 
-      pub opened-bytes : openBytes C n trace m b ≡ bytesOf first
+      pub opened-bytes : openBytes C n trace m b ≡ sessionBytes first
       unfolding openBytes
       opened-bytes =
-          let k : length (bytesOf first) ≡ length b = length-append (headOf first) (fileOf (first .trace)) ∙ ap₂ (λ (n : ℕ) (t : Trace). n + length (fileOf t)) (head-long first) on-trace ∙ sym l in
-          ap (λ (s : Session). putAt (bytesOf s) b 0) (good-session g C)
-          ∙ put-front (bytesOf first) b (omega arith)
-          ∙ ap (λ (r : List ℕ). bytesOf first ++ r) (drop-of-length-le b {i = length (bytesOf first)} (omega arith))
-          ∙ append-nil (bytesOf first)
+          let k : length (sessionBytes first) ≡ length b = length-append (sessionHead first) (fileOf (first .trace)) ∙ ap₂ (λ (n : ℕ) (t : Trace). n + length (fileOf t)) (head-long first) on-trace ∙ sym l in
+          ap (λ (s : Session). putAt (sessionBytes s) b 0) (good-session g C)
+          ∙ put-front (sessionBytes first) b (omega arith)
+          ∙ ap (λ (r : List ℕ). sessionBytes first ++ r) (drop-of-length-le b {i = length (sessionBytes first)} (omega arith))
+          ∙ append-nil (sessionBytes first)
 
-      run : (cs : List Act) → bytesAfter C (openBytes C n trace m b) cs ≡ bytesOf (after C first cs)
+      run : (cs : List Act) → bytesAfter C (openBytes C n trace m b) cs ≡ sessionBytes (sessionAfter C first cs)
       run cs = ap (λ (x : List ℕ). bytesAfter C x cs) opened-bytes ∙ bytes-after C cs first (opened-intact C trace m)
 
-      pub after-bytes : (cs : List Act) → bytesAfter C (openBytes C n trace m b) cs ≡ bytesOf (afresh C (recordedAfter trace cs) m (standingAfter trace [] cs))
-      after-bytes cs = run cs ∙ ap bytesOf (after-opened C trace m o cs)
+      pub after-bytes : (cs : List Act) → bytesAfter C (openBytes C n trace m b) cs ≡ sessionBytes (afresh C (recordedAfter trace cs) m (standingAfter trace [] cs))
+      after-bytes cs = run cs ∙ ap sessionBytes (after-opened C trace m o cs)
 
-      pub again-bytes : (cs : List Act) → bytesAfter C (openBytes C n trace m b) cs ≡ bytesAfter C (bytesOf (openOf C (recordedAfter trace cs) m .session)) (supposeAll (standingAfter trace [] cs))
+      pub again-bytes : (cs : List Act) → bytesAfter C (openBytes C n trace m b) cs ≡ bytesAfter C (sessionBytes (openOf C (recordedAfter trace cs) m .session)) (supposeAll (standingAfter trace [] cs))
       again-bytes cs =
           let u = recordedAfter trace cs in
-          run cs ∙ ap bytesOf (after-again C trace m o cs) ∙ sym (bytes-after C (supposeAll (standingAfter trace [] cs)) (openOf C u m .session) (opened-intact C u m))
+          run cs ∙ ap sessionBytes (after-again C trace m o cs) ∙ sym (bytes-after C (supposeAll (standingAfter trace [] cs)) (openOf C u m .session) (opened-intact C u m))
 
 -- a trace that was read is well formed, so that 10 never comes
 well-ten : (t : Trace) (m : ℕ) → So (wellFormed t) → codeOf (openingOf t m) ≡ 10 → ⊥
@@ -151,8 +151,8 @@ well-ten t m w e = elim (test (modelled m)) [
 ten : (n : ℕ) (t : Trace) (m : ℕ) → So (wellFormed t) → (n ≡ 10 → ⊥) → openNumber n t m ≢ 10
 ten n t m w h z = elim (eq? n 0) [ inl g ↦ well-ten t m w (sym (good-number n t m g) ∙ z) | inr d ↦ h (sym (bad-number n t m d) ∙ z) ]
 
-pub never-ten : (text : List ℕ) (m : ℕ) → openNumber (numberOf text) (readWhole text .trace) m ≢ 10
-never-ten text m = ten (numberOf text) (readWhole text .trace) m (whole-well text) (bad-ten (readWhole text .answer))
+pub never-ten : (text : List ℕ) (m : ℕ) → openNumber (textNumber text) (readWhole text .trace) m ≢ 10
+never-ten text m = ten (textNumber text) (readWhole text .trace) m (whole-well text) (bad-ten (readWhole text .answer))
   where
     bad-ten : (a : told.Answer) → numberIn a ≡ 10 → ⊥
     bad-ten turned.Good e = omega arith
@@ -168,7 +168,7 @@ never-ten text m = ten (numberOf text) (readWhole text .trace) m (whole-well tex
     bad-ten turned.Lost e = omega arith
 
 pub file-never-ten : (b : List ℕ) → Bytes b → (m : ℕ) → openNumber (wholeNumber b) (wholeTrace b) m ≢ 10
-file-never-ten b h m = ten (wholeNumber b) (wholeTrace b) m (files.whole-well b h) (bad-ten (whole.readWhole b .answer))
+file-never-ten b h m = ten (wholeNumber b) (wholeTrace b) m (files.whole-well b h) (bad-ten (whole.readWholeFile b .answer))
   where
     bad-ten : (a : packed.Answer) → fileNumberIn a ≡ 10 → ⊥
     bad-ten unpacked.Good e = omega arith

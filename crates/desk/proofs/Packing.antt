@@ -23,8 +23,8 @@ use Rattle.packed.specs.declared.Wrote.{Wrote}
 use Rattle.packed.specs.declared.Wrote.the-variants.{Length, NotWellFormed, NoRoom, Lost}
 use Rattle.session.specs.declared.Session.{Session}
 use Rattle.session.proofs.Openings.{openable-iff}
-use Rattle.desk.specs.Head.{Fit, HEAD, headOf, bytesOf}
-use Rattle.desk.proofs.Laying.{head-long}
+use Rattle.desk.specs.SessionHead.{Fit, SESSION-HEAD, sessionHead, sessionBytes}
+use Rattle.desk.proofs.HeadBytes.{head-long}
 use Rattle.desk.proofs.Keeping.{behind}
 
 abbrev pub found : Wrote → Bool
@@ -41,28 +41,28 @@ module _ (s : Session) (f : Fit s) (b : List ℕ) where
   well : So (wellFormed (s .trace))
   well = openable-iff (s .trace) (s .model) .0 (f .0) .form
 
-  long : length (bytesOf s) ≡ HEAD + length file
-  long = length-append (headOf s) file ∙ ap (λ (n : ℕ). n + length file) (head-long s)
+  long : length (sessionBytes s) ≡ SESSION-HEAD + length file
+  long = length-append (sessionHead s) file ∙ ap (λ (n : ℕ). n + length file) (head-long s)
 
-  pub placed-short : length b < HEAD → (false ≡ leb (length (bytesOf s)) (length b)) × (b ≡ putAt (bytesOf s) b 0)
-  placed-short h = (sym (lt-leb (length (bytesOf s)) (length b) (omega (arith, long))), sym (put-none (bytesOf s) b 0 (omega (arith, long))))
+  pub placed-short : length b < SESSION-HEAD → (false ≡ leb (length (sessionBytes s)) (length b)) × (b ≡ putAt (sessionBytes s) b 0)
+  placed-short h = (sym (lt-leb (length (sessionBytes s)) (length b) (omega (arith, long))), sym (put-none (sessionBytes s) b 0 (omega (arith, long))))
 
-  module _ (h : HEAD ≤ length b) where
+  module _ (h : SESSION-HEAD ≤ length b) where
     -- what is lent to the writer, and what the bytes are after it
     abbrev lent : List ℕ
-    lent = take (length b - HEAD) (drop HEAD b)
+    lent = take (length b - SESSION-HEAD) (drop SESSION-HEAD b)
 
     abbrev whole : List ℕ → List ℕ
-    whole last = take HEAD b ++ (last ++ drop (length b - HEAD) (drop HEAD b))
+    whole last = take SESSION-HEAD b ++ (last ++ drop (length b - SESSION-HEAD) (drop SESSION-HEAD b))
 
     -- nothing stands behind what is lent
-    ended : (last : List ℕ) → whole last ≡ take HEAD b ++ last
+    ended : (last : List ℕ) → whole last ≡ take SESSION-HEAD b ++ last
     ended last =
-        ap (λ (x : List ℕ). take HEAD b ++ (last ++ x)) (drop-of-length-le (drop HEAD b) {i = length b - HEAD} (omega (arith, length-drop HEAD b)))
-        ∙ ap (λ (x : List ℕ). take HEAD b ++ x) (append-nil last)
+        ap (λ (x : List ℕ). take SESSION-HEAD b ++ (last ++ x)) (drop-of-length-le (drop SESSION-HEAD b) {i = length b - SESSION-HEAD} (omega (arith, length-drop SESSION-HEAD b)))
+        ∙ ap (λ (x : List ℕ). take SESSION-HEAD b ++ x) (append-nil last)
 
-    lent-long : length lent ≡ length b - HEAD
-    lent-long = ap length (behind b) ∙ length-drop HEAD b
+    lent-long : length lent ≡ length b - SESSION-HEAD
+    lent-long = ap length (behind b) ∙ length-drop SESSION-HEAD b
 
     -- the writer finds room exactly where there is room for all
     found-room : found (wroteOf (s .trace) lent) ≡ leb (length file) (length lent)
@@ -74,25 +74,25 @@ module _ (s : Session) (f : Fit s) (b : List ℕ) where
         go false = refl
 
     module _ (r : Wrote) (e : r ≡ wroteOf (s .trace) lent) (last : List ℕ) (q : last ≡ leftOf (s .trace) lent) where
-      pub placed-none : found r ≡ false → (false ≡ leb (length (bytesOf s)) (length b)) × (whole last ≡ putAt (bytesOf s) b 0)
+      pub placed-none : found r ≡ false → (false ≡ leb (length (sessionBytes s)) (length b)) × (whole last ≡ putAt (sessionBytes s) b 0)
       unfolding leftOf
       placed-none n =
           let z : leb (length file) (length lent) ≡ false = sym found-room ∙ ap found (sym e) ∙ n in
-          let g : length b < HEAD + length file = elim (decLt (length b) (HEAD + length file)) [ yes k ↦ k | no k ↦ absurd (false≢true (sym z ∙ le-leb (length file) (length lent) (omega (arith, lent-long)))) ] in
+          let g : length b < SESSION-HEAD + length file = elim (decLt (length b) (SESSION-HEAD + length file)) [ yes k ↦ k | no k ↦ absurd (false≢true (sym z ∙ le-leb (length file) (length lent) (omega (arith, lent-long)))) ] in
           let stays : last ≡ lent = q ∙ (rw (well, z) refl) in (
-            sym (lt-leb (length (bytesOf s)) (length b) (omega (arith, long))),
-            ap whole stays ∙ ended lent ∙ ap (λ (x : List ℕ). take HEAD b ++ x) (behind b) ∙ take-append-drop HEAD b ∙ sym (put-none (bytesOf s) b 0 (omega (arith, long))),
+            sym (lt-leb (length (sessionBytes s)) (length b) (omega (arith, long))),
+            ap whole stays ∙ ended lent ∙ ap (λ (x : List ℕ). take SESSION-HEAD b ++ x) (behind b) ∙ take-append-drop SESSION-HEAD b ∙ sym (put-none (sessionBytes s) b 0 (omega (arith, long))),
           )
 
-      pub placed-done : found r ≡ true → (now : List ℕ) → now ≡ headOf s ++ drop HEAD (whole last) → (true ≡ leb (length (bytesOf s)) (length b)) × (now ≡ putAt (bytesOf s) b 0)
+      pub placed-done : found r ≡ true → (now : List ℕ) → now ≡ sessionHead s ++ drop SESSION-HEAD (whole last) → (true ≡ leb (length (sessionBytes s)) (length b)) × (now ≡ putAt (sessionBytes s) b 0)
       unfolding leftOf
       placed-done y now p =
           let z : leb (length file) (length lent) ≡ true = sym found-room ∙ ap found (sym e) ∙ y in
           let k : length file ≤ length lent = so-le .0 z in
-          let g : HEAD + length file ≤ length b = omega (arith, lent-long) in
+          let g : SESSION-HEAD + length file ≤ length b = omega (arith, lent-long) in
           let left : last ≡ file ++ drop (length file) lent = q ∙ (rw (well, z) refl) in
-          let rest : drop (length file) lent ≡ drop (length (bytesOf s)) b = ap (drop (length file)) (behind b) ∙ drop-drop (length file) HEAD b ∙ ap (λ (n : ℕ). drop n b) (sym long) in
-          let tail : drop HEAD (whole last) ≡ file ++ drop (length (bytesOf s)) b = ap (drop HEAD) (ended last) ∙ drop-at (take HEAD b) last HEAD (length-take-le HEAD b h) ∙ left ∙ ap (λ (x : List ℕ). file ++ x) rest in (
-            sym (le-leb (length (bytesOf s)) (length b) (omega (arith, long))),
-            p ∙ ap (λ (x : List ℕ). headOf s ++ x) tail ∙ sym (append-assoc (headOf s) file (drop (length (bytesOf s)) b)) ∙ sym (put-front (bytesOf s) b (omega (arith, long))),
+          let rest : drop (length file) lent ≡ drop (length (sessionBytes s)) b = ap (drop (length file)) (behind b) ∙ drop-drop (length file) SESSION-HEAD b ∙ ap (λ (n : ℕ). drop n b) (sym long) in
+          let tail : drop SESSION-HEAD (whole last) ≡ file ++ drop (length (sessionBytes s)) b = ap (drop SESSION-HEAD) (ended last) ∙ drop-at (take SESSION-HEAD b) last SESSION-HEAD (length-take-le SESSION-HEAD b h) ∙ left ∙ ap (λ (x : List ℕ). file ++ x) rest in (
+            sym (le-leb (length (sessionBytes s)) (length b) (omega (arith, long))),
+            p ∙ ap (λ (x : List ℕ). sessionHead s ++ x) tail ∙ sym (append-assoc (sessionHead s) file (drop (length (sessionBytes s)) b)) ∙ sym (put-front (sessionBytes s) b (omega (arith, long))),
           )

@@ -12,12 +12,12 @@ use native.Mathlib.Omega.{arith}
 use lib.ListN.{length}
 use Rattle.laws.proofs.Tests.{test}
 use Rattle.pairs.specs.Kept.{modelled}
-use Rattle.desk.specs.Answers.{NO-ROOM, NO-MODEL}
-use Rattle.desk.specs.Text.{numberOf}
+use Rattle.desk.specs.AnswerNumbers.{NO-ROOM, NO-MODEL}
+use Rattle.desk.specs.Text.{textNumber}
 use Rattle.desk.specs.Ranked.{Ranked}
 
 module _ (text : List ℕ) (m size : ℕ) (S : ℕ → List ℕ → Type 0) (before : List ℕ) where
-  pub ranked-wrong : 0 < numberOf text → Ranked text m size S before before (numberOf text)
+  pub ranked-wrong : 0 < textNumber text → Ranked text m size S before before (textNumber text)
   ranked-wrong w = record {
     wrong = λ _. (refl, refl);
     model = λ z. absurd (omega (arith, z));
@@ -25,7 +25,7 @@ module _ (text : List ℕ) (m size : ℕ) (S : ℕ → List ℕ → Type 0) (bef
     says = λ z. absurd (omega (arith, z));
   }
 
-  module _ (z : numberOf text ≡ 0) where
+  module _ (z : textNumber text ≡ 0) where
     pub ranked-model : modelled m ≡ false → Ranked text m size S before before NO-MODEL
     ranked-model e = record {
       wrong = λ w. absurd (omega (arith, z));
@@ -53,7 +53,7 @@ module _ (text : List ℕ) (m size : ℕ) (S : ℕ → List ℕ → Type 0) (bef
 
   pub ranked-one : ((r s : ℕ) (a b : List ℕ) → S r a → S s b → (r ≡ s) × (a ≡ b))
       → (a b : List ℕ) (r s : ℕ) → Ranked text m size S before a r → Ranked text m size S before b s → (r ≡ s) × (a ≡ b)
-  ranked-one one a b r s p q = elim (decLt 0 (numberOf text)) [
+  ranked-one one a b r s p q = elim (decLt 0 (textNumber text)) [
     | yes g ↦ both (p .wrong g) (q .wrong g)
     | no g ↦ elim (test (modelled m)) [
       | inr e ↦ both (p .model (omega arith) e) (q .model (omega arith) e)

@@ -14,9 +14,9 @@ use borrow.Author.Tests.{eq-eqb, ne-eqb, lt-ltb, le-ltb}
 use Rattle.trace.specs.Bounds.{RECORDS}
 use Rattle.trace.specs.declared.Trace.{Trace}
 use Rattle.reader.specs.Whole.{readWhole}
-use Rattle.signature.specs.Answers.{packOf, packLeft, unpackOf, unpackLeft}
-use Rattle.desk.specs.Text.{numberOf}
-use Rattle.desk.specs.Signed.{withPlace, codeOf, packCode, packAfter, unpackCode, unpackAfter}
+use Rattle.signature.specs.SignatureAnswers.{packOf, packLeft, unpackOf, unpackLeft}
+use Rattle.desk.specs.Text.{textNumber}
+use Rattle.desk.specs.Signed.{withPlace, signedCode, packCode, packAfter, unpackCode, unpackAfter}
 
 module _ (n k : ℕ) where
   pub place-yes : k < RECORDS → n + 256 * k ≡ withPlace n k
@@ -29,35 +29,35 @@ module _ (n k : ℕ) where
 
 module _ (text : List ℕ) where
   -- the test of a text that is turned back, and of a good one
-  off : 0 < numberOf text → eqb (numberOf text) 0 ≡ false
-  off h = ne-eqb (numberOf text) 0 (λ e. omega (arith, e))
+  off : 0 < textNumber text → eqb (textNumber text) 0 ≡ false
+  off h = ne-eqb (textNumber text) 0 (λ e. omega (arith, e))
 
   module _ (b : List ℕ) where
-    pub pack-wrong : 0 < numberOf text → (numberOf text ≡ packCode text (length b)) × (b ≡ packAfter text b)
+    pub pack-wrong : 0 < textNumber text → (textNumber text ≡ packCode text (length b)) × (b ≡ packAfter text b)
     unfolding packCode packAfter
     pack-wrong h = (
-      ap (λ (c : Bool). cond c (codeOf (packOf (readWhole text .trace) (length b))) (numberOf text)) (sym (off h)),
+      ap (λ (c : Bool). cond c (signedCode (packOf (readWhole text .trace) (length b))) (textNumber text)) (sym (off h)),
       ap (λ (c : Bool). cond c (packLeft (readWhole text .trace) b) b) (sym (off h)),
     )
 
-    pub pack-good : numberOf text ≡ 0 → (t : Trace) → t ≡ readWhole text .trace → (r : ℕ) (now : List ℕ) → r ≡ codeOf (packOf t (length b)) → now ≡ packLeft t b → (r ≡ packCode text (length b)) × (now ≡ packAfter text b)
+    pub pack-good : textNumber text ≡ 0 → (t : Trace) → t ≡ readWhole text .trace → (r : ℕ) (now : List ℕ) → r ≡ signedCode (packOf t (length b)) → now ≡ packLeft t b → (r ≡ packCode text (length b)) × (now ≡ packAfter text b)
     unfolding packCode packAfter
     pack-good h t e r now f g = (
-      f ∙ ap (λ (t : Trace). codeOf (packOf t (length b))) e ∙ ap (λ (c : Bool). cond c (codeOf (packOf (readWhole text .trace) (length b))) (numberOf text)) (sym (eq-eqb (numberOf text) 0 h)),
-      g ∙ ap (λ (t : Trace). packLeft t b) e ∙ ap (λ (c : Bool). cond c (packLeft (readWhole text .trace) b) b) (sym (eq-eqb (numberOf text) 0 h)),
+      f ∙ ap (λ (t : Trace). signedCode (packOf t (length b))) e ∙ ap (λ (c : Bool). cond c (signedCode (packOf (readWhole text .trace) (length b))) (textNumber text)) (sym (eq-eqb (textNumber text) 0 h)),
+      g ∙ ap (λ (t : Trace). packLeft t b) e ∙ ap (λ (c : Bool). cond c (packLeft (readWhole text .trace) b) b) (sym (eq-eqb (textNumber text) 0 h)),
     )
 
   module _ (ws b : List ℕ) where
-    pub unpack-wrong : 0 < numberOf text → (numberOf text ≡ unpackCode text ws (length b)) × (b ≡ unpackAfter text ws b)
+    pub unpack-wrong : 0 < textNumber text → (textNumber text ≡ unpackCode text ws (length b)) × (b ≡ unpackAfter text ws b)
     unfolding unpackCode unpackAfter
     unpack-wrong h = (
-      ap (λ (c : Bool). cond c (codeOf (unpackOf (readWhole text .trace) ws (length b))) (numberOf text)) (sym (off h)),
+      ap (λ (c : Bool). cond c (signedCode (unpackOf (readWhole text .trace) ws (length b))) (textNumber text)) (sym (off h)),
       ap (λ (c : Bool). cond c (unpackLeft (readWhole text .trace) ws b) b) (sym (off h)),
     )
 
-    pub unpack-good : numberOf text ≡ 0 → (t : Trace) → t ≡ readWhole text .trace → (r : ℕ) (now : List ℕ) → r ≡ codeOf (unpackOf t ws (length b)) → now ≡ unpackLeft t ws b → (r ≡ unpackCode text ws (length b)) × (now ≡ unpackAfter text ws b)
+    pub unpack-good : textNumber text ≡ 0 → (t : Trace) → t ≡ readWhole text .trace → (r : ℕ) (now : List ℕ) → r ≡ signedCode (unpackOf t ws (length b)) → now ≡ unpackLeft t ws b → (r ≡ unpackCode text ws (length b)) × (now ≡ unpackAfter text ws b)
     unfolding unpackCode unpackAfter
     unpack-good h t e r now f g = (
-      f ∙ ap (λ (t : Trace). codeOf (unpackOf t ws (length b))) e ∙ ap (λ (c : Bool). cond c (codeOf (unpackOf (readWhole text .trace) ws (length b))) (numberOf text)) (sym (eq-eqb (numberOf text) 0 h)),
-      g ∙ ap (λ (t : Trace). unpackLeft t ws b) e ∙ ap (λ (c : Bool). cond c (unpackLeft (readWhole text .trace) ws b) b) (sym (eq-eqb (numberOf text) 0 h)),
+      f ∙ ap (λ (t : Trace). signedCode (unpackOf t ws (length b))) e ∙ ap (λ (c : Bool). cond c (signedCode (unpackOf (readWhole text .trace) ws (length b))) (textNumber text)) (sym (eq-eqb (textNumber text) 0 h)),
+      g ∙ ap (λ (t : Trace). unpackLeft t ws b) e ∙ ap (λ (c : Bool). cond c (unpackLeft (readWhole text .trace) ws b) b) (sym (eq-eqb (textNumber text) 0 h)),
     )

@@ -8,13 +8,13 @@ use Prim.Native.Nat.{ℕ}
 use native.Mathlib.Omega.{arith}
 use Rattle.laws.specs.Lowest.{Lowest}
 use Rattle.laws.specs.Relation.{Table}
-use Rattle.trace.specs.Frame.{Frame}
+use Rattle.rules.specs.Frame.{Frame}
 use Rattle.trace.specs.Meaning.{frameOf}
 use Rattle.rules.specs.Missing.{Missing}
 use Rattle.pairs.specs.Kept.{keptOf}
-use Rattle.orders.specs.Verdict as said
-use Rattle.orders.proofs.Says.{verdict-one}
-use Rattle.verdict.specs.Told.{laid, Told}
+use Rattle.rules.specs.Verdict as said
+use Rattle.rules.proofs.Says.{verdict-one}
+use Rattle.verdict.specs.VerdictOf.{laid, Told}
 use Rattle.verdict.specs.declared.Outcome.{Outcome}
 use Rattle.verdict.specs.declared.Outcome.the-variants.{NoSource, Circle, Order, NoneLeft, NoModel, NotWellFormed}
 use Rattle.verdict.specs.declared.Verdict.{Verdict}

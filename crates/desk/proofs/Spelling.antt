@@ -27,17 +27,17 @@ use Rattle.reader.specs.Whole.{readWhole}
 use Rattle.reader.proofs.Whole.{whole-well}
 use Rattle.pairs.specs.Kept.{modelled, keptOf}
 use Rattle.trace.specs.Meaning.{frameOf}
-use Rattle.orders.specs.Verdict as said
-use Rattle.orders.proofs.Accepted.{well-fits}
-use Rattle.orders.proofs.Says.{verdict-one}
-use Rattle.verdict.specs.Told.{laid, Told}
+use Rattle.rules.specs.Verdict as said
+use Rattle.pairs.proofs.ValidOrders.{well-fits}
+use Rattle.rules.proofs.Says.{verdict-one}
+use Rattle.verdict.specs.VerdictOf.{laid, Told}
 use Rattle.verdict.specs.declared.Outcome.{Outcome}
 use Rattle.verdict.specs.declared.Outcome.the-variants.{NoSource, Circle, Order, NoneLeft, NoModel, NotWellFormed}
 use Rattle.verdict.specs.declared.Verdict.{Verdict}
-use Rattle.desk.specs.Answers.{answerTo, outcomeNumber}
-use Rattle.desk.specs.Text.{numberOf}
-use Rattle.desk.specs.Verdict.{VERDICT, wide, bytesOf, Answered}
-use Rattle.desk.specs.Spelled.{lacking, spelledAs, spelled, laidOut}
+use Rattle.desk.specs.AnswerNumbers.{answerTo, outcomeNumber}
+use Rattle.desk.specs.Text.{textNumber}
+use Rattle.desk.specs.VerdictBytes.{VERDICT, wide, verdictBytes, VerdictAnswered}
+use Rattle.desk.specs.inner.SpelledVerdict.{lacking, spelledAs, spelled, laidOut}
 use Rattle.desk.proofs.Ranked.{ranked-says, ranked-one}
 
 pub wide-long : (ns : List ℕ) → length (wide ns) ≡ 2 * length ns
@@ -69,8 +69,8 @@ spelled-fits v h = go (v .outcome)
     go NoModel = h
     go NotWellFormed = h
 
-pub spelled-laid : (v : said.Verdict) → laidOut (spelled (laid v)) ≡ bytesOf v
-unfolding spelled laidOut bytesOf
+pub spelled-laid : (v : said.Verdict) → laidOut (spelled (laid v)) ≡ verdictBytes v
+unfolding spelled laidOut verdictBytes
 spelled-laid (said.noSource x) = refl
 spelled-laid (said.circle c rs) = refl
 spelled-laid (said.order xs) = refl
@@ -109,8 +109,8 @@ module _ (os rs : List ℕ) (n : ℕ) (long : length os ≡ RECORDS) (long′ : 
       ∙ put-front (wide (n ∷ os) ++ rs) before (omega arith)
       ∙ ap (λ (k : ℕ). (wide (n ∷ os) ++ rs) ++ drop k before) all
 
-pub told-good : (text : List ℕ) (m : ℕ) (before : List ℕ) → numberOf text ≡ 0 → So (modelled m) → VERDICT ≤ length before → (r : Verdict) → Told (readWhole text .trace) m r
-    → Answered text m before (laidOut (spelled r) ++ drop VERDICT before) (outcomeNumber (r .outcome))
+pub told-good : (text : List ℕ) (m : ℕ) (before : List ℕ) → textNumber text ≡ 0 → So (modelled m) → VERDICT ≤ length before → (r : Verdict) → Told (readWhole text .trace) m r
+    → VerdictAnswered text m before (laidOut (spelled r) ++ drop VERDICT before) (outcomeNumber (r .outcome))
 told-good text m before z k h r t =
     let (v, s, e) = t .says k (whole-well text) in
     ranked-says text m VERDICT _ before z k h _ _ (
@@ -120,14 +120,14 @@ told-good text m before z k h r t =
       ap (λ (r : Verdict). laidOut (spelled r) ++ drop VERDICT before) e ∙ ap (λ (bytes : List ℕ). bytes ++ drop VERDICT before) (spelled-laid v),
     )
 
-pub answered-one : (text : List ℕ) (m : ℕ) (before a b : List ℕ) (r s : ℕ) → Answered text m before a r → Answered text m before b s → (r ≡ s) × (a ≡ b)
+pub answered-one : (text : List ℕ) (m : ℕ) (before a b : List ℕ) (r s : ℕ) → VerdictAnswered text m before a r → VerdictAnswered text m before b s → (r ≡ s) × (a ≡ b)
 answered-one text m before = ranked-one text m VERDICT _ before (λ r s a b p q. one p q)
   where
     t : Trace
     t = readWhole text .trace
 
-    one : {r s : ℕ} {a b : List ℕ} → (v : said.Verdict) × said.Says (frameOf t) (keptOf m t) v × (r ≡ answerTo v) × (a ≡ bytesOf v ++ drop VERDICT before)
-        → (v : said.Verdict) × said.Says (frameOf t) (keptOf m t) v × (s ≡ answerTo v) × (b ≡ bytesOf v ++ drop VERDICT before) → (r ≡ s) × (a ≡ b)
+    one : {r s : ℕ} {a b : List ℕ} → (v : said.Verdict) × said.Says (frameOf t) (keptOf m t) v × (r ≡ answerTo v) × (a ≡ verdictBytes v ++ drop VERDICT before)
+        → (v : said.Verdict) × said.Says (frameOf t) (keptOf m t) v × (s ≡ answerTo v) × (b ≡ verdictBytes v ++ drop VERDICT before) → (r ≡ s) × (a ≡ b)
     one (v, x, e, f) (u, y, i, j) =
         let same = verdict-one (frameOf t) (keptOf m t) v u x y in
-        (e ∙ ap answerTo same ∙ sym i, f ∙ ap (λ (v : said.Verdict). bytesOf v ++ drop VERDICT before) same ∙ sym j)
+        (e ∙ ap answerTo same ∙ sym i, f ∙ ap (λ (v : said.Verdict). verdictBytes v ++ drop VERDICT before) same ∙ sym j)

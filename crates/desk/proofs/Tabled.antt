@@ -14,7 +14,8 @@ use Rattle.trace.specs.Bounds.{RECORDS}
 use Rattle.rows.specs.Bounds.{WIDTH}
 use Rattle.rows.specs.Rows.{place, bit}
 use Rattle.rows.proofs.Rows.{bit-at}
-use Rattle.desk.specs.Head.{BYTE, byteOf, tableAt}
+use Rattle.desk.specs.SessionHead.{byteOf, tableAt}
+use Rattle.packed.specs.Layout.{BYTE}
 
 -- cut to a byte, a number keeps its bits below the eighth
 low-bit : (n b : ℕ) → b < 8 → n % BYTE / 2 ^ b % 2 ≡ n / 2 ^ b % 2

@@ -14,7 +14,7 @@ use lib.Dec.{eqb, leb}
 use lib.ListN.{length, take, drop}
 use Rattle.text.specs.Room.{putAt}
 use Rattle.packed.specs.Layout.{RECORD}
-use Rattle.packed.specs.Read.{numberOf}
+use Rattle.packed.specs.FileRead.{fileReasonNumber}
 use Rattle.packed.specs.declared.Reason.the-variants.{NoEntry}
 use Rattle.packed.specs.declared.Entry.{Entry}
 use Rattle.packed.specs.declared.Entry.the-variants.{Of, Nothing}
@@ -24,18 +24,18 @@ use Rattle.session.specs.Numbers.{reasonNumber, adds, awaits}
 use Rattle.session.specs.declared.Reason.the-variants.{Unlike}
 use Rattle.session.specs.declared.Answer.{Answer}
 use Rattle.session.specs.declared.Answer.the-variants.{Done, Held, NotHeld, Contradicted, Waits, Refused}
-use Rattle.desk.specs.Answers.{NO-ROOM}
-use Rattle.desk.specs.Verdict.{wide}
+use Rattle.desk.specs.AnswerNumbers.{NO-ROOM}
+use Rattle.desk.specs.VerdictBytes.{wide}
 use Rattle.desk.specs.Runs.{PLACE}
-use Rattle.desk.specs.Kept.{sessionIn, like}
-use Rattle.desk.specs.Acts.{answerIn, bytesIn}
+use Rattle.desk.specs.SessionBytes.{sessionIn, like}
+use Rattle.desk.specs.SessionCalls.{answerIn, bytesIn}
 
 abbrev pub shorter : List ℕ → List ℕ
 shorter b = take (length b - RECORD) b
 
 abbrev pub addAnswer : Closings → List ℕ → Entry → ℕ
 addAnswer C b (Of o) = answerIn C (shorter b) (adds o)
-addAnswer C b Nothing = cond (like C (shorter b)) (numberOf NoEntry) (reasonNumber Unlike)
+addAnswer C b Nothing = cond (like C (shorter b)) (fileReasonNumber NoEntry) (reasonNumber Unlike)
 
 abbrev pub addBytes : Closings → List ℕ → Entry → List ℕ
 addBytes C b (Of o) = cond (eqb (answerIn C (shorter b) (adds o)) 0) (putAt (bytesIn C (shorter b) (adds o)) b 0) b

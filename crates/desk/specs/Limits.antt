@@ -7,7 +7,7 @@
 --   countIn a    == its count
 --   bytesAt a    == its bytes
 --   limitNumber o, shownAs o, shown r == the same, by the outcome as the code holds it
---   Answered text m l before after r == what `wheelotter_limited` promises: after what is wrong, the answer at the limit l on the text's trace, its bytes
+--   LimitAnswered text m l before after r == what `wheelotter_limited` promises: after what is wrong, the answer at the limit l on the text's trace, its bytes
 --                                       at the front of the buffer and all behind as it was
 use mathlib.Core.Path.{_≡_}
 use mathlib.Core.List.{List, [], _∷_, _++_}
@@ -16,7 +16,7 @@ use lib.ListN.{drop}
 use Rattle.trace.specs.Meaning.{frameOf}
 use Rattle.pairs.specs.Kept.{keptOf}
 use Rattle.reader.specs.Whole.{readWhole}
-use Rattle.orders.specs.Verdict.{Verdict, noneLeft}
+use Rattle.rules.specs.Verdict.{Verdict, noneLeft}
 use Rattle.verdict.specs.declared.Outcome.{Outcome}
 use Rattle.verdict.specs.declared.Outcome.the-variants.{NoneLeft}
 use Rattle.verdict.specs.declared.Verdict as held
@@ -24,9 +24,9 @@ use Rattle.plain.specs.Limited as said
 use Rattle.limited.specs.declared.Limited.{Limited}
 use Rattle.limited.specs.declared.Limited.the-variants.{Decided, Undecided}
 use Rattle.limited.specs.declared.Limit.{Limit}
-use Rattle.desk.specs.Answers.{UNDECIDED, answerTo, outcomeNumber}
+use Rattle.desk.specs.AnswerNumbers.{UNDECIDED, answerTo, outcomeNumber}
 use Rattle.desk.specs.Ranked.{Ranked}
-use Rattle.desk.specs.Verdict.{VERDICT, wide, bytesOf}
+use Rattle.desk.specs.VerdictBytes.{VERDICT, wide, verdictBytes}
 
 abbrev pub LIMITED : ℕ
 LIMITED = VERDICT + 8
@@ -47,7 +47,7 @@ countIn (said.decided v n) = n
 countIn (said.undecided n) = n
 
 abbrev pub bytesAt : said.Limited → List ℕ
-bytesAt a = bytesOf (verdictIn a) ++ eight (countIn a)
+bytesAt a = verdictBytes (verdictIn a) ++ eight (countIn a)
 
 abbrev pub limitNumber : Limited → ℕ
 limitNumber (Decided o) = outcomeNumber o
@@ -60,7 +60,7 @@ shownAs Undecided = NoneLeft
 abbrev pub shown : Limit → held.Verdict
 shown r = record { outcome = shownAs (r .outcome); len = r .len; operations = r .operations; rules = r .rules }
 
-abbrev pub Answered : List ℕ → ℕ → ℕ → List ℕ → List ℕ → ℕ → Type 0
-Answered text m l before after r =
+abbrev pub LimitAnswered : List ℕ → ℕ → ℕ → List ℕ → List ℕ → ℕ → Type 0
+LimitAnswered text m l before after r =
     let t = readWhole text .trace in
     Ranked text m LIMITED (λ r after. (a : said.Limited) × said.Limits (frameOf t) (keptOf m t) l a × (r ≡ answerAt a) × (after ≡ bytesAt a ++ drop LIMITED before)) before after r

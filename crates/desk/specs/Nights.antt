@@ -12,7 +12,7 @@ use mathlib.Core.List.{List}
 use Prim.Native.Nat.{ℕ, _+_, _*_, _<_}
 use lib.Dec.{ltb}
 use Rattle.reader.specs.Whole.{readWhole}
-use Rattle.night.specs.Night.{numberOf, Nights}
+use Rattle.night.specs.Night.{nightNumber, Nights}
 use Rattle.night.specs.declared.Answer.{Answer}
 use Rattle.night.specs.declared.Answer.the-variants.{Done, NotWellFormed, NoModel, WrongLength, TooLarge}
 use Rattle.desk.specs.Text as text
@@ -28,12 +28,12 @@ unfoldable pub withRun : ℕ → ℕ → ℕ
 withRun n i = cond (ltb i RUNS) (n + PLACES * i) n
 
 abbrev pub nightCode : Answer → ℕ
-nightCode Done = numberOf Done
-nightCode NotWellFormed = numberOf NotWellFormed
-nightCode NoModel = numberOf NoModel
-nightCode WrongLength = numberOf WrongLength
-nightCode (TooLarge i k) = withRun (withPlace (numberOf (TooLarge i k)) k) i
+nightCode Done = nightNumber Done
+nightCode NotWellFormed = nightNumber NotWellFormed
+nightCode NoModel = nightNumber NoModel
+nightCode WrongLength = nightNumber WrongLength
+nightCode (TooLarge i k) = withRun (withPlace (nightNumber (TooLarge i k)) k) i
 
 pub record Nighted (words : List ℕ) (m : ℕ) (ws before after : List ℕ) (r : ℕ) : Type 0 where
-  pub wrong : 0 < text.numberOf words → (r ≡ text.numberOf words) × (after ≡ before)
-  pub good : text.numberOf words ≡ 0 → (a : Answer) × Nights (readWhole words .trace) m ws before after a × (r ≡ nightCode a)
+  pub wrong : 0 < text.textNumber words → (r ≡ text.textNumber words) × (after ≡ before)
+  pub good : text.textNumber words ≡ 0 → (a : Answer) × Nights (readWhole words .trace) m ws before after a × (r ≡ nightCode a)

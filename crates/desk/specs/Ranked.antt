@@ -8,11 +8,11 @@ use mathlib.Core.List.{List}
 use Prim.Native.Nat.{ℕ, _≤_, _<_}
 use lib.ListN.{length}
 use Rattle.pairs.specs.Kept.{modelled}
-use Rattle.desk.specs.Answers.{NO-ROOM, NO-MODEL}
-use Rattle.desk.specs.Text.{numberOf}
+use Rattle.desk.specs.AnswerNumbers.{NO-ROOM, NO-MODEL}
+use Rattle.desk.specs.Text.{textNumber}
 
 pub record Ranked (text : List ℕ) (m size : ℕ) (S : ℕ → List ℕ → Type 0) (before after : List ℕ) (r : ℕ) : Type 0 where
-  pub wrong : 0 < numberOf text → (r ≡ numberOf text) × (after ≡ before)
-  pub model : numberOf text ≡ 0 → modelled m ≡ false → (r ≡ NO-MODEL) × (after ≡ before)
-  pub short : numberOf text ≡ 0 → So (modelled m) → length before < size → (r ≡ NO-ROOM) × (after ≡ before)
-  pub says : numberOf text ≡ 0 → So (modelled m) → size ≤ length before → S r after
+  pub wrong : 0 < textNumber text → (r ≡ textNumber text) × (after ≡ before)
+  pub model : textNumber text ≡ 0 → modelled m ≡ false → (r ≡ NO-MODEL) × (after ≡ before)
+  pub short : textNumber text ≡ 0 → So (modelled m) → length before < size → (r ≡ NO-ROOM) × (after ≡ before)
+  pub says : textNumber text ≡ 0 → So (modelled m) → size ≤ length before → S r after

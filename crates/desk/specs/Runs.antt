@@ -6,7 +6,7 @@
 --   givenNumber g     == the answer to what comes of an order
 --   spread s          == steps from an order in bytes: how many, and the list
 --   hosted m          == the model as the machine knows it: m, and 0, which is none, where it has no machine
---   Run text m ss before after r      == what `wheelotter_run` promises: after what is wrong, how the steps run the text's trace, with the place at the
+--   RunAnswered text m ss before after r == what `wheelotter_run` promises: after what is wrong, how the steps run the text's trace, with the place at the
 --                                        front of the buffer and all behind as it was
 --   Replayed text m xs before after r == what `wheelotter_steps` promises: after what is wrong, the steps of the order for the text's trace, at the
 --                                        front of the buffer and all behind as it was
@@ -16,15 +16,15 @@ use mathlib.Core.List.{List, [], _∷_, _++_}
 use Prim.Native.Nat.{ℕ, _+_}
 use lib.ListN.{drop}
 use Rattle.reader.specs.Whole.{readWhole}
-use Rattle.machine.specs.Machine.{machined, answer, refusedBy, placeOf}
+use Rattle.machine.specs.Machine.{machined, answer, machineNumber, stuckAt}
 use Rattle.machine.specs.Replay.{STEPS, stepsOf}
 use Rattle.machine.specs.declared.Ran.{Ran}
 use Rattle.machine.specs.declared.Ran.the-variants as ran
 use Rattle.machine.specs.declared.Given.{Given}
 use Rattle.machine.specs.declared.Given.the-variants as given
 use Rattle.machine.specs.declared.Steps.{Steps}
-use Rattle.desk.specs.Answers.{NO-MODEL, NOT-WELL-FORMED, THROUGH, NOT-THROUGH, REPLAYED, NO-ORDER}
-use Rattle.desk.specs.Verdict.{wide}
+use Rattle.desk.specs.AnswerNumbers.{NO-MODEL, NOT-WELL-FORMED, THROUGH, NOT-THROUGH, REPLAYED, NO-ORDER}
+use Rattle.desk.specs.VerdictBytes.{wide}
 use Rattle.desk.specs.Ranked.{Ranked}
 
 abbrev pub PLACE : ℕ
@@ -38,9 +38,9 @@ throughNumber true = THROUGH
 throughNumber false = NOT-THROUGH
 
 abbrev pub ranNumber : Ran → ℕ
-ranNumber ran.NoModel = refusedBy ran.NoModel
-ranNumber ran.NotWellFormed = refusedBy ran.NotWellFormed
-ranNumber (ran.Stuck i) = refusedBy (ran.Stuck i)
+ranNumber ran.NoModel = machineNumber ran.NoModel
+ranNumber ran.NotWellFormed = machineNumber ran.NotWellFormed
+ranNumber (ran.Stuck i) = machineNumber (ran.Stuck i)
 ranNumber (ran.Through b) = throughNumber b
 
 abbrev pub givenNumber : Given → ℕ
@@ -55,10 +55,10 @@ spread s = wide (s .len ∷ []) ++ s .steps
 abbrev pub hosted : ℕ → ℕ
 hosted m = cond (machined m) m 0
 
-abbrev pub Run : List ℕ → ℕ → List ℕ → List ℕ → List ℕ → ℕ → Type 0
-Run text m ss before after r =
+abbrev pub RunAnswered : List ℕ → ℕ → List ℕ → List ℕ → List ℕ → ℕ → Type 0
+RunAnswered text m ss before after r =
     let a = answer (readWhole text .trace) m ss in
-    Ranked text (hosted m) PLACE (λ r after. (r ≡ ranNumber a) × (after ≡ wide (placeOf a ∷ []) ++ drop PLACE before)) before after r
+    Ranked text (hosted m) PLACE (λ r after. (r ≡ ranNumber a) × (after ≡ wide (stuckAt a ∷ []) ++ drop PLACE before)) before after r
 
 abbrev pub Replayed : List ℕ → ℕ → List ℕ → List ℕ → List ℕ → ℕ → Type 0
 Replayed text m xs before after r =

@@ -1,7 +1,7 @@
 -- What is wrong with a text, in numbers.
 --
 --   numberIn a    == the documents' number in a reader's answer; 0 for a good text
---   numberOf text == the number of a text
+--   textNumber text == the number of a text
 use mathlib.Core.List.{List}
 use Prim.Native.Nat.{ℕ}
 use Rattle.reader.specs.Answer as answer
@@ -14,5 +14,5 @@ numberIn Good = 0
 numberIn (Refused reason line) = answer.numberOf reason
 numberIn Lost = LOST
 
-abbrev pub numberOf : List ℕ → ℕ
-numberOf text = numberIn (readWhole text .answer)
+abbrev pub textNumber : List ℕ → ℕ
+textNumber text = numberIn (readWhole text .answer)

@@ -1,10 +1,10 @@
 -- Laws of the rounds, for the proofs of functions here and in the crates above.
 pub mod Supposed
-pub mod Adds
-pub mod Drawn
-pub mod Turns
-pub mod Ended
-pub mod Answers
-pub mod One
+pub mod PairSets
+pub mod DrawnEdges
+pub mod RoundStep
+pub mod LastRound
+pub mod ForcedPairs
+pub mod Unique
 pub mod Takes
 pub mod Settling

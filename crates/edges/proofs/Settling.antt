@@ -16,29 +16,29 @@ use native.Mathlib.Omega.{arith}
 use lib.ListN.{getD}
 use Rattle.laws.specs.Tests.{any}
 use Rattle.laws.specs.Relation.{Rel, Table, _⊆_, one}
-use Rattle.laws.specs.Growth.{pairs}
-use Rattle.laws.specs.Joined.{Circled}
+use Rattle.laws.proofs.GrowingTables.{pairs}
+use Rattle.laws.specs.inner.Joined.{SelfLed}
 use Rattle.laws.proofs.Tests.{so-any, test-one}
 use Rattle.laws.proofs.Growth.{pairs-bound, pairs-same}
 use Rattle.trace.specs.Bounds.{RECORDS}
-use Rattle.trace.specs.Frame.{Frame, Good, Source}
+use Rattle.rules.specs.Frame.{Frame, Good, Source}
 use Rattle.rows.specs.Bounds.{CELLS}
 use Rattle.rows.specs.Rows.{bit, Edges}
 use Rattle.rows.specs.Empty.{emptyOf}
 use Rattle.rows.proofs.Rows.{bit-bounds}
 use Rattle.rows.proofs.Whole.{empty-bit, empty-long, empty-words, rows-one}
-use Rattle.rules.specs.Rules.{Within}
-use Rattle.rules.specs.SourceOf.{sourceOf}
-use Rattle.rules.proofs.SourceOf.{source-of-is}
+use Rattle.rules.specs.Rules.{InRecords}
+use Rattle.pairs.specs.SourceOf.{sourceOf}
+use Rattle.pairs.proofs.SourceOf.{source-of-is}
 use Rattle.rules.proofs.Ends.{chains-within}
 use Rattle.rules.proofs.Growing.{growing-chain, growing-circle, growing-end, growing-stop}
-use Rattle.edges.specs.Adds.{Union}
-use Rattle.edges.specs.Drawn.{SettledFor}
-use Rattle.edges.specs.Ended.{Full}
-use Rattle.edges.specs.Turns.{Facts, Begun, Closed}
-use Rattle.edges.specs.Takes.{Asks, Takes, Noted}
-use Rattle.edges.specs.Settling.{Settling, Grew}
-use Rattle.edges.proofs.Turns.{settled-gives}
+use Rattle.edges.specs.inner.PairSets.{Union}
+use Rattle.edges.specs.inner.DrawnEdges.{SettledFor}
+use Rattle.edges.specs.LastRound.{Full}
+use Rattle.edges.specs.inner.RoundStep.{Facts, FirstRound, Closed}
+use Rattle.edges.specs.inner.Takes.{Asks, Takes, AskNoted}
+use Rattle.edges.specs.inner.Settling.{SettlingRows, Grew}
+use Rattle.edges.proofs.RoundStep.{settled-gives}
 
 pub takes-full : {ask : Asks} {e e′ : List ℕ} {R : Rel} → Full e → Takes ask e R e′ → Full e′
 takes-full l p = record { long = p .long ∙ l .long; words = p .words (l .words) }
@@ -56,26 +56,26 @@ settling-fewer ask e e′ R full p d = elim (decLe (pairs RECORDS (bit e′)) (p
         (λ x y. test-one (λ b. let l = bit-bounds e′ x y b in pairs-same RECORDS (bit e) (bit e′) (p .keeps) q x y (l .0) (l .1) b, λ b. p .keeps x y b) (λ b. b, λ b. b))
 
 module _ (f : Frame) (K P : Table) where
-  pub settling-first : (s w e h : List ℕ) (c : Bool) → Begun f K P s w e → Closed e h c → Settling f K P h
+  pub settling-first : (s w e h : List ℕ) (c : Bool) → FirstRound f K P s w e → Closed e h c → SettlingRows f K P h
   settling-first s w e h c b d = record {
     full = d .full;
     growing = growing-chain f K P (Edges h) (Edges e) (λ x y u. (1, one (b .has x y .0 u))) (d .has);
     begun = λ x y u. d .has x y .1 (one (b .has x y .1 u));
   }
 
-  circled : (e : List ℕ) → Circled (Edges e) ↔ So (any RECORDS (λ x. bit e x x))
+  circled : (e : List ℕ) → SelfLed (Edges e) ↔ So (any RECORDS (λ x. bit e x x))
   circled e =
       let a = so-any RECORDS (λ x. bit e x x) in
       (λ c. a .1 (c .0, bit-bounds e (c .0) (c .0) (c .1) .0, c .1), λ u. let r = a .0 u in (r .0, r .2))
 
-  pub settling-circle : (e e′ : List ℕ) (n : ℕ) → Settling f K P e → So (any RECORDS (λ x. bit e x x)) → e′ ≡ emptyOf n → n ≡ CELLS → Grew f K P true e′
+  pub settling-circle : (e e′ : List ℕ) (n : ℕ) → SettlingRows f K P e → So (any RECORDS (λ x. bit e x x)) → e′ ≡ emptyOf n → n ≡ CELLS → Grew f K P true e′
   settling-circle e e′ n now c q l = record {
     full = rw q (record { long = empty-long n ∙ l; words = empty-words n });
     closing = growing-stop f K P (growing-circle f K P (Edges e) (now .growing) (circled e .1 c)) (bit e′) (λ x y b. false≢true (sym (ap (λ r. bit r x y) q ∙ empty-bit n x y) ∙ b));
   }
 
-  module _ (g : Good f) (small : f .records ≤ RECORDS) (inK : Within f K) (inP : Within f P) (s w : List ℕ) (facts : Facts f s w) where
-    pub noted : (n : ℕ) → n ≡ f .records → Noted n s w f K P
+  module _ (g : Good f) (small : f .records ≤ RECORDS) (inK : InRecords f K) (inP : InRecords f P) (s w : List ℕ) (facts : Facts f s w) where
+    pub noted : (n : ℕ) → n ≡ f .records → AskNoted n s w f K P
     noted n q = (
       λ x y h. let b = chains-within f g K P inK inP (h .0) x y (h .1) in omega (arith, b .0),
       λ L l h.
@@ -84,14 +84,14 @@ module _ (f : Frame) (K P : Table) where
           (src, λ z b. facts .writers z L (src .reads) .0 b),
     )
 
-    pub settling-next : (n : ℕ) → n ≡ f .records → (e e′ : List ℕ) (R : Rel) → Settling f K P e → Takes (Noted n s w) e R e′ → Settling f K P e′
+    pub settling-next : (n : ℕ) → n ≡ f .records → (e e′ : List ℕ) (R : Rel) → SettlingRows f K P e → Takes (AskNoted n s w) e R e′ → SettlingRows f K P e′
     settling-next n q e e′ R now p = record {
       full = takes-full (now .full) p;
       growing = p .growing f K P (noted n q) (now .growing);
       begun = λ x y u. p .keeps x y (now .begun x y u);
     }
 
-    pub settling-end : (e e′ : List ℕ) → Settling f K P e → any RECORDS (λ x. bit e x x) ≡ false → Takes (Noted (f .records) s w) e (Union (f .records) (SettledFor (f .records) s w e)) e′ → e ≡ e′ → Grew f K P false e′
+    pub settling-end : (e e′ : List ℕ) → SettlingRows f K P e → any RECORDS (λ x. bit e x x) ≡ false → Takes (AskNoted (f .records) s w) e (Union (f .records) (SettledFor (f .records) s w e)) e′ → e ≡ e′ → Grew f K P false e′
     settling-end e e′ now c p same =
         subst (Grew f K P false) same record {
           full = now .full;

@@ -11,7 +11,7 @@ use native.Mathlib.Decide.{decLe}
 use native.Mathlib.Omega.{arith}
 use Rattle.laws.specs.Relation.{Table}
 use Rattle.laws.specs.Sums.{sum, num}
-use Rattle.laws.specs.Growth.{pairs, Still}
+use Rattle.laws.proofs.GrowingTables.{pairs, Still}
 use Rattle.laws.proofs.Sums.{sum-le, sum-bound, sum-same, num-le, num-le⁻¹, num-one}
 
 module _ (n : ℕ) where

@@ -14,9 +14,9 @@ use mathlib.Core.Logic.{_⊎_, inl, inr, _↔_}
 use mathlib.Core.Bool.{So}
 use Prim.Native.Nat.{ℕ, _<_}
 use Rattle.laws.specs.Relation.{Rel, Table, _⊆_, Transitive, Chain, one, more}
-use Rattle.laws.specs.Sorted.{On}
-use Rattle.laws.specs.Growth.{pairs}
-use Rattle.laws.specs.Joined.{Upto, From, Span, Plus, Joined, Circled, Turned}
+use Rattle.laws.specs.inner.Sorted.{On}
+use Rattle.laws.proofs.GrowingTables.{pairs}
+use Rattle.laws.specs.inner.Joined.{Upto, From, Span, Plus, Joined, SelfLed, Turned}
 use Rattle.laws.proofs.Relation.{chain-least}
 use Rattle.laws.proofs.Growth.{pairs-more}
 
@@ -92,7 +92,7 @@ module _ (C : Rel) (a b : ℕ) where
         there (inl c) = one (inl c)
         there (inr u) = lead (u .0) (tail (u .1))
 
-    pub joined-circle : Circled (Joined C a b) ↔ (Circled C ⊎ ((a ≡ b) ⊎ C b a))
+    pub joined-circle : SelfLed (Joined C a b) ↔ (SelfLed C ⊎ ((a ≡ b) ⊎ C b a))
     joined-circle = (λ c. there (c .0) (c .1), back)
       where
         closes : (x : ℕ) → Upto C a x → From C b x → (a ≡ b) ⊎ C b a
@@ -100,16 +100,16 @@ module _ (C : Rel) (a b : ℕ) where
         closes x (inl p) (inr d) = inr (subst (C b) p d)
         closes x (inr c) d = inr (out x a d c)
 
-        there : (x : ℕ) → Joined C a b x x → Circled C ⊎ ((a ≡ b) ⊎ C b a)
+        there : (x : ℕ) → Joined C a b x x → SelfLed C ⊎ ((a ≡ b) ⊎ C b a)
         there x (inl c) = inl (x, c)
         there x (inr u) = inr (closes x (u .0) (u .1))
 
-        back : Circled C ⊎ ((a ≡ b) ⊎ C b a) → Circled (Joined C a b)
+        back : SelfLed C ⊎ ((a ≡ b) ⊎ C b a) → SelfLed (Joined C a b)
         back (inl c) = (c .0, inl (c .1))
         back (inr (inl q)) = (a, inr (inl refl, inl q))
         back (inr (inr c)) = (a, inr (inl refl, inr c))
 
-    pub joined-clear : (Circled C → ⊥) → (a ≡ b → ⊥) → (C b a → ⊥) → Circled (Joined C a b) → ⊥
+    pub joined-clear : (SelfLed C → ⊥) → (a ≡ b → ⊥) → (C b a → ⊥) → SelfLed (Joined C a b) → ⊥
     joined-clear n d e c = elim (joined-circle .0 c) [ inl u ↦ n u | inr u ↦ elim u [ inl q ↦ d q | inr v ↦ e v ] ]
 
 -- what a loop that adds pairs counts down by
@@ -128,9 +128,9 @@ module _ (C : Rel) (A B : ℕ → Type 0) (t : Transitive C) (down : (x y : ℕ)
   split-join x y z (inr u) (inl d) = inr (u .0, up y z d (u .1))
   split-join x y z (inr u) (inr v) = absurd (apart y (v .0) (u .1))
 
-  pub split-circle : Circled Split → Circled C
+  pub split-circle : SelfLed Split → SelfLed C
   split-circle c = go (c .0) (c .1)
     where
-      go : (x : ℕ) → Split x x → Circled C
+      go : (x : ℕ) → Split x x → SelfLed C
       go x (inl d) = (x, d)
       go x (inr u) = absurd (apart x (u .0) (u .1))

@@ -20,3 +20,4 @@ pub mod Prefixes
 pub mod Congruence
 pub mod LowestLoops
 pub mod Joined
+pub mod GrowingTables

@@ -12,7 +12,7 @@ use native.Mathlib.Numerals.{add-one}
 use native.Mathlib.Omega.{arith}
 use lib.ListN.{length, getD, set, drop, length-append, length-drop}
 use lib.Seq.{drop-cons, append-snoc, set-at}
-use Rattle.laws.specs.Warshall.{row}
+use Rattle.laws.specs.ListOf.{row}
 
 module _ {ℓ} {A : Type ℓ} where
   pub row-long : (g : ℕ → A) (i k : ℕ) → length (row g i k) ≡ k

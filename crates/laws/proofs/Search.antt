@@ -15,7 +15,7 @@ use native.Mathlib.Omega.{arith}
 use lib.ListN.{length, length-append}
 use lib.Seq.{append-snoc}
 use Rattle.laws.specs.Dict.{_≼_, Answer}
-use Rattle.laws.specs.Search.{Sized, Tried}
+use Rattle.laws.specs.inner.TryingInTurn.{ListsOf, Tried}
 use Rattle.laws.proofs.Tests.{last?, three}
 
 module _ (P : List ℕ → Type 0) (p : List ℕ) where
@@ -31,7 +31,7 @@ module _ (P : List ℕ → Type 0) (p : List ℕ) where
   pub full-some : P p → Answer P p (some [])
   full-some k = (rw append-nil k, λ s _. tt)
 
-  module _ (n m : ℕ) (z : Sized P n m) where
+  module _ (n m : ℕ) (z : ListsOf P n m) where
     pub tried-some : (i : ℕ) (r : List ℕ) → Tried P p i → Answer P (p ++ (i ∷ [])) (some r) → Answer P p (some (i ∷ r))
     unfolding Tried
     tried-some i r t a = (here, first)

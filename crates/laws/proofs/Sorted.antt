@@ -12,7 +12,7 @@ use native.Mathlib.Decide.{decLt}
 use native.Mathlib.Omega.{arith}
 use Rattle.laws.specs.Places.{count, Before}
 use Rattle.laws.specs.Relation.{Table, Transitive}
-use Rattle.laws.specs.Sorted.{On, insert, sorted}
+use Rattle.laws.specs.inner.Sorted.{On, insert, sorted}
 use Rattle.laws.proofs.Tests.{off, eq?, last?}
 use Rattle.laws.proofs.Places.{pos-here, pos-later, count-here, count-later}
 use Rattle.laws.proofs.Counts.{count-append}

@@ -11,7 +11,7 @@ use Prim.Native.Nat.{ℕ, _<_}
 use native.Mathlib.Omega.{arith}
 use lib.Seq.{append-snoc}
 use Rattle.laws.specs.Places.{count}
-use Rattle.laws.specs.Steps.{Steps, Same}
+use Rattle.laws.specs.inner.Steps.{Steps, Same}
 use Rattle.laws.proofs.Tests.{eq?}
 use Rattle.laws.proofs.Counts.{count-append}
 

@@ -3,15 +3,11 @@ pub mod Tests
 pub mod Settles
 pub mod Places
 pub mod Relation
-pub mod Warshall
+pub mod ListOf
 pub mod Sums
-pub mod Growth
 pub mod Dict
 pub mod Lowest
-pub mod Sorted
 pub mod Bits
 pub mod Alike
 pub mod Latest
-pub mod Search
-pub mod Steps
-pub mod Joined
+pub mod inner

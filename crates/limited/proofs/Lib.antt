@@ -1,4 +1,4 @@
 -- Laws of the limited verdict.
-pub mod Laying
-pub mod Owed
-pub mod One
+pub mod LaidOut
+pub mod Guarantees
+pub mod Unique

@@ -1,2 +1,2 @@
 -- The limited verdict as the code holds it.
-pub mod Told
+pub mod LimitedVerdict

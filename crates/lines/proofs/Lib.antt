@@ -1,2 +1,2 @@
 -- Laws of the lines that a reader gives.
-pub mod One
+pub mod Unique

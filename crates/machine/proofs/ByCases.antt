@@ -37,23 +37,23 @@ use Rattle.trace.proofs.WellFormed.{form-iff}
 use Rattle.trace.specs.Meaning.{frameOf}
 use Rattle.trace.proofs.Meaning.{operation-iff}
 use Rattle.laws.proofs.Places.{count-at}
-use Rattle.orders.specs.MissingOf.{found}
-use Rattle.orders.specs.Judged.{judgedOf}
-use Rattle.orders.specs.declared.judging.Judgement.{Judgement}
-use Rattle.orders.specs.declared.judging.Judgement.the-variants as judgement
-use Rattle.orders.proofs.Judged.{accepted-yes}
-use Rattle.orders.proofs.Seen.{operation-there}
-use Rattle.orders.specs.declared.sources.Found.{Found}
-use Rattle.orders.specs.declared.sources.Found.the-variants.{At, Nothing}
+use Rattle.pairs.specs.MissingOf.{asFound}
+use Rattle.judge.specs.Judged.{judgedOf}
+use Rattle.judge.specs.declared.judging.Judgement.{Judgement}
+use Rattle.judge.specs.declared.judging.Judgement.the-variants as judgement
+use Rattle.judge.proofs.Judged.{accepted-yes}
+use Rattle.rules.proofs.Seen.{operation-there}
+use Rattle.pairs.specs.declared.sources.Found.{Found}
+use Rattle.pairs.specs.declared.sources.Found.the-variants.{At, Nothing}
 use Rattle.machine.specs.declared.Machine.{Machine}
 use Rattle.machine.specs.declared.Stepped.{Stepped}
 use Rattle.machine.specs.declared.Ran.{Ran}
 use Rattle.machine.specs.declared.Ran.the-variants.{NoModel, NotWellFormed, Stuck, Through}
-use Rattle.machine.specs.Machine.{lands, alone, due, waiting, got, may, ranAs, emptied, runs, empties, step, stepped, finished, run, answer, machined, startOf}
+use Rattle.machine.specs.Machine.{lands, alone, due, waiting, got, may, ranAs, emptied, runs, empties, step, stepped, finished, run, answer, machined, machineStart}
 use Rattle.machine.specs.declared.Built.{Built}
 use Rattle.machine.specs.declared.Steps.{Steps}
 use Rattle.machine.specs.declared.Given.the-variants as given
-use Rattle.machine.specs.Replay.{STEPS, put, began, passed, swept, placed, placing, builtOf, yes?, nothing, listed, stepsOf}
+use Rattle.machine.specs.Replay.{STEPS, put, began, passedRecord, swept, placedNext, placing, builtOf, yes?, noSteps, listed, stepsOf}
 use Rattle.machine.proofs.Lockstep.{lowest-is}
 
 abbrev pub made : List Bool → List Bool → List ℕ → Machine
@@ -91,16 +91,16 @@ pub may-parts : (t : Trace) (M : Machine) (x : ℕ) → may t M x ≡ ((not (alo
 unfolding may
 may-parts t M x = ap₂ (λ (a b : Bool). a && b) (imp-or (alone (at t x)) _) (imp-or (reads (at t x)) _)
 
-pub found-some : (o : Option ℕ) (f : Found) (x : ℕ) → f ≡ found o → f ≡ At x → o ≡ some x
+pub found-some : (o : Option ℕ) (f : Found) (x : ℕ) → f ≡ asFound o → f ≡ At x → o ≡ some x
 found-some none f x e q = let z : _≡_ {A = ℕ} 0 1 = cc in absurd (omega arith)
 found-some (some y) f x e q = cc
 
-pub found-none : (o : Option ℕ) (f : Found) → f ≡ found o → f ≡ Nothing → o ≡ none
+pub found-none : (o : Option ℕ) (f : Found) → f ≡ asFound o → f ≡ Nothing → o ≡ none
 found-none none f e q = refl
 found-none (some y) f e q = let z : _≡_ {A = ℕ} 0 1 = cc in absurd (omega arith)
 
 -- what a search over the records of a well formed trace finds has its place, and an address
-pub found-fits : (t : Trace) → So (wellFormed t) → (p : ℕ → Bool) (f : Found) (x : ℕ) → f ≡ found (lowest p (t .len) 0) → f ≡ At x → (x < RECORDS) × (address (at t x) < ADDRESSES)
+pub found-fits : (t : Trace) → So (wellFormed t) → (p : ℕ → Bool) (f : Found) (x : ℕ) → f ≡ asFound (lowest p (t .len) 0) → f ≡ At x → (x < RECORDS) × (address (at t x) < ADDRESSES)
 found-fits t w p f x e q =
     let form = form-iff t .0 w in
     let h = lowest-is p (t .len) x (found-some (lowest p (t .len) 0) f x e q) .0 .0 in
@@ -115,19 +115,19 @@ module _ (t : Trace) (m : ℕ) (M : Machine) (s : ℕ) where
   unfolding step
   above h = ap (λ b. cond b (runs t m M (lowest (due t M s) (t .len) 0)) (empties t M (lowest (waiting t M (s - THREADS)) (t .len) 0))) (le-ltb s THREADS h)
 
-  pub step-runs : s < THREADS → (f : Found) (x : ℕ) → f ≡ found (lowest (due t M s) (t .len) 0) → f ≡ At x → So (may t M x) → step t m M s ≡ some (ranAs t m M x)
+  pub step-runs : s < THREADS → (f : Found) (x : ℕ) → f ≡ asFound (lowest (due t M s) (t .len) 0) → f ≡ At x → So (may t M x) → step t m M s ≡ some (ranAs t m M x)
   step-runs h f x e q u = below h ∙ ap (runs t m M) (found-some (lowest (due t M s) (t .len) 0) f x e q) ∙ ap (λ b. cond b (some (ranAs t m M x)) none) u
 
-  pub step-blocked : s < THREADS → (f : Found) (x : ℕ) → f ≡ found (lowest (due t M s) (t .len) 0) → f ≡ At x → may t M x ≡ false → step t m M s ≡ none
+  pub step-blocked : s < THREADS → (f : Found) (x : ℕ) → f ≡ asFound (lowest (due t M s) (t .len) 0) → f ≡ At x → may t M x ≡ false → step t m M s ≡ none
   step-blocked h f x e q u = below h ∙ ap (runs t m M) (found-some (lowest (due t M s) (t .len) 0) f x e q) ∙ ap (λ b. cond b (some (ranAs t m M x)) none) u
 
-  pub step-idle : s < THREADS → (f : Found) → f ≡ found (lowest (due t M s) (t .len) 0) → f ≡ Nothing → step t m M s ≡ none
+  pub step-idle : s < THREADS → (f : Found) → f ≡ asFound (lowest (due t M s) (t .len) 0) → f ≡ Nothing → step t m M s ≡ none
   step-idle h f e q = below h ∙ ap (runs t m M) (found-none (lowest (due t M s) (t .len) 0) f e q)
 
-  pub step-empties : THREADS ≤ s → (f : Found) (x : ℕ) → f ≡ found (lowest (waiting t M (s - THREADS)) (t .len) 0) → f ≡ At x → step t m M s ≡ some (emptied t M x)
+  pub step-empties : THREADS ≤ s → (f : Found) (x : ℕ) → f ≡ asFound (lowest (waiting t M (s - THREADS)) (t .len) 0) → f ≡ At x → step t m M s ≡ some (emptied t M x)
   step-empties h f x e q = above h ∙ ap (empties t M) (found-some (lowest (waiting t M (s - THREADS)) (t .len) 0) f x e q)
 
-  pub step-dry : THREADS ≤ s → (f : Found) → f ≡ found (lowest (waiting t M (s - THREADS)) (t .len) 0) → f ≡ Nothing → step t m M s ≡ none
+  pub step-dry : THREADS ≤ s → (f : Found) → f ≡ asFound (lowest (waiting t M (s - THREADS)) (t .len) 0) → f ≡ Nothing → step t m M s ≡ none
   step-dry h f e q = above h ∙ ap (empties t M) (found-none (lowest (waiting t M (s - THREADS)) (t .len) 0) f e q)
 
 pub stepped-no : (M : Machine) (o : Option Machine) (s : Stepped) → s ≡ stepped M o → s .possible ≡ false → o ≡ none
@@ -165,15 +165,15 @@ module _ (t : Trace) (m : ℕ) (M : Machine) (ss : List ℕ) (i : ℕ) where
 
 pub answer-model : (t : Trace) (m : ℕ) (ss : List ℕ) → machined m ≡ false → NoModel ≡ answer t m ss
 unfolding answer
-answer-model t m ss e = sym (ap (λ b. cond b (cond (wellFormed t) (run t m (startOf t) ss 0) NotWellFormed) NoModel) e)
+answer-model t m ss e = sym (ap (λ b. cond b (cond (wellFormed t) (run t m (machineStart t) ss 0) NotWellFormed) NoModel) e)
 
 pub answer-form : (t : Trace) (m : ℕ) (ss : List ℕ) → So (machined m) → wellFormed t ≡ false → NotWellFormed ≡ answer t m ss
 unfolding answer
-answer-form t m ss k e = sym (ap (λ b. cond b (cond (wellFormed t) (run t m (startOf t) ss 0) NotWellFormed) NoModel) k ∙ ap (λ b. cond b (run t m (startOf t) ss 0) NotWellFormed) e)
+answer-form t m ss k e = sym (ap (λ b. cond b (cond (wellFormed t) (run t m (machineStart t) ss 0) NotWellFormed) NoModel) k ∙ ap (λ b. cond b (run t m (machineStart t) ss 0) NotWellFormed) e)
 
-pub answer-runs : (t : Trace) (m : ℕ) (ss : List ℕ) → So (machined m) → So (wellFormed t) → (r : Ran) → run t m (startOf t) ss 0 ≡ r → r ≡ answer t m ss
+pub answer-runs : (t : Trace) (m : ℕ) (ss : List ℕ) → So (machined m) → So (wellFormed t) → (r : Ran) → run t m (machineStart t) ss 0 ≡ r → r ≡ answer t m ss
 unfolding answer
-answer-runs t m ss k w r e = sym e ∙ sym (ap (λ b. cond b (cond (wellFormed t) (run t m (startOf t) ss 0) NotWellFormed) NoModel) k ∙ ap (λ b. cond b (run t m (startOf t) ss 0) NotWellFormed) w)
+answer-runs t m ss k w r e = sym e ∙ sym (ap (λ b. cond b (cond (wellFormed t) (run t m (machineStart t) ss 0) NotWellFormed) NoModel) k ∙ ap (λ b. cond b (run t m (machineStart t) ss 0) NotWellFormed) w)
 
 pub yes-step : (M N N′ : Machine) (o : Option Machine) → N ≡ N′ → o ≡ some N′ → _≡_ {A = Stepped} (record { possible = true; machine = N }) (stepped M o)
 yes-step M N N′ o e q = ap (λ (N : Machine). stepped M (some N)) e ∙ ap (stepped M) (sym q)
@@ -190,18 +190,18 @@ unfolding put
 put-is b s h = ap (λ (x : Bool). cond x (longer b s) b) (lt-ltb (b .len) STEPS h)
 
 module _ (t : Trace) (every : Bool) (core k : ℕ) (b : Built) where
-  pub passed-runs : So (not (getD (b .ran) k false) && (every || eqb (thread (at t k)) core)) → passed t every core k b ≡ began b k (thread (at t k))
-  unfolding passed
+  pub passed-runs : So (not (getD (b .ran) k false) && (every || eqb (thread (at t k)) core)) → passedRecord t every core k b ≡ began b k (thread (at t k))
+  unfolding passedRecord
   passed-runs e = ap (λ (x : Bool). cond x (began b k (thread (at t k))) b) e
 
-  pub passed-idle : (not (getD (b .ran) k false) && (every || eqb (thread (at t k)) core)) ≡ false → passed t every core k b ≡ b
-  unfolding passed
+  pub passed-idle : (not (getD (b .ran) k false) && (every || eqb (thread (at t k)) core)) ≡ false → passedRecord t every core k b ≡ b
+  unfolding passedRecord
   passed-idle e = ap (λ (x : Bool). cond x (began b k (thread (at t k))) b) e
 
 module _ (t : Trace) (every : Bool) (core : ℕ) (b : Built) (k : ℕ) (after : Built) (own : ℕ) (e : after ≡ swept t every core b k) (f : own ≡ thread (at t k)) where
-  next-swept : passed t every core k after ≡ swept t every core b (k + 1)
+  next-swept : passedRecord t every core k after ≡ swept t every core b (k + 1)
   unfolding swept
-  next-swept = ap (passed t every core k) e ∙ ap (swept t every core b) (sym (add-one k))
+  next-swept = ap (passedRecord t every core k) e ∙ ap (swept t every core b) (sym (add-one k))
 
   pub swept-more : So (not (getD (after .ran) k false) && (every || eqb own core)) → began after k own ≡ swept t every core b (k + 1)
   swept-more s =
@@ -213,12 +213,12 @@ module _ (t : Trace) (every : Bool) (core : ℕ) (b : Built) (k : ℕ) (after : 
   swept-same s = sym (passed-idle t every core k after (ap (λ (o : ℕ). not (getD (after .ran) k false) && (every || eqb o core)) (sym f) ∙ s)) ∙ next-swept
 
 module _ (t : Trace) (m : ℕ) (b : Built) (c : ℕ) where
-  pub placed-lands : So (lands m (at t c)) → placed t m b c ≡ swept t false (thread (at t c)) b (suc c)
-  unfolding placed
+  pub placed-lands : So (lands m (at t c)) → placedNext t m b c ≡ swept t false (thread (at t c)) b (suc c)
+  unfolding placedNext
   placed-lands e = ap (λ (x : Bool). cond x (swept t false (thread (at t c)) b (suc c)) (put (swept t false (thread (at t c)) b (suc c)) (THREADS + thread (at t c)))) e
 
-  pub placed-waits : lands m (at t c) ≡ false → placed t m b c ≡ put (swept t false (thread (at t c)) b (suc c)) (THREADS + thread (at t c))
-  unfolding placed
+  pub placed-waits : lands m (at t c) ≡ false → placedNext t m b c ≡ put (swept t false (thread (at t c)) b (suc c)) (THREADS + thread (at t c))
+  unfolding placedNext
   placed-waits e = ap (λ (x : Bool). cond x (swept t false (thread (at t c)) b (suc c)) (put (swept t false (thread (at t c)) b (suc c)) (THREADS + thread (at t c)))) e
 
 -- the same, as a function comes by them
@@ -229,10 +229,10 @@ module _ (t : Trace) (m : ℕ) (b : Built) (c : ℕ) (op : Op) (own : ℕ) (afte
   same-swept : after ≡ swept t false (thread (at t c)) b (suc c)
   same-swept = g ∙ ap₂ (λ (o n : ℕ). swept t false o b n) same-core (add-one c)
 
-  pub placed-yes : So (lands m op) → after ≡ placed t m b c
+  pub placed-yes : So (lands m op) → after ≡ placedNext t m b c
   placed-yes s = same-swept ∙ sym (placed-lands t m b c (ap (lands m) (sym e) ∙ s))
 
-  pub placed-no : lands m op ≡ false → put after (THREADS + own) ≡ placed t m b c
+  pub placed-no : lands m op ≡ false → put after (THREADS + own) ≡ placedNext t m b c
   placed-no s = ap₂ (λ (a : Built) (o : ℕ). put a (THREADS + o)) same-swept same-core ∙ sym (placed-waits t m b c (ap (lands m) (sym e) ∙ s))
 
 -- a record of a well formed trace has its place and a core
@@ -240,7 +240,7 @@ pub core-fits : (t : Trace) → So (wellFormed t) → (x : ℕ) → x < t .len �
 core-fits t w x h = let form = form-iff t .0 w in (omega (arith, form .fits), form .used x h .keeps .thread-below)
 
 module _ (t : Trace) (m : ℕ) (b : Built) (xs : List ℕ) (i : ℕ) where
-  pub placing-more : (a : Built) → i < length xs → a ≡ placed t m b (getD xs i 0) → placing t m b (drop i xs) ≡ placing t m a (drop (i + 1) xs)
+  pub placing-more : (a : Built) → i < length xs → a ≡ placedNext t m b (getD xs i 0) → placing t m b (drop i xs) ≡ placing t m a (drop (i + 1) xs)
   unfolding placing
   placing-more a h e =
       ap (placing t m b) (drop-cons xs i 0 h)
@@ -270,17 +270,17 @@ order-below t m xs s i h =
 
 module _ (t : Trace) (m : ℕ) (xs : List ℕ) (r : Steps) where
   abbrev Answered : Bool → Bool → Bool → Steps
-  Answered a b c = cond a (cond b (cond c (listed (builtOf t m xs)) (nothing given.NoOrder)) (nothing given.NotWellFormed)) (nothing given.NoModel)
+  Answered a b c = cond a (cond b (cond c (listed (builtOf t m xs)) (noSteps given.NoOrder)) (noSteps given.NotWellFormed)) (noSteps given.NoModel)
 
-  pub steps-nine : machined m ≡ false → r ≡ nothing given.NoModel → r ≡ stepsOf t m xs
+  pub steps-nine : machined m ≡ false → r ≡ noSteps given.NoModel → r ≡ stepsOf t m xs
   unfolding stepsOf
   steps-nine k e = e ∙ sym (ap (λ (a : Bool). Answered a (wellFormed t) (yes? (judgedOf t m xs))) k)
 
-  pub steps-ten : So (machined m) → wellFormed t ≡ false → r ≡ nothing given.NotWellFormed → r ≡ stepsOf t m xs
+  pub steps-ten : So (machined m) → wellFormed t ≡ false → r ≡ noSteps given.NotWellFormed → r ≡ stepsOf t m xs
   unfolding stepsOf
   steps-ten k w e = e ∙ sym (ap (λ (a : Bool). Answered a (wellFormed t) (yes? (judgedOf t m xs))) k ∙ ap (λ (b : Bool). Answered true b (yes? (judgedOf t m xs))) w)
 
-  pub steps-no : So (machined m) → So (wellFormed t) → yes? (judgedOf t m xs) ≡ false → r ≡ nothing given.NoOrder → r ≡ stepsOf t m xs
+  pub steps-no : So (machined m) → So (wellFormed t) → yes? (judgedOf t m xs) ≡ false → r ≡ noSteps given.NoOrder → r ≡ stepsOf t m xs
   unfolding stepsOf
   steps-no k w y e =
       e ∙ sym (ap (λ (a : Bool). Answered a (wellFormed t) (yes? (judgedOf t m xs))) k ∙ ap (λ (b : Bool). Answered true b (yes? (judgedOf t m xs))) w ∙ ap (λ (c : Bool). Answered true true c) y)

@@ -24,9 +24,9 @@ use Rattle.laws.proofs.Places.{count-here, count-later}
 use Rattle.trace.specs.Bounds.{RECORDS, THREADS}
 use Rattle.trace.specs.Op.{thread}
 use Rattle.trace.specs.Trace.{at}
-use Rattle.trace.specs.Form.{Form}
-use Rattle.trace.specs.Frame.{Good}
-use Rattle.trace.specs.Order.{Valid}
+use Rattle.trace.specs.FormFacts.{Form}
+use Rattle.rules.specs.Frame.{Good}
+use Rattle.rules.specs.Order.{Valid}
 use Rattle.trace.specs.Meaning.{frameOf}
 use Rattle.trace.specs.declared.Trace.{Trace}
 use Rattle.trace.proofs.Good.{form-good}
@@ -34,7 +34,7 @@ use Rattle.trace.proofs.Meaning.{operation-iff}
 use Rattle.pairs.specs.Kept.{keptOf}
 use Rattle.machine.specs.declared.Built.{Built}
 use Rattle.machine.specs.Machine.{lands}
-use Rattle.machine.specs.Replay.{STEPS, told, put, began, passed, swept, placed, placing, blank, builtOf}
+use Rattle.machine.specs.Replay.{STEPS, told, put, began, passedRecord, swept, placedNext, placing, noneBuilt, builtOf}
 use Rattle.machine.proofs.History.{_∈_, Waits, Go, through, enters, empties, Goes, done, more, Ended, Laws}
 use Rattle.machine.proofs.CoresOf.{coresOf}
 use Rattle.machine.proofs.Snoc.{in?, flag-set}
@@ -102,7 +102,7 @@ module _ (t : Trace) (form : Form t) (m : ℕ) (l : Laws (coresOf m t) (keptOf m
         go (sweeps n (omega arith) (λ k u. asks k (omega arith)) (λ k u. keeps k (omega arith)) d a)
       where
         go : (r′ : List ℕ) × Drives t m (swept t every core b n) r′ p × A r′ × ((w : ℕ) → w < n → Asked w → w ∈ r′)
-            → (r′ : List ℕ) × Drives t m (passed t every core n (swept t every core b n)) r′ p × A r′ × ((w : ℕ) → w < suc n → Asked w → w ∈ r′)
+            → (r′ : List ℕ) × Drives t m (passedRecord t every core n (swept t every core b n)) r′ p × A r′ × ((w : ℕ) → w < suc n → Asked w → w ∈ r′)
         go (r′, d′, a′, all) = elim (test (every || eqb (thread (at t n)) core)) [
           | inr f ↦ (
             r′,
@@ -142,7 +142,7 @@ module _ (t : Trace) (form : Form t) (m : ℕ) (l : Laws (coresOf m t) (keptOf m
     own w = so-eq
 
     -- c ran before, and waits
-    ran-place : {b : Built} {r : List ℕ} → Drives t m b r p → c ∈ r → (r′ : List ℕ) × Drives t m (placed t m b c) r′ (p ++ (c ∷ []))
+    ran-place : {b : Built} {r : List ℕ} → Drives t m b r p → c ∈ r → (r′ : List ℕ) × Drives t m (placedNext t m b c) r′ (p ++ (c ∷ []))
     ran-place {b} {r} d i =
         let start : (w : ℕ) → w < suc c → thread (at t w) ≡ thread (at t c) → w ∈ r = λ w u e. elim (last? u) [
           | inl q ↦ subst (λ (w : ℕ). w ∈ r) (sym q) i
@@ -161,7 +161,7 @@ module _ (t : Trace) (form : Form t) (m : ℕ) (l : Laws (coresOf m t) (keptOf m
         more-in w k r = elim (eq? w k) [ inl e ↦ omega (arith, count-here w k r e) | inr o ↦ omega (arith, count-later w k r o) ]
 
     -- c has not run: its core runs up to it
-    fresh-place : {b : Built} {r : List ℕ} → Drives t m b r p → count c r ≡ 0 → (r′ : List ℕ) × Drives t m (placed t m b c) r′ (p ++ (c ∷ []))
+    fresh-place : {b : Built} {r : List ℕ} → Drives t m b r p → count c r ≡ 0 → (r′ : List ℕ) × Drives t m (placedNext t m b c) r′ (p ++ (c ∷ []))
     unfolding swept
     fresh-place {b} {r} d z =
         let (r′, d′, z′, all) = sweeps false (thread (at t c)) p (λ r. count c r ≡ 0) c (omega (arith, below))
@@ -184,7 +184,7 @@ module _ (t : Trace) (form : Form t) (m : ℕ) (l : Laws (coresOf m t) (keptOf m
               (c ∷ r′, subst (λ (b : Built). Drives t m b (c ∷ r′) (p ++ (c ∷ []))) (sym (placed-waits t m b c (sym (lands-is c below) ∙ u))) (step-on (swept t false (thread (at t c)) b (suc c) .ran) d″ (d″ .flags) (d″ .ran) (empties c o)))
         ]
 
-    place : {b : Built} {r : List ℕ} → Drives t m b r p → (r′ : List ℕ) × Drives t m (placed t m b c) r′ (p ++ (c ∷ []))
+    place : {b : Built} {r : List ℕ} → Drives t m b r p → (r′ : List ℕ) × Drives t m (placedNext t m b c) r′ (p ++ (c ∷ []))
     place {b} {r} d = elim (in? c r) [ inl i ↦ ran-place d i | inr z ↦ fresh-place d z ]
 
   placing-drives : (p s : List ℕ) → Valid (frameOf t) (keptOf m t) (p ++ s) → {b : Built} {r : List ℕ} → Drives t m b r p → (r′ : List ℕ) × Drives t m (placing t m b s) r′ (p ++ s)
@@ -193,9 +193,9 @@ module _ (t : Trace) (form : Form t) (m : ℕ) (l : Laws (coresOf m t) (keptOf m
   placing-drives p (c ∷ s) v {b} {r} d =
       let (r′, d′) = place p c s v d in
       let (r″, d″) = placing-drives (p ++ (c ∷ [])) s (subst (Valid (frameOf t) (keptOf m t)) (sym (append-snoc p c s)) v) d′ in
-      (r″, subst (Drives t m (placing t m (placed t m b c) s) r″) (append-snoc p c s) d″)
+      (r″, subst (Drives t m (placing t m (placedNext t m b c) s) r″) (append-snoc p c s) d″)
 
-  blank-drives : Drives t m blank [] []
+  blank-drives : Drives t m noneBuilt [] []
   unfolding count
   blank-drives = record {
     flags = length-replicate RECORDS false;

@@ -20,10 +20,10 @@ use Rattle.laws.proofs.Tests.{off}
 use Rattle.laws.proofs.Places.{pos-lt}
 use Rattle.laws.proofs.Prefixes.{pos-in, pos-out}
 use Rattle.laws.proofs.Counts.{count-mid, repeats}
-use Rattle.trace.specs.Frame.{Good}
-use Rattle.trace.specs.Order.{Visible, Sees, nobody, latest, Valid}
-use Rattle.orders.proofs.Seen.{operation-there}
-use Rattle.orders.proofs.Ready.{in-before, before-in, not-before}
+use Rattle.rules.specs.Frame.{Good}
+use Rattle.rules.specs.Order.{Visible, Sees, nobody, latest, Valid}
+use Rattle.rules.proofs.Seen.{operation-there}
+use Rattle.rules.proofs.Ready.{in-before, before-in, not-before}
 use Rattle.machine.proofs.History.{_∈_, Cores, Waits, Own, Stored, Got, buffered, stored, initial, Alone, Run, Empty, Go, through, enters, empties, Goes, done, more, Laws}
 use Rattle.machine.proofs.Snoc.{in?}
 use Rattle.machine.proofs.Invariant.{Sound, nothing-sound, goes-sound, ran-before, waits-store}

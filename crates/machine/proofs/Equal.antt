@@ -18,33 +18,33 @@ use native.Mathlib.Omega.{arith}
 use native.Mathlib.Nat.{not-suc-le-zero}
 use lib.ListN.{length, getD, take, replicate, length-replicate}
 use Rattle.laws.specs.Tests.{all}
-use Rattle.laws.specs.Warshall.{row}
+use Rattle.laws.specs.ListOf.{row}
 use Rattle.laws.specs.Places.{pos, count}
 use Rattle.laws.proofs.Tests.{and-iff, so-not, so-all, test, off}
 use Rattle.laws.proofs.Rows.{row-long, row-place}
 use Rattle.trace.specs.Bounds.{RECORDS, THREADS, ADDRESSES}
 use Rattle.trace.specs.Op.{thread}
 use Rattle.trace.specs.Trace as trace
-use Rattle.trace.specs.Form.{Form}
-use Rattle.trace.specs.Order.{Valid}
+use Rattle.trace.specs.FormFacts.{Form}
+use Rattle.rules.specs.Order.{Valid}
 use Rattle.trace.specs.WellFormed.{wellFormed}
 use Rattle.trace.specs.Meaning.{frameOf}
 use Rattle.trace.specs.declared.Trace.{Trace}
 use Rattle.trace.proofs.WellFormed.{form-iff}
 use Rattle.trace.proofs.Good.{form-good}
 use Rattle.pairs.specs.Kept.{SC, TSO, keptOf}
-use Rattle.orders.specs.Judged.{judgedOf}
-use Rattle.orders.specs.Accepted.{Accepted}
-use Rattle.orders.specs.declared.judging.Judgement.{Judgement}
-use Rattle.orders.proofs.Judged.{accepted-yes}
+use Rattle.judge.specs.Judged.{judgedOf}
+use Rattle.pairs.specs.Accepted.{Accepted}
+use Rattle.judge.specs.declared.judging.Judgement.{Judgement}
+use Rattle.judge.proofs.Judged.{accepted-yes}
 use Rattle.machine.specs.declared.Steps.{Steps}
 use Rattle.machine.specs.declared.Given.{Given}
 use Rattle.machine.specs.declared.Given.the-variants as given
-use Rattle.machine.specs.Replay.{STEPS, told, builtOf, yes?, nothing, listed, stepsOf}
+use Rattle.machine.specs.Replay.{STEPS, told, builtOf, yes?, noSteps, listed, stepsOf}
 use Rattle.machine.specs.declared.Machine.{Machine}
 use Rattle.machine.specs.declared.Ran.{Ran}
 use Rattle.machine.specs.declared.Ran.the-variants.{NoModel, NotWellFormed, Stuck, Through}
-use Rattle.machine.specs.Machine.{Sized, machined, startOf, step, finished, run, answer, placeOf}
+use Rattle.machine.specs.Machine.{Sized, machined, machineStart, step, finished, run, answer, stuckAt}
 use Rattle.machine.proofs.CoresOf.{coresOf}
 use Rattle.machine.proofs.History.{_∈_, Cores, Waits, Run, Empty, Go, through, enters, empties, Goes, done, more, Ended, Laws}
 use Rattle.machine.proofs.Snoc.{in?}
@@ -56,8 +56,8 @@ use Rattle.machine.proofs.Driven.{driven}
 use Rattle.machine.proofs.KeptLaws.{model-laws}
 use Rattle.machine.proofs.Lockstep.{Tells, Holds, untouched, step-go, go-step, no-flag}
 
-pub start-tells : (t : Trace) (m : ℕ) → Tells t m (startOf t) [] []
-unfolding startOf count
+pub start-tells : (t : Trace) (m : ℕ) → Tells t m (machineStart t) [] []
+unfolding machineStart count
 start-tells t m = record {
   sized = record { ran = simp length-replicate; waits = simp length-replicate; memory = row-long (trace.first t) 0 ADDRESSES };
   ran = λ x h. (λ s. absurd (false≢true (sym (no-flag RECORDS x) ∙ s)), λ i. absurd (omega arith));
@@ -137,9 +137,9 @@ pub record Short (t : Trace) (ss : List ℕ) : Type 0 where
   pub small : (i : ℕ) → i < length ss → getD ss i 0 < 2 * THREADS
 
 module _ (t : Trace) (w : So (wellFormed t)) (m : ℕ) (k : So (machined m)) where
-  answer-is : (ss : List ℕ) → answer t m ss ≡ run t m (startOf t) ss 0
+  answer-is : (ss : List ℕ) → answer t m ss ≡ run t m (machineStart t) ss 0
   unfolding answer
-  answer-is ss = ap (λ b. cond b (cond (wellFormed t) (run t m (startOf t) ss 0) NotWellFormed) NoModel) k ∙ ap (λ b. cond b (run t m (startOf t) ss 0) NotWellFormed) w
+  answer-is ss = ap (λ b. cond b (cond (wellFormed t) (run t m (machineStart t) ss 0) NotWellFormed) NoModel) k ∙ ap (λ b. cond b (run t m (machineStart t) ss 0) NotWellFormed) w
 
   -- whatever steps run all records and end with empty buffers, there is a valid order
   pub through-valid : (ss : List ℕ) → answer t m ss ≡ Through true → (xs : List ℕ) × Valid (frameOf t) (keptOf m t) xs
@@ -183,10 +183,10 @@ module _ (t : Trace) (w : So (wellFormed t)) (m : ℕ) (k : So (machined m)) whe
   machine-exactly = (λ x. (told (builtOf t m (x .0)), built-through (x .0) (x .1) .0), λ y. through-valid (y .0) (y .1))
 
 -- what comes with an answer is small
-pub place-below : (t : Trace) (m : ℕ) (ss : List ℕ) → placeOf (answer t m ss) ≤ STEPS
+pub place-below : (t : Trace) (m : ℕ) (ss : List ℕ) → stuckAt (answer t m ss) ≤ STEPS
 place-below t m ss = of (answer t m ss) refl
   where
-    of : (r : Ran) → answer t m ss ≡ r → placeOf r ≤ STEPS
+    of : (r : Ran) → answer t m ss ≡ r → stuckAt r ≤ STEPS
     of NoModel e = omega arith
     of NotWellFormed e = omega arith
     of (Through b) e = omega arith
@@ -204,7 +204,7 @@ unfolding stepsOf
 steps-exactly t m xs = (there (machined m) refl (wellFormed t) refl (yes? (judgedOf t m xs)) refl, back)
   where
     Answered : Bool → Bool → Bool → Steps
-    Answered a b c = cond a (cond b (cond c (listed (builtOf t m xs)) (nothing given.NoOrder)) (nothing given.NotWellFormed)) (nothing given.NoModel)
+    Answered a b c = cond a (cond b (cond c (listed (builtOf t m xs)) (noSteps given.NoOrder)) (noSteps given.NotWellFormed)) (noSteps given.NoModel)
 
     there : (a : Bool) → machined m ≡ a → (b : Bool) → wellFormed t ≡ b → (c : Bool) → yes? (judgedOf t m xs) ≡ c → Answered a b c .given ≡ given.List → So (machined m) × Accepted t m xs
     there true e true f true g q = (e, accepted-yes t m xs .0 (yes-is (judgedOf t m xs) g))
@@ -219,7 +219,7 @@ pub replay-through : (t : Trace) (m : ℕ) (xs : List ℕ) → stepsOf t m xs .g
 unfolding stepsOf
 replay-through t m xs e =
     let (k, a) = steps-exactly t m xs .0 e in
-    let q : stepsOf t m xs ≡ listed (builtOf t m xs) = ap (λ (a : Bool). cond a (cond (wellFormed t) (cond (yes? (judgedOf t m xs)) (listed (builtOf t m xs)) (nothing given.NoOrder)) (nothing given.NotWellFormed)) (nothing given.NoModel)) k
-    ∙ ap (λ (b : Bool). cond b (cond (yes? (judgedOf t m xs)) (listed (builtOf t m xs)) (nothing given.NoOrder)) (nothing given.NotWellFormed)) (a .well)
-    ∙ ap (λ (j : Judgement). cond (yes? j) (listed (builtOf t m xs)) (nothing given.NoOrder)) (accepted-yes t m xs .1 a) in
+    let q : stepsOf t m xs ≡ listed (builtOf t m xs) = ap (λ (a : Bool). cond a (cond (wellFormed t) (cond (yes? (judgedOf t m xs)) (listed (builtOf t m xs)) (noSteps given.NoOrder)) (noSteps given.NotWellFormed)) (noSteps given.NoModel)) k
+    ∙ ap (λ (b : Bool). cond b (cond (yes? (judgedOf t m xs)) (listed (builtOf t m xs)) (noSteps given.NoOrder)) (noSteps given.NotWellFormed)) (a .well)
+    ∙ ap (λ (j : Judgement). cond (yes? j) (listed (builtOf t m xs)) (noSteps given.NoOrder)) (accepted-yes t m xs .1 a) in
     subst (λ (s : Steps). answer t m (take (s .len) (s .steps)) ≡ Through true) (sym q) (built-through t (a .well) m k xs (a .valid) .0)

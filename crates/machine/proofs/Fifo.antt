@@ -17,14 +17,14 @@ use Rattle.trace.specs.Bounds.{THREADS}
 use Rattle.trace.specs.Op.{thread, writes}
 use Rattle.trace.specs.Trace as trace
 use Rattle.trace.specs.WellFormed.{wellFormed}
-use Rattle.trace.specs.Form.{Form}
+use Rattle.trace.specs.FormFacts.{Form}
 use Rattle.trace.specs.Meaning.{frameOf}
 use Rattle.trace.specs.declared.Trace.{Trace}
 use Rattle.trace.proofs.WellFormed.{form-iff}
 use Rattle.pairs.specs.Kept.{keptOf}
 use Rattle.machine.specs.declared.Machine.{Machine}
-use Rattle.machine.specs.Machine.{machined, waiting, step, startOf}
-use Rattle.machine.specs.Fifo.{picks, bufferOf, Reach, begin, on}
+use Rattle.machine.specs.Machine.{machined, waiting, step, machineStart}
+use Rattle.machine.specs.Fifo.{picks, bufferOf, Reached, begin, on}
 use Rattle.machine.proofs.CoresOf.{coresOf}
 use Rattle.machine.proofs.History.{_∈_, Waits, Run, Empty, Go, through, enters, empties, Laws}
 use Rattle.machine.proofs.Snoc.{cons-in, cons-cases, in-snoc, snoc-other, last-in, in?}
@@ -86,7 +86,7 @@ module _ (t : Trace) (w : So (wellFormed t)) (m : ℕ) (k : So (machined m)) whe
   laws : Laws (coresOf m t) (keptOf m t)
   laws = model-laws m t k
 
-  pub reach-tells : {M : Machine} → Reach t m M → (r : List ℕ) × (p : List ℕ) × Tells t m M r p × Sound (coresOf m t) (keptOf m t) r p
+  pub reach-tells : {M : Machine} → Reached t m M → (r : List ℕ) × (p : List ℕ) × Tells t m M r p × Sound (coresOf m t) (keptOf m t) r p
   reach-tells begin = ([], [], start-tells t m, nothing-sound (coresOf m t) (keptOf m t))
   reach-tells (on {M} {N} s h e) =
       let (r, p, T, S) = reach-tells h in
@@ -186,7 +186,7 @@ module _ (t : Trace) (w : So (wellFormed t)) (m : ℕ) (k : So (machined m)) whe
         λ v. record { operation = v .operation; ran = v .ran; out = sym (snoc-other p x j d) ∙ v .out },
       )
 
-  pub fifo : {M N : Machine} → Reach t m M → (s : ℕ) → step t m M s ≡ some N → (τ : ℕ) → Moves (bufferOf t M τ) (bufferOf t N τ)
+  pub fifo : {M N : Machine} → Reached t m M → (s : ℕ) → step t m M s ≡ some N → (τ : ℕ) → Moves (bufferOf t M τ) (bufferOf t N τ)
   fifo {M} {N} h s e τ =
       let (r, p, T, S) = reach-tells h in
       let (r′, p′, g, T′) = step-go t form m laws T S s N e in

@@ -13,7 +13,7 @@ use Rattle.laws.specs.Places.{pos, count, Before}
 use Rattle.laws.specs.Relation.{Table}
 use Rattle.laws.proofs.Tests.{eq?, test, three}
 use Rattle.laws.proofs.Places.{count-here, count-later}
-use Rattle.trace.specs.Frame.{Frame}
+use Rattle.rules.specs.Frame.{Frame}
 use Rattle.machine.proofs.History.{_∈_, Cores, Waits, Run, Empty, Go, through, enters, empties, Goes, done, more, Laws}
 use Rattle.machine.proofs.Snoc.{in-snoc, last-in, snoc-other, snoc-last, snoc-cases, snoc-before, before-last, cons-in, cons-cases, in?}
 

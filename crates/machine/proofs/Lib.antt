@@ -12,4 +12,4 @@ pub mod Driven
 pub mod Equal
 pub mod Few
 pub mod Fifo
-pub mod One
+pub mod Unique

@@ -28,8 +28,8 @@ use Rattle.laws.proofs.Prefixes.{pos-in, pos-out}
 use Rattle.trace.specs.Bounds.{RECORDS, THREADS, ADDRESSES}
 use Rattle.trace.specs.Op.{thread, address, read, written, reads, writes, fence}
 use Rattle.trace.specs.Trace as trace
-use Rattle.trace.specs.Form.{Form}
-use Rattle.trace.specs.Frame.{Good}
+use Rattle.trace.specs.FormFacts.{Form}
+use Rattle.rules.specs.Frame.{Good}
 use Rattle.trace.specs.Meaning.{frameOf}
 use Rattle.trace.specs.declared.Trace.{Trace}
 use Rattle.trace.proofs.Meaning.{operation-iff, reads-iff, writes-iff, reads-operation}

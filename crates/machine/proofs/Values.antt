@@ -17,9 +17,9 @@ use Rattle.laws.specs.Relation.{Table}
 use Rattle.laws.proofs.Tests.{eq?, test}
 use Rattle.laws.proofs.Places.{count-here, count-later, pos-lt}
 use Rattle.laws.proofs.Prefixes.{pos-in, pos-out}
-use Rattle.trace.specs.Frame.{Frame, Good, Writer}
-use Rattle.trace.specs.Order.{Visible, Sees, nobody, latest, Keeps, Once, Valid}
-use Rattle.orders.proofs.Ready.{in-before, before-in, not-before}
+use Rattle.rules.specs.Frame.{Frame, Good, Writer}
+use Rattle.rules.specs.Order.{Visible, Sees, nobody, latest, Keeps, Once, Valid}
+use Rattle.rules.proofs.Ready.{in-before, before-in, not-before}
 use Rattle.machine.proofs.History.{_∈_, Cores, Waits, Own, Stored, Got, buffered, stored, initial, Run, Empty, Go, through, enters, empties, Goes, done, more, Ended, Laws}
 use Rattle.machine.proofs.Snoc.{in?}
 use Rattle.machine.proofs.Invariant.{Sound, nothing-sound, go-sound, goes-sound, ran-before, waits-store}

@@ -5,13 +5,13 @@
 --   told b                  == the steps so far
 --   put b s                 == one step more; a full list stays as it is
 --   began b k s             == record k ran by step s
---   passed t every core k b == record k runs if it did not, and is of the core or every core is asked
+--   passedRecord t every core k b == record k runs if it did not, and is of the core or every core is asked
 --   swept t every core b n  == so do the first n records in turn
---   placed t m b c          == operation c reaches memory: its core runs up to it, and then empties where it did not land
+--   placedNext t m b c      == operation c reaches memory: its core runs up to it, and then empties where it did not land
 --   placing t m b xs        == so do the operations xs in turn
 --   builtOf t m xs          == the steps of an order: its operations in turn, then the fences that are left
 --   yes? j                  == the judge says yes
---   nothing why             == no steps
+--   noSteps why             == no steps
 --   listed b                == the steps, handed back
 --   stepsOf t m xs          == the answer: 9 before 10, then no for what is no valid order
 use mathlib.Core.Bool.{Bool, true, false, cond, not, _&&_, _||_}
@@ -24,9 +24,9 @@ use Rattle.trace.specs.Op.{thread}
 use Rattle.trace.specs.Trace.{at}
 use Rattle.trace.specs.WellFormed.{wellFormed}
 use Rattle.trace.specs.declared.Trace.{Trace}
-use Rattle.orders.specs.Judged.{judgedOf}
-use Rattle.orders.specs.declared.judging.Judgement.{Judgement}
-use Rattle.orders.specs.declared.judging.Judgement.the-variants as judgement
+use Rattle.judge.specs.Judged.{judgedOf}
+use Rattle.judge.specs.declared.judging.Judgement.{Judgement}
+use Rattle.judge.specs.declared.judging.Judgement.the-variants as judgement
 use Rattle.machine.specs.Machine.{machined, lands}
 use Rattle.machine.specs.declared.Built.{Built}
 use Rattle.machine.specs.declared.Steps.{Steps}
@@ -45,27 +45,27 @@ put b s = cond (ltb (b .len) STEPS) (record { ran = b .ran; steps = set (b .step
 abbrev pub began : Built → ℕ → ℕ → Built
 began b k s = put (record { ran = set (b .ran) k true; steps = b .steps; len = b .len }) s
 
-unfoldable pub passed : Trace → Bool → ℕ → ℕ → Built → Built
-passed t every core k b = cond (not (getD (b .ran) k false) && (every || eqb (thread (at t k)) core)) (began b k (thread (at t k))) b
+unfoldable pub passedRecord : Trace → Bool → ℕ → ℕ → Built → Built
+passedRecord t every core k b = cond (not (getD (b .ran) k false) && (every || eqb (thread (at t k)) core)) (began b k (thread (at t k))) b
 
 unfoldable pub swept : Trace → Bool → ℕ → Built → ℕ → Built
 swept t every core b zero = b
-swept t every core b (suc k) = passed t every core k (swept t every core b k)
+swept t every core b (suc k) = passedRecord t every core k (swept t every core b k)
 
-unfoldable pub placed : Trace → ℕ → Built → ℕ → Built
-placed t m b c =
+unfoldable pub placedNext : Trace → ℕ → Built → ℕ → Built
+placedNext t m b c =
     let a = swept t false (thread (at t c)) b (suc c) in
     cond (lands m (at t c)) a (put a (THREADS + thread (at t c)))
 
 unfoldable pub placing : Trace → ℕ → Built → List ℕ → Built
 placing t m b [] = b
-placing t m b (c ∷ cs) = placing t m (placed t m b c) cs
+placing t m b (c ∷ cs) = placing t m (placedNext t m b c) cs
 
-abbrev pub blank : Built
-blank = record { ran = replicate RECORDS false; steps = replicate STEPS 0; len = 0 }
+abbrev pub noneBuilt : Built
+noneBuilt = record { ran = replicate RECORDS false; steps = replicate STEPS 0; len = 0 }
 
 unfoldable pub builtOf : Trace → ℕ → List ℕ → Built
-builtOf t m xs = swept t true 0 (placing t m blank xs) (t .len)
+builtOf t m xs = swept t true 0 (placing t m noneBuilt xs) (t .len)
 
 abbrev pub yes? : Judgement → Bool
 yes? judgement.Yes = true
@@ -77,8 +77,8 @@ yes? (judgement.Repeat x) = false
 yes? (judgement.OutOfTurn x y) = false
 yes? (judgement.WrongValue x) = false
 
-abbrev pub nothing : Given → Steps
-nothing why = record { given = why; len = 0; steps = replicate STEPS 0 }
+abbrev pub noSteps : Given → Steps
+noSteps why = record { given = why; len = 0; steps = replicate STEPS 0 }
 
 abbrev pub listed : Built → Steps
 listed b = record { given = given.List; len = b .len; steps = b .steps }
@@ -86,5 +86,5 @@ listed b = record { given = given.List; len = b .len; steps = b .steps }
 unfoldable pub stepsOf : Trace → ℕ → List ℕ → Steps
 stepsOf t m xs =
     cond (machined m)
-    (cond (wellFormed t) (cond (yes? (judgedOf t m xs)) (listed (builtOf t m xs)) (nothing given.NoOrder)) (nothing given.NotWellFormed))
-    (nothing given.NoModel)
+    (cond (wellFormed t) (cond (yes? (judgedOf t m xs)) (listed (builtOf t m xs)) (noSteps given.NoOrder)) (noSteps given.NotWellFormed))
+    (noSteps given.NoModel)

@@ -22,23 +22,23 @@ use Rattle.trace.specs.WellFormed.{wellFormed}
 use Rattle.trace.specs.declared.Trace.{Trace}
 use Rattle.trace.proofs.Meaning.{reads-iff}
 use Rattle.pairs.specs.Kept.{modelled, keptOf}
-use Rattle.orders.specs.Verdict as said
-use Rattle.orders.proofs.Accepted.{well-fits}
-use Rattle.verdict.specs.Told.{laid, Told}
+use Rattle.rules.specs.Verdict as said
+use Rattle.pairs.proofs.ValidOrders.{well-fits}
+use Rattle.verdict.specs.VerdictOf.{laid, Told}
 use Rattle.verdict.specs.declared.Outcome.{Outcome}
 use Rattle.verdict.specs.declared.Outcome.the-variants.{NoSource, Circle, Order, NoneLeft, NoModel, NotWellFormed}
 use Rattle.verdict.specs.declared.Verdict.{Verdict}
-use Rattle.night.specs.Block.{BLOCK, blockOf, lacking, spelledAs, spelled, laidOut}
+use Rattle.night.specs.Block.{BLOCK, blockOf, lackingIn, toldInAs, toldIn, blockIn}
 
-pub spelled-by : (v : Verdict) (o : Outcome) → v .outcome ≡ o → spelledAs o v ≡ spelled v
-unfolding spelled
-spelled-by v o e = ap (λ (o : Outcome). spelledAs o v) (sym e)
+pub spelled-by : (v : Verdict) (o : Outcome) → v .outcome ≡ o → toldInAs o v ≡ toldIn v
+unfolding toldIn
+spelled-by v o e = ap (λ (o : Outcome). toldInAs o v) (sym e)
 
-pub spelled-fits : (v : Verdict) → v .len ≤ RECORDS → spelled v .len ≤ RECORDS
-unfolding spelled
+pub spelled-fits : (v : Verdict) → v .len ≤ RECORDS → toldIn v .len ≤ RECORDS
+unfolding toldIn
 spelled-fits v h = go (v .outcome)
   where
-    go : (o : Outcome) → spelledAs o v .len ≤ RECORDS
+    go : (o : Outcome) → toldInAs o v .len ≤ RECORDS
     go (NoSource x) = omega arith
     go Circle = h
     go Order = h
@@ -46,21 +46,21 @@ spelled-fits v h = go (v .outcome)
     go NoModel = h
     go NotWellFormed = h
 
-pub spelled-laid : (v : said.Verdict) → laidOut (spelled (laid v)) ≡ blockOf v
-unfolding spelled laidOut blockOf
+pub spelled-laid : (v : said.Verdict) → blockIn (toldIn (laid v)) ≡ blockOf v
+unfolding toldIn blockIn blockOf
 spelled-laid (said.noSource x) = refl
 spelled-laid (said.circle c rs) = refl
 spelled-laid (said.order xs) = refl
 spelled-laid said.noneLeft = refl
 
 module _ (m : ℕ) (t : Trace) (w : So (wellFormed t)) where
-  below : (v : said.Verdict) → said.Says (frameOf t) (keptOf m t) v → lacking (laid v .outcome) < RECORDS
+  below : (v : said.Verdict) → said.Says (frameOf t) (keptOf m t) v → lackingIn (laid v .outcome) < RECORDS
   below (said.noSource x) s = let h = reads-iff t x .0 (s .0 .reads) .0 in omega (arith, well-fits t w)
   below (said.circle c rs) s = omega arith
   below (said.order xs) s = omega arith
   below said.noneLeft s = omega arith
 
-  pub source-below : (r : Verdict) → Told t m r → lacking (r .outcome) < RECORDS
+  pub source-below : (r : Verdict) → Told t m r → lackingIn (r .outcome) < RECORDS
   source-below r h = elim (test (modelled m)) [
     | inl k ↦ let (v, s, e) = h .says k w in rw e (below v s)
     | inr k ↦ rw (h .nine k) (omega arith)

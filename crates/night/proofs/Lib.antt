@@ -1,5 +1,5 @@
 -- Laws of a night's worth of runs.
-pub mod Seen
+pub mod FilledReads
 pub mod Block
 pub mod Many
-pub mod One
+pub mod Unique

@@ -27,29 +27,29 @@ use Rattle.trace.specs.WellFormed.{wellFormed}
 use Rattle.trace.specs.declared.Trace.{Trace}
 use Rattle.trace.proofs.WellFormed.{form-iff}
 use Rattle.pairs.specs.Kept.{modelled, keptOf}
-use Rattle.orders.specs.Verdict as said
-use Rattle.verdict.specs.Told.{laid, Told}
+use Rattle.rules.specs.Verdict as said
+use Rattle.verdict.specs.VerdictOf.{laid, Told}
 use Rattle.verdict.specs.declared.Verdict.{Verdict}
 use Rattle.signature.specs.Reads.{rangeOf, loads}
 use Rattle.signature.specs.Signature.{tops}
 use Rattle.signature.specs.Unpack.{readsOf}
-use Rattle.signature.specs.Answers.{loadsIn, wordsIn, unpackOf, unpackLeft}
-use Rattle.signature.specs.Cases as cases
-use Rattle.signature.specs.Cases.{Unpacks}
+use Rattle.signature.specs.SignatureAnswers.{loadsIn, wordsIn, unpackOf, unpackLeft}
+use Rattle.signature.specs.SignatureCases as cases
+use Rattle.signature.specs.SignatureCases.{Unpacks}
 use Rattle.signature.specs.declared.Answer as unpacking
 use Rattle.signature.specs.declared.Answer.the-variants as words
-use Rattle.signature.proofs.Cases.{unpack-case}
+use Rattle.signature.proofs.SignatureCases.{unpack-case}
 use Rattle.signature.proofs.Few.{pick-short, words-few}
 use Rattle.signature.proofs.Signature.{top-chosen}
-use Rattle.night.specs.Seen.{seen}
-use Rattle.night.specs.Block.{BLOCK, blockOf, spelled, laidOut}
-use Rattle.night.specs.Night.{wordsAt, blockAt, runsIn, fitting, large, largeFrom, toldOf, nightOf, Judged, allDone, Nights}
-use Rattle.night.specs.Large.{Largest, Given}
+use Rattle.night.specs.FilledReads.{filledReads}
+use Rattle.night.specs.Block.{BLOCK, blockOf, toldIn, blockIn}
+use Rattle.night.specs.Night.{wordsAt, blockAt, runsIn, fitting, large, largeFrom, largeTold, nightOf, JudgedRun, allDone, Nights}
+use Rattle.night.specs.inner.Large.{Largest, Given}
 use Rattle.night.specs.declared.Large.{Large}
 use Rattle.night.specs.declared.Large.the-variants.{At, Nothing}
 use Rattle.night.specs.declared.Answer.{Answer}
 use Rattle.night.specs.declared.Answer.the-variants.{Done, NotWellFormed, NoModel, WrongLength, TooLarge}
-use Rattle.night.proofs.Seen.{seen-well, read-small}
+use Rattle.night.proofs.FilledReads.{seen-well, read-small}
 use Rattle.night.proofs.Block.{spelled-laid}
 
 -- where an answer says that the lowest word is that is too large
@@ -198,18 +198,18 @@ module _ (t : Trace) (m : ℕ) (ws : List ℕ) where
   -- so many runs are judged
   pub record Judging (out : List ℕ) (runs i : ℕ) : Type 0 where
     pub long : length out ≡ runs * BLOCK
-    pub judged : (j : ℕ) → j < i → Judged t m (wordsAt t ws j) (blockAt out j)
+    pub judged : (j : ℕ) → j < i → JudgedRun t m (wordsAt t ws j) (blockAt out j)
 
-  pub judging-more : (out b : List ℕ) (runs i z : ℕ) → Judging out runs i → i < runs → length b ≡ BLOCK → z ≡ BLOCK → Judged t m (wordsAt t ws i) b
+  pub judging-more : (out b : List ℕ) (runs i z : ℕ) → Judging out runs i → i < runs → length b ≡ BLOCK → z ≡ BLOCK → JudgedRun t m (wordsAt t ws i) b
       → Judging (take (i * BLOCK) out ++ (b ++ drop z (drop (i * BLOCK) out))) runs (i + 1)
   judging-more out b runs i z p h l e q = subst (λ (z : ℕ). Judging (take (i * BLOCK) out ++ (b ++ drop z (drop (i * BLOCK) out))) runs (i + 1)) (sym e) made
     where
       fits : i * BLOCK + BLOCK ≤ length out
       fits = omega (arith, p .long)
 
-      each : (j : ℕ) → (j ≡ i) ⊎ (j < i) → Judged t m (wordsAt t ws j) (blockAt (put out b i fits l) j)
-      each j (inl d) = subst (λ (j : ℕ). Judged t m (wordsAt t ws j) (blockAt (put out b i fits l) j)) (sym d) (subst (Judged t m (wordsAt t ws i)) (sym (block-here out b i fits l)) q)
-      each j (inr d) = subst (Judged t m (wordsAt t ws j)) (sym (block-before out b i fits l j d)) (p .judged j d)
+      each : (j : ℕ) → (j ≡ i) ⊎ (j < i) → JudgedRun t m (wordsAt t ws j) (blockAt (put out b i fits l) j)
+      each j (inl d) = subst (λ (j : ℕ). JudgedRun t m (wordsAt t ws j) (blockAt (put out b i fits l) j)) (sym d) (subst (JudgedRun t m (wordsAt t ws i)) (sym (block-here out b i fits l)) q)
+      each j (inr d) = subst (JudgedRun t m (wordsAt t ws j)) (sym (block-before out b i fits l j d)) (p .judged j d)
 
       last : (j i : ℕ) → j < i + 1 → (j ≡ i) ⊎ (j < i)
       last zero zero h = inl refl
@@ -220,10 +220,10 @@ module _ (t : Trace) (m : ℕ) (ws : List ℕ) where
       made : Judging (put out b i fits l) runs (i + 1)
       made = record { long = put-long out b i fits l ∙ p .long; judged = λ j d. each j (last j i d) }
 
-  pub told-judged : So (wellFormed t) → So (modelled m) → (v : Verdict) → Told (seen t (readsOf t ws)) m v → Judged t m ws (laidOut (spelled v))
+  pub told-judged : So (wellFormed t) → So (modelled m) → (v : Verdict) → Told (filledReads t (readsOf t ws)) m v → JudgedRun t m ws (blockIn (toldIn v))
   told-judged w k v h =
       let (u, s, e) = h .says k (seen-well t (readsOf t ws) (read-small t (form-iff t .0 w) ws) w) in
-      (u, s, ap (λ (v : Verdict). laidOut (spelled v)) e ∙ spelled-laid u)
+      (u, s, ap (λ (v : Verdict). blockIn (toldIn v)) e ∙ spelled-laid u)
 
 -- what unpacking leaves where it takes the words
 pub left-done : (t : Trace) (ws b : List ℕ) → unpackOf t ws (length b) ≡ words.Done → unpackLeft t ws b ≡ readsOf t ws
@@ -237,22 +237,22 @@ module _ (t : Trace) (m : ℕ) (ws before : List ℕ) where
 
   pub ten : wellFormed t ≡ false → Nights t m ws before before NotWellFormed
   unfolding nightOf
-  ten e = turned NotWellFormed (ap (λ (b : Bool). cond b (cond (modelled m) (cond (fitting t ws (length before)) (toldOf (largeFrom t ws 0 (runsIn (length before)))) WrongLength) NoModel) NotWellFormed) (sym e)) (λ d. let z : _≡_ {A = ℕ} 0 1 = cc in omega arith)
+  ten e = turned NotWellFormed (ap (λ (b : Bool). cond b (cond (modelled m) (cond (fitting t ws (length before)) (largeTold (largeFrom t ws 0 (runsIn (length before)))) WrongLength) NoModel) NotWellFormed) (sym e)) (λ d. let z : _≡_ {A = ℕ} 0 1 = cc in omega arith)
 
   module _ (w : So (wellFormed t)) where
-    within : cond (modelled m) (cond (fitting t ws (length before)) (toldOf (largeFrom t ws 0 (runsIn (length before)))) WrongLength) NoModel ≡ nightOf t m ws (length before)
+    within : cond (modelled m) (cond (fitting t ws (length before)) (largeTold (largeFrom t ws 0 (runsIn (length before)))) WrongLength) NoModel ≡ nightOf t m ws (length before)
     unfolding nightOf
-    within = ap (λ (b : Bool). cond b (cond (modelled m) (cond (fitting t ws (length before)) (toldOf (largeFrom t ws 0 (runsIn (length before)))) WrongLength) NoModel) NotWellFormed) (sym w)
+    within = ap (λ (b : Bool). cond b (cond (modelled m) (cond (fitting t ws (length before)) (largeTold (largeFrom t ws 0 (runsIn (length before)))) WrongLength) NoModel) NotWellFormed) (sym w)
 
     pub nine : modelled m ≡ false → Nights t m ws before before NoModel
-    nine e = turned NoModel (ap (λ (b : Bool). cond b (cond (fitting t ws (length before)) (toldOf (largeFrom t ws 0 (runsIn (length before)))) WrongLength) NoModel) (sym e) ∙ within) (λ d. let z : _≡_ {A = ℕ} 0 1 = cc in omega arith)
+    nine e = turned NoModel (ap (λ (b : Bool). cond b (cond (fitting t ws (length before)) (largeTold (largeFrom t ws 0 (runsIn (length before)))) WrongLength) NoModel) (sym e) ∙ within) (λ d. let z : _≡_ {A = ℕ} 0 1 = cc in omega arith)
 
     module _ (k : So (modelled m)) where
-      asked : cond (fitting t ws (length before)) (toldOf (largeFrom t ws 0 (runsIn (length before)))) WrongLength ≡ nightOf t m ws (length before)
-      asked = ap (λ (b : Bool). cond b (cond (fitting t ws (length before)) (toldOf (largeFrom t ws 0 (runsIn (length before)))) WrongLength) NoModel) (sym k) ∙ within
+      asked : cond (fitting t ws (length before)) (largeTold (largeFrom t ws 0 (runsIn (length before)))) WrongLength ≡ nightOf t m ws (length before)
+      asked = ap (λ (b : Bool). cond b (cond (fitting t ws (length before)) (largeTold (largeFrom t ws 0 (runsIn (length before)))) WrongLength) NoModel) (sym k) ∙ within
 
       wrong : fitting t ws (length before) ≡ false → Nights t m ws before before WrongLength
-      wrong e = turned WrongLength (ap (λ (b : Bool). cond b (toldOf (largeFrom t ws 0 (runsIn (length before)))) WrongLength) (sym e) ∙ asked) (λ d. let z : _≡_ {A = ℕ} 0 1 = cc in omega arith)
+      wrong e = turned WrongLength (ap (λ (b : Bool). cond b (largeTold (largeFrom t ws 0 (runsIn (length before)))) WrongLength) (sym e) ∙ asked) (λ d. let z : _≡_ {A = ℕ} 0 1 = cc in omega arith)
 
       pub wrong-room : length before ≢ runsIn (length before) * BLOCK → Nights t m ws before before WrongLength
       wrong-room n = wrong (ap (λ (b : Bool). b && eqb (length ws) (runsIn (length before) * length (tops t))) (ne-eqb (length before) (runsIn (length before) * BLOCK) n))
@@ -265,11 +265,11 @@ module _ (t : Trace) (m : ℕ) (ws before : List ℕ) where
         wrong-words n = wrong (ap₂ (λ (a b : Bool). a && b) room (ne-eqb (length ws) (runsIn (length before) * length (tops t)) n))
 
         module _ (l : length ws ≡ runsIn (length before) * length (tops t)) where
-          told : toldOf (largeFrom t ws 0 (runsIn (length before))) ≡ nightOf t m ws (length before)
-          told = ap₂ (λ (a b : Bool). cond (a && b) (toldOf (largeFrom t ws 0 (runsIn (length before)))) WrongLength) (sym room) (sym (eq-eqb (length ws) (runsIn (length before) * length (tops t)) l)) ∙ asked
+          told : largeTold (largeFrom t ws 0 (runsIn (length before))) ≡ nightOf t m ws (length before)
+          told = ap₂ (λ (a b : Bool). cond (a && b) (largeTold (largeFrom t ws 0 (runsIn (length before)))) WrongLength) (sym room) (sym (eq-eqb (length ws) (runsIn (length before) * length (tops t)) l)) ∙ asked
 
           pub too-large : (i k : ℕ) → At i k ≡ largeFrom t ws 0 (runsIn (length before)) → Nights t m ws before before (TooLarge i k)
-          too-large i k e = turned (TooLarge i k) (ap toldOf e ∙ told) (λ d. let z : _≡_ {A = ℕ} 0 1 = cc in omega arith)
+          too-large i k e = turned (TooLarge i k) (ap largeTold e ∙ told) (λ d. let z : _≡_ {A = ℕ} 0 1 = cc in omega arith)
 
           pub all-done : Nothing ≡ largeFrom t ws 0 (runsIn (length before)) → (after : List ℕ) → allDone t m ws (runsIn (length before)) after → Nights t m ws before after Done
-          all-done e after a = record { answer = ap toldOf e ∙ told; stays = λ n. absurd (n refl); judged = λ _. a }
+          all-done e after a = record { answer = ap largeTold e ∙ told; stays = λ n. absurd (n refl); judged = λ _. a }

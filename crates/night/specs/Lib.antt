@@ -1,6 +1,6 @@
--- A night's worth of runs. Seen puts the reads of a run into the test program, Block lays a verdict out in numbers, Night has what is promised of many
+-- A night's worth of runs. FilledReads puts the reads of a run into the test program, Block lays a verdict out in numbers, Night has what is promised of many
 -- runs; Large has what only private functions promise.
-pub mod Seen
+pub mod FilledReads
 pub mod Block
 pub mod Night
-pub mod Large
+pub mod inner

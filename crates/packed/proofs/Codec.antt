@@ -18,7 +18,7 @@ use Rattle.laws.proofs.Tests.{and-iff, so-eq}
 use Rattle.trace.specs.Op.{thread, address, read, written}
 use Rattle.trace.specs.declared.Op.{Op}
 use Rattle.trace.specs.declared.Op.the-variants.{Load, Store, Swap, Fence}
-use Rattle.packed.specs.Layout.{BYTE, RECORD, two, twoIn, kindOf, recordOf}
+use Rattle.packed.specs.Layout.{BYTE, RECORD, two, twoIn, kindByte, recordOf}
 use Rattle.packed.specs.Entry.{opIn, entryIn}
 use Rattle.packed.specs.declared.Entry.{Entry}
 use Rattle.packed.specs.declared.Entry.the-variants.{Of, Nothing}
@@ -98,7 +98,7 @@ module _ (k t a z r w : ℕ) where
         unfolding opIn
         op-none e = rw (x, y, v, e) refl
 
-in-fields : (o : Op) → opIn (kindOf o) (thread o) (address o) 0 (read o) (written o) ≡ Of o
+in-fields : (o : Op) → opIn (kindByte o) (thread o) (address o) 0 (read o) (written o) ≡ Of o
 unfolding opIn
 in-fields (Load t a r) = refl
 in-fields (Store t a w) = refl
@@ -106,11 +106,11 @@ in-fields (Swap t a r w) = refl
 in-fields (Fence t) = refl
 
 pub in-record : (o : Op) (rest : List ℕ) → entryIn (recordOf o ++ rest) ≡ Of o
-in-record o rest = ap₂ (λ (r w : ℕ). opIn (kindOf o) (thread o) (address o) 0 r w) (two-back (read o)) (two-back (written o)) ∙ in-fields o
+in-record o rest = ap₂ (λ (r w : ℕ). opIn (kindByte o) (thread o) (address o) 0 r w) (two-back (read o)) (two-back (written o)) ∙ in-fields o
 
 -- a record's fields, one by one
 record Fields (o : Op) (k t a z r w : ℕ) : Type 0 where
-  is-kind : k ≡ kindOf o
+  is-kind : k ≡ kindByte o
   is-thread : t ≡ thread o
   is-address : a ≡ address o
   is-zero : z ≡ 0

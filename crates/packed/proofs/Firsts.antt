@@ -22,22 +22,22 @@ use Rattle.trace.specs.Trace.{started}
 use Rattle.trace.specs.WellFormed.{wellFormed}
 use Rattle.trace.specs.declared.Trace.{Trace}
 use Rattle.trace.proofs.Growth.{started-well}
-use Rattle.packed.specs.Layout.{BYTE, FIRST, two, twoIn, firstOf, firstsOf, many}
-use Rattle.packed.specs.Read.{begun, good, back, readFirsts}
+use Rattle.packed.specs.Layout.{BYTE, FIRST, two, twoIn, firstEntry, firstsOf, many}
+use Rattle.packed.specs.FileRead.{begunFile, good, back, readFirsts}
 use Rattle.packed.specs.declared.Reason.{Reason}
 use Rattle.packed.specs.declared.Reason.the-variants.{PastBound, NoEntry}
 use Rattle.packed.specs.declared.Answer.{Answer}
 use Rattle.packed.specs.declared.Answer.the-variants.{Good, Refused}
 use Rattle.packed.specs.declared.Reading.{Reading}
 use Rattle.packed.proofs.Codec.{Bytes, bytes-drop, two-back, lower, upper}
-use Rattle.packed.proofs.Laying.{first-some, firsts-append}
+use Rattle.packed.proofs.FileLaid.{first-some, firsts-append}
 
 pub never : {reason : Reason} {line : ℕ} {t : Trace} → back reason line ≡ good t → ⊥
 never {reason} {line} {t} q = let e : _≡_ {A = Answer} (Refused reason line) Good = ap (λ (r : Reading). r .answer) q in let z : _≡_ {A = ℕ} 0 1 = cc in omega arith
 
 pub read-firsts : (vs pre rest : List ℕ) (a low : ℕ) → length pre ≡ a → a + length vs ≡ ADDRESSES → low ≤ a
-    → readFirsts (many vs) low (pre ++ replicate (length vs) 0) (firstsOf a vs ++ rest) ≡ good (begun (pre ++ vs))
-unfolding readFirsts firstOf firstsOf many
+    → readFirsts (many vs) low (pre ++ replicate (length vs) 0) (firstsOf a vs ++ rest) ≡ good (begunFile (pre ++ vs))
+unfolding readFirsts firstEntry firstsOf many
 read-firsts [] pre rest a low l e h = refl
 read-firsts (v ∷ vs) pre rest a low l e h = go (eqb v 0) refl (read-firsts vs (pre ++ (0 ∷ [])) rest (suc a) low) (read-firsts vs (pre ++ (v ∷ [])) rest (suc a) (suc a))
   where
@@ -45,13 +45,13 @@ read-firsts (v ∷ vs) pre rest a low l e h = go (eqb v 0) refl (read-firsts vs 
     long x = omega (arith, length-append pre (x ∷ []), l)
 
     go : (b : Bool) → eqb v 0 ≡ b
-        → (length (pre ++ (0 ∷ [])) ≡ suc a → suc a + length vs ≡ ADDRESSES → low ≤ suc a → readFirsts (many vs) low ((pre ++ (0 ∷ [])) ++ replicate (length vs) 0) (firstsOf (suc a) vs ++ rest) ≡ good (begun ((pre ++ (0 ∷ [])) ++ vs)))
-        → (length (pre ++ (v ∷ [])) ≡ suc a → suc a + length vs ≡ ADDRESSES → suc a ≤ suc a → readFirsts (many vs) (suc a) ((pre ++ (v ∷ [])) ++ replicate (length vs) 0) (firstsOf (suc a) vs ++ rest) ≡ good (begun ((pre ++ (v ∷ [])) ++ vs)))
-        → readFirsts (cond b (many vs) (suc (many vs))) low (pre ++ 0 ∷ replicate (length vs) 0) ((cond b [] (a ∷ (v % BYTE) ∷ (v / BYTE) ∷ []) ++ firstsOf (suc a) vs) ++ rest) ≡ good (begun (pre ++ v ∷ vs))
+        → (length (pre ++ (0 ∷ [])) ≡ suc a → suc a + length vs ≡ ADDRESSES → low ≤ suc a → readFirsts (many vs) low ((pre ++ (0 ∷ [])) ++ replicate (length vs) 0) (firstsOf (suc a) vs ++ rest) ≡ good (begunFile ((pre ++ (0 ∷ [])) ++ vs)))
+        → (length (pre ++ (v ∷ [])) ≡ suc a → suc a + length vs ≡ ADDRESSES → suc a ≤ suc a → readFirsts (many vs) (suc a) ((pre ++ (v ∷ [])) ++ replicate (length vs) 0) (firstsOf (suc a) vs ++ rest) ≡ good (begunFile ((pre ++ (v ∷ [])) ++ vs)))
+        → readFirsts (cond b (many vs) (suc (many vs))) low (pre ++ 0 ∷ replicate (length vs) 0) ((cond b [] (a ∷ (v % BYTE) ∷ (v / BYTE) ∷ []) ++ firstsOf (suc a) vs) ++ rest) ≡ good (begunFile (pre ++ v ∷ vs))
     go true q k m =
         ap (λ (s : List ℕ). readFirsts (many vs) low s (firstsOf (suc a) vs ++ rest)) (sym (append-snoc pre 0 (replicate (length vs) 0)))
         ∙ k (long 0) (omega arith) (omega arith)
-        ∙ ap (λ (s : List ℕ). good (begun s)) (append-snoc pre 0 vs ∙ ap (λ (x : ℕ). pre ++ x ∷ vs) (sym (so-eq .0 q)))
+        ∙ ap (λ (s : List ℕ). good (begunFile s)) (append-snoc pre 0 vs ∙ ap (λ (x : ℕ). pre ++ x ∷ vs) (sym (so-eq .0 q)))
     go false q k m =
         let whole : v % BYTE + BYTE * (v / BYTE) ≡ v = two-back v in
         let here : (eqb (v % BYTE + BYTE * (v / BYTE)) 0 || ltb a low) ≡ false = ap₂ (λ (x y : Bool). x || y) (ap (λ (n : ℕ). eqb n 0) whole ∙ q) (le-ltb a low h) in
@@ -60,7 +60,7 @@ read-firsts (v ∷ vs) pre rest a low l e h = go (eqb v 0) refl (read-firsts vs 
         ∙ ap₂ (λ (n : ℕ) (s : List ℕ). readFirsts (many vs) n s (firstsOf (suc a) vs ++ rest)) (add-one a)
         (ap (set (pre ++ 0 ∷ replicate (length vs) 0) a) whole ∙ set-at pre 0 (replicate (length vs) 0) v a l ∙ sym (append-snoc pre v (replicate (length vs) 0)))
         ∙ m (long v) (omega arith) (omega arith)
-        ∙ ap (λ (s : List ℕ). good (begun s)) (append-snoc pre v vs)
+        ∙ ap (λ (s : List ℕ). good (begunFile s)) (append-snoc pre v vs)
 
 -- addresses without a first value other than 0 take no entry
 abbrev pub zeros : ℕ → List ℕ
@@ -72,7 +72,7 @@ many-zeros zero l = refl
 many-zeros (suc d) l = many-zeros d l
 
 firsts-zeros : (d a : ℕ) (l : List ℕ) → firstsOf a (zeros d ++ l) ≡ firstsOf (a + d) l
-unfolding firstOf firstsOf
+unfolding firstEntry firstsOf
 firsts-zeros zero a l = ap (λ (n : ℕ). firstsOf n l) (omega arith)
 firsts-zeros (suc d) a l = firsts-zeros d (suc a) l ∙ ap (λ (n : ℕ). firstsOf n l) (omega arith)
 
@@ -94,7 +94,7 @@ three (a ∷ b ∷ c ∷ bs) h = refl
 pub record Entries (c low n : ℕ) (pre b : List ℕ) (u : Trace) : Type 0 where
   pub tail : List ℕ
   pub long : length tail ≡ n
-  pub all : u ≡ begun (pre ++ tail)
+  pub all : u ≡ begunFile (pre ++ tail)
   pub count : c ≡ many tail
   pub bytes : b ≡ firstsOf low tail ++ drop (FIRST * c) b
 
@@ -133,7 +133,7 @@ firsts-only (suc c) low n pre b u l e h room q =
     go false s false t q rec = record {
       tail = zeros d ++ v ∷ r .tail;
       long = omega (arith, length-append (zeros d) (v ∷ r .tail), length-replicate {A = ℕ} d 0, r .long, sum);
-      all = r .all ∙ ap begun (append-snoc (pre ++ zeros d) v (r .tail) ∙ append-assoc pre (zeros d) (v ∷ r .tail));
+      all = r .all ∙ ap begunFile (append-snoc (pre ++ zeros d) v (r .tail) ∙ append-assoc pre (zeros d) (v ∷ r .tail));
       count = ap suc (r .count) ∙ sym one-more ∙ sym (many-zeros d (v ∷ r .tail));
       bytes = whole;
     }
@@ -187,16 +187,16 @@ firsts-only (suc c) low n pre b u l e h room q =
             ∙ ap (λ (s : List ℕ). a ∷ (v % BYTE) ∷ (v / BYTE) ∷ s) (r .bytes ∙ ap (λ (s : List ℕ). firstsOf (a + 1) (r .tail) ++ s) (drop-drop (FIRST * c) FIRST b ∙ ap (λ (i : ℕ). drop i b) m))
             ∙ ap (λ (s : List ℕ). s ++ drop (FIRST * suc c) b) (sym (firsts-zeros d low (v ∷ r .tail) ∙ ap (λ (i : ℕ). firstsOf i (v ∷ r .tail)) k ∙ entry))
 
-pub firsts-well : (c low : ℕ) (vs b : List ℕ) (u : Trace) → So (wellFormed (begun vs)) → Bytes b → readFirsts c low vs b ≡ good u → So (wellFormed u)
+pub firsts-well : (c low : ℕ) (vs b : List ℕ) (u : Trace) → So (wellFormed (begunFile vs)) → Bytes b → readFirsts c low vs b ≡ good u → So (wellFormed u)
 unfolding readFirsts started
 firsts-well zero low vs b u w h q = subst (λ (t : Trace). So (wellFormed t)) (ap (λ (r : Reading). r .trace) q) w
 firsts-well (suc c) low vs b u w h q = go (eqb (twoIn b 1) 0 || ltb (getD b 0 0) low) (leb ADDRESSES (getD b 0 0)) q (firsts-well c (getD b 0 0 + 1) (set vs (getD b 0 0) (twoIn b 1)) (drop FIRST b) u)
   where
-    next : So (wellFormed (begun (set vs (getD b 0 0) (twoIn b 1))))
-    next = started-well (begun vs) (getD b 0 0) (twoIn b 1) refl (omega (arith, h 1, h 2)) w
+    next : So (wellFormed (begunFile (set vs (getD b 0 0) (twoIn b 1))))
+    next = started-well (begunFile vs) (getD b 0 0) (twoIn b 1) refl (omega (arith, h 1, h 2)) w
 
     go : (x y : Bool) → cond x (back NoEntry 0) (cond y (back PastBound 0) (readFirsts c (getD b 0 0 + 1) (set vs (getD b 0 0) (twoIn b 1)) (drop FIRST b))) ≡ good u
-        → (So (wellFormed (begun (set vs (getD b 0 0) (twoIn b 1)))) → Bytes (drop FIRST b) → readFirsts c (getD b 0 0 + 1) (set vs (getD b 0 0) (twoIn b 1)) (drop FIRST b) ≡ good u → So (wellFormed u)) → So (wellFormed u)
+        → (So (wellFormed (begunFile (set vs (getD b 0 0) (twoIn b 1)))) → Bytes (drop FIRST b) → readFirsts c (getD b 0 0 + 1) (set vs (getD b 0 0) (twoIn b 1)) (drop FIRST b) ≡ good u → So (wellFormed u)) → So (wellFormed u)
     go true y q rec = absurd (never q)
     go false true q rec = absurd (never q)
     go false false q rec = rec next (bytes-drop FIRST b h) q

@@ -15,7 +15,7 @@ use borrow.Author.Tests.{eq-eqb, ne-eqb, le-leb, lt-leb}
 use Rattle.laws.proofs.Tests.{and-iff, same-iff, so-le}
 use Rattle.trace.specs.Bounds.{RECORDS, ADDRESSES}
 use Rattle.packed.specs.Layout.{VERSION, FIRST, twoIn, sizeOf}
-use Rattle.packed.specs.Read.{back, readFirsts, readEntries, marked, readFile}
+use Rattle.packed.specs.FileRead.{back, readFirsts, readEntries, marked, readFile}
 use Rattle.packed.specs.declared.Reason.the-variants.{TooMany, NoFile, OtherVersion, NoEntry, PastBound}
 use Rattle.packed.specs.declared.Reading.{Reading}
 

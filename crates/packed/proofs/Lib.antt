@@ -2,10 +2,10 @@
 pub mod Codec
 pub mod Steps
 pub mod Framing
-pub mod Laying
+pub mod FileLaid
 pub mod Firsts
 pub mod Records
 pub mod RoundTrip
-pub mod Cases
-pub mod Whole
-pub mod One
+pub mod FileCases
+pub mod WholeFile
+pub mod Unique

@@ -21,15 +21,15 @@ use Rattle.trace.specs.WellFormed.{wellFormed}
 use Rattle.trace.specs.declared.Trace.{Trace}
 use Rattle.trace.proofs.WellFormed.{form-iff}
 use Rattle.trace.proofs.Growth.{empty-well, upTo-none}
-use Rattle.packed.specs.Layout.{BYTE, VERSION, HEAD, FIRST, RECORD, twoIn, firstsOf, many, recordsOf, sizeOf, headOf, fileOf}
-use Rattle.packed.specs.Read.{begun, good, back, readFirsts, readRecords, thenRecords, readEntries, marked, readFile}
+use Rattle.packed.specs.Layout.{BYTE, VERSION, HEAD, FIRST, RECORD, twoIn, firstsOf, many, recordBytes, sizeOf, fileHead, fileOf}
+use Rattle.packed.specs.FileRead.{begunFile, good, back, readFirsts, readRecords, thenRecords, readEntries, marked, readFile}
 use Rattle.packed.specs.declared.Reason.{Reason}
 use Rattle.packed.specs.declared.Answer.{Answer}
 use Rattle.packed.specs.declared.Answer.the-variants.{Good, Refused}
 use Rattle.packed.specs.declared.Reading.{Reading}
 use Rattle.packed.proofs.Codec.{Bytes, bytes-drop, two-back, lower, upper, eight}
 use Rattle.packed.proofs.Framing.{file-unmarked, file-version, file-size, file-many, file-entries}
-use Rattle.packed.proofs.Laying.{firsts-long, file-long, places, len-fits}
+use Rattle.packed.proofs.FileLaid.{firsts-long, file-long, places, len-fits}
 use Rattle.packed.proofs.Firsts.{never, read-firsts, firsts-only, firsts-well}
 use Rattle.packed.proofs.Records.{read-records, records-only}
 
@@ -39,14 +39,14 @@ module _ (t : Trace) (w : So (wellFormed t)) where
   fs = firstsOf 0 (t .firsts)
 
   abbrev rs : List ℕ
-  rs = recordsOf (take (t .len) (t .records))
+  rs = recordBytes (take (t .len) (t .records))
 
   size : length (fileOf t) ≡ sizeOf (many (t .firsts)) (t .len)
   size = file-long t (places t w)
 
   has-mark : So (marked (fileOf t))
   unfolding fileOf
-  has-mark = rw (le-leb 5 (length (headOf (many (t .firsts)) (t .len) ++ (fs ++ rs))) (omega (arith, size))) refl
+  has-mark = rw (le-leb 5 (length (fileHead (many (t .firsts)) (t .len) ++ (fs ++ rs))) (omega (arith, size))) refl
 
   has-version : twoIn (fileOf t) 3 ≡ VERSION
   unfolding fileOf
@@ -70,7 +70,7 @@ module _ (t : Trace) (w : So (wellFormed t)) where
       ∙ ap (drop (FIRST * many (t .firsts))) behind-head
       ∙ drop-at fs rs (FIRST * many (t .firsts)) (firsts-long 0 (t .firsts))
 
-  firsts-back : readFirsts (many (t .firsts)) 0 (replicate ADDRESSES 0) (drop HEAD (fileOf t)) ≡ good (begun (t .firsts))
+  firsts-back : readFirsts (many (t .firsts)) 0 (replicate ADDRESSES 0) (drop HEAD (fileOf t)) ≡ good (begunFile (t .firsts))
   firsts-back =
       let n : length (t .firsts) ≡ ADDRESSES = form-iff t .0 w .addresses in
       ap₂ (λ (k : ℕ) (b : List ℕ). readFirsts (many (t .firsts)) 0 (replicate k 0) b) (sym n) behind-head
@@ -105,7 +105,7 @@ module _ (b : List ℕ) (u : Trace) (h : Bytes b) (m : So (marked b)) (v : twoIn
   first = readFirsts c 0 (replicate ADDRESSES 0) (drop HEAD b)
 
   -- the head is the bytes that it should be
-  head-own : b ≡ headOf c n ++ drop HEAD b
+  head-own : b ≡ fileHead c n ++ drop HEAD b
   head-own =
       let p = and-iff (and-iff (and-iff (so-le {m = 5} {n = length b}) so-eq) so-eq) so-eq .0 m in
       let e0 : getD b 0 0 ≡ 0x50 = p .0 .0 .1 in
@@ -118,7 +118,7 @@ module _ (b : List ℕ) (u : Trace) (h : Bytes b) (m : So (marked b)) (v : twoIn
       eight b (omega (arith, l)) ∙ cc
 
   records-own : first .answer ≡ Good → readRecords (first .trace) (drop (HEAD + FIRST * c) b) n ≡ good u → So (wellFormed u) × (b ≡ fileOf u)
-  unfolding fileOf recordsOf
+  unfolding fileOf recordBytes
   records-own g q =
       let e = good-with first g in
       let d = length-drop HEAD b in
@@ -128,14 +128,14 @@ module _ (b : List ℕ) (u : Trace) (h : Bytes b) (m : So (marked b)) (v : twoIn
       let vs : u .firsts ≡ f .tail = r .firsts ∙ ap (λ (t : Trace). t .firsts) (f .all) in
       let z : first .trace .len ≡ 0 = ap (λ (t : Trace). t .len) (f .all) in
       let len : u .len ≡ n = omega (arith, r .len) in
-      let rest : drop (FIRST * c) (drop HEAD b) ≡ recordsOf (take (u .len) (u .records)) = drop-drop (FIRST * c) HEAD b ∙ sym (r .bytes ∙ ap (λ (t : Trace). recordsOf (take (t .len) (t .records)) ++ drop (HEAD + FIRST * c) b) (f .all) ∙ none) in (
+      let rest : drop (FIRST * c) (drop HEAD b) ≡ recordBytes (take (u .len) (u .records)) = drop-drop (FIRST * c) HEAD b ∙ sym (r .bytes ∙ ap (λ (t : Trace). recordBytes (take (t .len) (t .records)) ++ drop (HEAD + FIRST * c) b) (f .all) ∙ none) in (
         r .well,
         head-own
-            ∙ ap₂ (λ (i j : ℕ). headOf i j ++ drop HEAD b) (f .count ∙ ap many (sym vs)) (sym len)
-            ∙ ap (λ (x : List ℕ). headOf (many (u .firsts)) (u .len) ++ x) (f .bytes ∙ ap₂ (λ (x y : List ℕ). firstsOf 0 x ++ y) (sym vs) rest),
+            ∙ ap₂ (λ (i j : ℕ). fileHead i j ++ drop HEAD b) (f .count ∙ ap many (sym vs)) (sym len)
+            ∙ ap (λ (x : List ℕ). fileHead (many (u .firsts)) (u .len) ++ x) (f .bytes ∙ ap₂ (λ (x y : List ℕ). firstsOf 0 x ++ y) (sym vs) rest),
       )
     where
-      none : recordsOf [] ++ drop (HEAD + FIRST * c) b ≡ drop (HEAD + FIRST * c) b
+      none : recordBytes [] ++ drop (HEAD + FIRST * c) b ≡ drop (HEAD + FIRST * c) b
       none = refl
 
   entries-own : readEntries b c n ≡ good u → So (wellFormed u) × (b ≡ fileOf u)

@@ -16,7 +16,7 @@ use Rattle.trace.specs.Trace.{pushed}
 use Rattle.trace.specs.declared.Op.{Op}
 use Rattle.trace.specs.declared.Trace.{Trace}
 use Rattle.packed.specs.Layout.{HEAD, FIRST, RECORD, twoIn}
-use Rattle.packed.specs.Read.{turned, begun, good, back, readFirsts, readRecords}
+use Rattle.packed.specs.FileRead.{turnedBytes, begunFile, good, back, readFirsts, readRecords}
 use Rattle.packed.specs.declared.Reason.{Reason}
 use Rattle.packed.specs.declared.Reason.the-variants.{PastBound, NoEntry}
 use Rattle.packed.specs.declared.Turn.{Turn}
@@ -67,7 +67,7 @@ module _ (c i low : ℕ) (vs b : List ℕ) where
       pub first-next : a < ADDRESSES → readFirsts (c - i) low vs (drop (HEAD + FIRST * i) b) ≡ readFirsts (c - (i + 1)) (a + 1) (set vs a v) rest
       first-next g = first-step ∙ (rw (t, lt-leb ADDRESSES a g) refl)
 
-  pub first-over : c ≤ i → readFirsts (c - i) low vs (drop (HEAD + FIRST * i) b) ≡ good (begun vs)
+  pub first-over : c ≤ i → readFirsts (c - i) low vs (drop (HEAD + FIRST * i) b) ≡ good (begunFile vs)
   unfolding readFirsts
   first-over h = let z : c - i ≡ 0 = omega arith in ap (λ (k : ℕ). readFirsts k low vs (drop (HEAD + FIRST * i) b)) z
 
@@ -77,7 +77,7 @@ module _ (t : Trace) (b : List ℕ) (from n i : ℕ) where
     one : readRecords t (drop (from + RECORD * i) b) (n - i) ≡ readRecords t (drop (from + RECORD * i) b) (suc (n - (i + 1)))
     one = ap (readRecords t (drop (from + RECORD * i) b)) (left n i h)
 
-    pub record-taken : (o : Op) → turned t (drop (from + RECORD * i) b) ≡ Taken o
+    pub record-taken : (o : Op) → turnedBytes t (drop (from + RECORD * i) b) ≡ Taken o
         → readRecords t (drop (from + RECORD * i) b) (n - i) ≡ readRecords (pushed t o) (drop (from + RECORD * (i + 1)) b) (n - (i + 1))
     unfolding readRecords
     record-taken o q =
@@ -87,7 +87,7 @@ module _ (t : Trace) (b : List ℕ) (from n i : ℕ) where
         ∙ ap (λ (u : Turn). elim u [ Taken o ↦ readRecords (pushed t o) (drop RECORD x) (n - (i + 1)) | Refused reason ↦ back reason (t .len + 1) ]) q
         ∙ ap (λ (y : List ℕ). readRecords (pushed t o) y (n - (i + 1))) (drop-drop RECORD (from + RECORD * i) b ∙ ap (λ (k : ℕ). drop k b) on)
 
-    pub record-back : (reason : Reason) → turned t (drop (from + RECORD * i) b) ≡ Refused reason → readRecords t (drop (from + RECORD * i) b) (n - i) ≡ back reason (t .len + 1)
+    pub record-back : (reason : Reason) → turnedBytes t (drop (from + RECORD * i) b) ≡ Refused reason → readRecords t (drop (from + RECORD * i) b) (n - i) ≡ back reason (t .len + 1)
     unfolding readRecords
     record-back reason q =
         let x = drop (from + RECORD * i) b in

@@ -8,13 +8,13 @@
 --   MARK         == the three letters that a file begins with, PYR
 --   two n        == a number in two bytes, the lower first
 --   twoIn b i    == the number that two bytes make from place i on
---   kindOf o     == the number of a record's kind
+--   kindByte o   == the number of a record's kind
 --   recordOf o   == a record: kind, thread, address, 0, value read, value written; what it does not carry is 0
---   firstOf a v  == the first value of an address: address, value; nothing where it is 0
+--   firstEntry a v == the first value of an address: address, value; nothing where it is 0
 --   firstsOf a vs == the first values other than 0, vs being those of address a and up, addresses rising
 --   many vs      == how many those are
---   recordsOf rs == records, one behind the other
---   headOf c n   == what stands before the entries of c first values and n records
+--   recordBytes rs == records, one behind the other
+--   fileHead c n == what stands before the entries of c first values and n records
 --   sizeOf c n   == how many bytes a file with c first values and n records has
 --   fileOf t     == the file of a trace
 use mathlib.Core.Bool.{cond}
@@ -52,35 +52,35 @@ two n = n % BYTE ∷ n / BYTE ∷ []
 abbrev pub twoIn : List ℕ → ℕ → ℕ
 twoIn b i = getD b i 0 + BYTE * getD b (i + 1) 0
 
-abbrev pub kindOf : Op → ℕ
-kindOf (Load t a r) = 0
-kindOf (Store t a w) = 1
-kindOf (Swap t a r w) = 2
-kindOf (Fence t) = 3
+abbrev pub kindByte : Op → ℕ
+kindByte (Load t a r) = 0
+kindByte (Store t a w) = 1
+kindByte (Swap t a r w) = 2
+kindByte (Fence t) = 3
 
 abbrev pub recordOf : Op → List ℕ
-recordOf o = kindOf o ∷ thread o ∷ address o ∷ 0 ∷ two (read o) ++ two (written o)
+recordOf o = kindByte o ∷ thread o ∷ address o ∷ 0 ∷ two (read o) ++ two (written o)
 
-unfoldable pub firstOf : ℕ → ℕ → List ℕ
-firstOf a v = cond (eqb v 0) [] (a ∷ two v)
+unfoldable pub firstEntry : ℕ → ℕ → List ℕ
+firstEntry a v = cond (eqb v 0) [] (a ∷ two v)
 
 unfoldable pub firstsOf : ℕ → List ℕ → List ℕ
 firstsOf a [] = []
-firstsOf a (v ∷ vs) = firstOf a v ++ firstsOf (suc a) vs
+firstsOf a (v ∷ vs) = firstEntry a v ++ firstsOf (suc a) vs
 
 unfoldable pub many : List ℕ → ℕ
 many [] = 0
 many (v ∷ vs) = cond (eqb v 0) (many vs) (suc (many vs))
 
-unfoldable pub recordsOf : List Record → List ℕ
-recordsOf [] = []
-recordsOf (r ∷ rs) = recordOf (r .op) ++ recordsOf rs
+unfoldable pub recordBytes : List Record → List ℕ
+recordBytes [] = []
+recordBytes (r ∷ rs) = recordOf (r .op) ++ recordBytes rs
 
 abbrev pub sizeOf : ℕ → ℕ → ℕ
 sizeOf c n = HEAD + FIRST * c + RECORD * n
 
-abbrev pub headOf : ℕ → ℕ → List ℕ
-headOf c n = MARK ++ two VERSION ++ (c ∷ two n)
+abbrev pub fileHead : ℕ → ℕ → List ℕ
+fileHead c n = MARK ++ two VERSION ++ (c ∷ two n)
 
 unfoldable pub fileOf : Trace → List ℕ
-fileOf t = headOf (many (t .firsts)) (t .len) ++ (firstsOf 0 (t .firsts) ++ recordsOf (take (t .len) (t .records)))
+fileOf t = fileHead (many (t .firsts)) (t .len) ++ (firstsOf 0 (t .firsts) ++ recordBytes (take (t .len) (t .records)))

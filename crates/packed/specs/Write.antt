@@ -1,7 +1,7 @@
 -- What the writer answers, and what the lent bytes hold then.
 --
 --   longOf t    == how many bytes the file of a trace has
---   roomy t b   == the lent bytes have room for it
+--   fileRoom t b == the lent bytes have room for it
 --   wroteOf t b == 10 before 21; else the length
 --   leftOf t b  == the file, and all behind it as it was; beside a refusal all as it was
 use mathlib.Core.Bool.{Bool, cond}
@@ -18,11 +18,11 @@ use Rattle.packed.specs.declared.Wrote.the-variants.{Length, NotWellForm
 abbrev pub longOf : Trace → ℕ
 longOf t = length (fileOf t)
 
-abbrev pub roomy : Trace → List ℕ → Bool
-roomy t b = leb (longOf t) (length b)
+abbrev pub fileRoom : Trace → List ℕ → Bool
+fileRoom t b = leb (longOf t) (length b)
 
 unfoldable pub wroteOf : Trace → List ℕ → Wrote
-wroteOf t b = cond (wellFormed t) (cond (roomy t b) (Length (longOf t)) NoRoom) NotWellFormed
+wroteOf t b = cond (wellFormed t) (cond (fileRoom t b) (Length (longOf t)) NoRoom) NotWellFormed
 
 unfoldable pub leftOf : Trace → List ℕ → List ℕ
-leftOf t b = cond (wellFormed t) (cond (roomy t b) (fileOf t ++ drop (longOf t) b) b) b
+leftOf t b = cond (wellFormed t) (cond (fileRoom t b) (fileOf t ++ drop (longOf t) b) b) b

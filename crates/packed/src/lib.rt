@@ -1,6 +1,6 @@
 // A trace in a packed file, both ways. Document 02 has the layout; specs/Layout.antt says it again.
 ghost use mathlib.Core.Path.{_≡_};
-ghost use Rattle.packed.specs.Read.{numberOf};
+ghost use Rattle.packed.specs.FileRead.{fileReasonNumber};
 use trace::FIRSTS;
 use trace::Op;
 use trace::RECORDS;
@@ -69,7 +69,7 @@ pub enum Wrote {
 
 // Document 02's number of a reason.
 pub fn number(reason: Reason) -> u8
-    ensures { λ r. ⌜ r ≡ numberOf reason ⌝ }
+    ensures { λ r. ⌜ r ≡ fileReasonNumber reason ⌝ }
 {
     match reason {
         Reason::PastBound => 4,

@@ -1,4 +1,11 @@
 -- Laws of kept pairs, for the crates above.
 pub mod KeptPairs
-pub mod One
-pub mod Sources
+pub mod Unique
+pub mod ReadsFrom
+pub mod Fences
+pub mod SourceOf
+pub mod Weaker
+pub mod ValidOrders
+pub mod Found
+pub mod MissingOf
+pub mod Starred

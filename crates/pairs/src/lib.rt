@@ -3,7 +3,10 @@ ghost use mathlib.Core.Path.{_≡_};
 ghost use Rattle.trace.specs.Trace.{at};
 ghost use Rattle.trace.specs.Meaning.{frameOf};
 ghost use Rattle.pairs.specs.Kept.{modelled, kindOf, sideOf, keptBy, keptPair, fenced, keptOf};
-ghost use Rattle.rules.specs.SourceOf.{readsFrom, sourceOf};
+ghost use Rattle.pairs.specs.SourceOf.{readsFrom, sourceOf};
+
+pub mod sources;
+
 use trace::Op;
 use trace::RECORDS;
 use trace::Trace;

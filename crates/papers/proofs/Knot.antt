@@ -11,14 +11,14 @@ use Rattle.trace.specs.Bounds.{RECORDS, ADDRESSES}
 use Rattle.trace.specs.Trace.{idle, first}
 use Rattle.trace.specs.Meaning.{frameOf}
 use Rattle.trace.specs.WellFormed.{wellFormed, follows, fresh, bounded, writtenBefore, isIdle}
-use Rattle.trace.specs.Order.{Valid}
+use Rattle.rules.specs.Order.{Valid}
 use Rattle.trace.specs.declared.Op.{Op}
 use Rattle.trace.specs.declared.Op.the-variants.{Load, Store, Swap, Fence}
 use Rattle.trace.specs.declared.Record.{Record}
 use Rattle.trace.specs.declared.Trace.{Trace}
 use Rattle.trace.proofs.Good.{good}
 use Rattle.pairs.specs.Kept.{SC, TSO, letOff, keptOf, keptBy, fenced}
-use Rattle.rules.specs.Tests.{writer?, source?, first?, rules, gives?}
+use Rattle.rules.specs.RuleTests.{writer?, source?, first?, rules, gives?}
 use Rattle.papers.specs.Paper.{Entry, leads, chained, splits, fits, refutes, accepted}
 use Rattle.papers.proofs.Sound.{accepted-sound}
 

@@ -3,6 +3,6 @@ pub mod Sound
 pub mod Branches
 pub mod Taking
 pub mod Showing
-pub mod Told
+pub mod ReaderAnswers
 pub mod Knot
-pub mod One
+pub mod Unique

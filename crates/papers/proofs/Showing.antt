@@ -12,11 +12,11 @@ use native.Mathlib.Omega.{arith}
 use lib.ListN.{length, getD, take, drop, length-append, length-drop, length-take, take-append-drop, drop-of-length-le}
 use lib.Seq.{drop-cons, drop-drop, getD-drop}
 use Rattle.laws.specs.Relation.{Table}
-use Rattle.laws.specs.Warshall.{row}
-use Rattle.trace.specs.Frame.{Frame}
-use Rattle.papers.specs.Paper.{Edge, Entry, BRANCH, spell, refutes}
-use Rattle.papers.specs.Reading.{branchOf, othersOf, goalsOf, after, went, Taken}
-use Rattle.papers.specs.Accepts.{Shows}
+use Rattle.laws.specs.ListOf.{row}
+use Rattle.rules.specs.Frame.{Frame}
+use Rattle.papers.specs.Paper.{Claim, Entry, BRANCH, spell, refutes}
+use Rattle.papers.specs.inner.ReaderBranch.{branchOf, othersOf, goalsOf, branchAfter, went, Taken}
+use Rattle.papers.specs.Accepts.{PaperShows}
 use Rattle.papers.specs.declared.reading.Turn.{Turn}
 use Rattle.papers.specs.declared.reading.Turn.the-variants.{Goes, Closed, Wrong}
 
@@ -66,9 +66,9 @@ module _ (l : List ℕ) (at k : ℕ) where
       ∙ ap₂ (λ v r. getD l at 0 ∷ getD l (at + 1) 0 ∷ getD l (at + 2) 0 ∷ v ∷ r) (sym q ∙ sym (rests-long h))
       (n (suc (at + 3)) (at + 4) (omega arith) ∙ sym (take-append-drop k (drop (at + 4) l)) ∙ ap (λ r. take k (drop (at + 4) l) ++ r) (drop-drop k (at + 4) l))
 
-  module _ (f : Frame) (K : Table) (Es : List (List Edge)) (E : List Edge) (h : at + 4 + k ≤ length l) (q : k ≡ getD l (at + 3) 0)
+  module _ (f : Frame) (K : Table) (Es : List (List Claim)) (E : List Claim) (h : at + 4 + k ≤ length l) (q : k ≡ getD l (at + 3) 0)
       (G : List Entry → Bool) (g : (es : List Entry) → refutes f K (E ∷ Es) (entryAt ∷ es) ≡ G es) where
-    pub shows-next : Shows f K (E ∷ Es) (drop at l) ↔ ((es : List Entry) × (drop (at + 4 + k) l ≡ spell es) × So (G es))
+    pub shows-next : PaperShows f K (E ∷ Es) (drop at l) ↔ ((es : List Entry) × (drop (at + 4 + k) l ≡ spell es) × So (G es))
     unfolding spell refutes
     shows-next = (λ s. go (s .0) (s .1) (s .2), λ s. (entryAt ∷ s .0, spelled h q ∙ ap (λ r. getD l at 0 ∷ getD l (at + 1) 0 ∷ getD l (at + 2) 0 ∷ length (take k (drop (at + 4) l)) ∷ take k (drop (at + 4) l) ++ r) (s .1), g (s .0) ∙ s .2))
       where
@@ -82,7 +82,7 @@ pub as-entry : (l : List ℕ) (at k r m : ℕ) → r ≡ getD l at 0 → m ≡ k
     → _≡_ {A = Entry} (record { rule = r; from = getD l (at + 1) 0; to = getD l (at + 2) 0; rests = take m (drop (at + 4) l) }) (entryAt l at k)
 as-entry l at k r m p q = ap₂ (λ r m. record { rule = r; from = getD l (at + 1) 0; to = getD l (at + 2) 0; rests = take m (drop (at + 4) l) }) p q
 
-pub shows-long : (f : Frame) (K : Table) (E : List Edge) (Es : List (List Edge)) (l : List ℕ) (at : ℕ) → Shows f K (E ∷ Es) (drop at l) → at + 4 + getD l (at + 3) 0 ≤ length l
+pub shows-long : (f : Frame) (K : Table) (E : List Claim) (Es : List (List Claim)) (l : List ℕ) (at : ℕ) → PaperShows f K (E ∷ Es) (drop at l) → at + 4 + getD l (at + 3) 0 ≤ length l
 unfolding spell refutes
 shows-long f K E Es l at s = go (s .0) (s .1) (s .2)
   where
@@ -95,25 +95,25 @@ shows-long f K E Es l at s = go (s .0) (s .1) (s .2)
 
 module _ (f : Frame) (K : Table) (l : List ℕ) (at k : ℕ) (h : at + 4 + k ≤ length l) (q : k ≡ getD l (at + 3) 0) (from to other from′ to′ other′ : List ℕ) (n : ℕ) (r : Turn)
     (T : Taken f K from to other n (entryAt l at k) r from′ to′ other′) where
-  next : Shows f K (goalsOf from to other n) (drop at l) ↔ ((es : List Entry) × (drop (at + 4 + k) l ≡ spell es) × So (after f K r from′ to′ other′ es))
-  next = shows-next l at k f K _ _ h q (after f K r from′ to′ other′) (T .rest)
+  next : PaperShows f K (goalsOf from to other n) (drop at l) ↔ ((es : List Entry) × (drop (at + 4 + k) l ≡ spell es) × So (branchAfter f K r from′ to′ other′ es))
+  next = shows-next l at k f K _ _ h q (branchAfter f K r from′ to′ other′) (T .rest)
 
-  pub shows-goes : (m : ℕ) → r ≡ Goes m → Shows f K (goalsOf from to other n) (drop at l) ↔ Shows f K (goalsOf from′ to′ other′ m) (drop (at + 4 + k) l)
-  unfolding after
+  pub shows-goes : (m : ℕ) → r ≡ Goes m → PaperShows f K (goalsOf from to other n) (drop at l) ↔ PaperShows f K (goalsOf from′ to′ other′ m) (drop (at + 4 + k) l)
+  unfolding branchAfter
   shows-goes m e = (
-    λ s. let u = next .0 s in (u .0, u .1, ap (λ r. after f K r from′ to′ other′ (u .0)) (sym e) ∙ u .2),
-    λ u. next .1 (u .0, u .1, ap (λ r. after f K r from′ to′ other′ (u .0)) e ∙ u .2),
+    λ s. let u = next .0 s in (u .0, u .1, ap (λ r. branchAfter f K r from′ to′ other′ (u .0)) (sym e) ∙ u .2),
+    λ u. next .1 (u .0, u .1, ap (λ r. branchAfter f K r from′ to′ other′ (u .0)) e ∙ u .2),
   )
 
-  pub shows-wrong : r ≡ Wrong → Shows f K (goalsOf from to other n) (drop at l) → ⊥
-  unfolding after
-  shows-wrong e s = let u = next .0 s in false≢true (ap (λ r. after f K r from′ to′ other′ (u .0)) (sym e) ∙ u .2)
+  pub shows-wrong : r ≡ Wrong → PaperShows f K (goalsOf from to other n) (drop at l) → ⊥
+  unfolding branchAfter
+  shows-wrong e s = let u = next .0 s in false≢true (ap (λ r. branchAfter f K r from′ to′ other′ (u .0)) (sym e) ∙ u .2)
 
-  pub shows-closed : r ≡ Closed → Shows f K (goalsOf from to other n) (drop at l) ↔ (at + 4 + k ≡ length l)
-  unfolding after refutes spell
+  pub shows-closed : r ≡ Closed → PaperShows f K (goalsOf from to other n) (drop at l) ↔ (at + 4 + k ≡ length l)
+  unfolding branchAfter refutes spell
   shows-closed e = (
-    λ s. let u = next .0 s in go (u .0) (u .1) (ap (λ r. after f K r from′ to′ other′ (u .0)) (sym e) ∙ u .2),
-    λ z. next .1 ([], drop-of-length-le l (let w : length l ≤ at + 4 + k = omega (arith, z) in w), ap (λ r. after f K r from′ to′ other′ []) e),
+    λ s. let u = next .0 s in go (u .0) (u .1) (ap (λ r. branchAfter f K r from′ to′ other′ (u .0)) (sym e) ∙ u .2),
+    λ z. next .1 ([], drop-of-length-le l (let w : length l ≤ at + 4 + k = omega (arith, z) in w), ap (λ r. branchAfter f K r from′ to′ other′ []) e),
   )
     where
       go : (es : List Entry) → drop (at + 4 + k) l ≡ spell es → So (refutes f K [] es) → at + 4 + k ≡ length l

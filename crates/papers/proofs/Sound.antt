@@ -16,31 +16,31 @@ use lib.Dec.{eqb, ltb}
 use lib.ListN.{length, getD}
 use Rattle.laws.specs.Places.{pos, Before}
 use Rattle.laws.specs.Relation.{Rel, Table, _⊆_}
-use Rattle.laws.specs.Sorted.{On}
+use Rattle.laws.specs.inner.Sorted.{On}
 use Rattle.laws.proofs.Tests.{and-iff, not-iff, same-iff, so-eq, so-lt, test, off}
-use Rattle.trace.specs.Frame.{Frame, Good}
-use Rattle.trace.specs.Order.{Valid}
+use Rattle.rules.specs.Frame.{Frame, Good}
+use Rattle.rules.specs.Order.{Valid}
 use Rattle.rules.specs.Rules.{nothing}
-use Rattle.rules.specs.Tests.{gives?}
-use Rattle.rules.proofs.Tests.{gives-iff}
+use Rattle.rules.specs.RuleTests.{gives?}
+use Rattle.rules.proofs.RuleTests.{gives-iff}
 use Rattle.rules.proofs.Orders.{either}
 use Rattle.rules.proofs.Sound.{gives-sound}
-use Rattle.papers.specs.Paper.{CIRCLE, SPLIT, Edge, Entry, edgeAt, named, leads, arrives, chained, roomy, bare, splits, fits, refutes, accepted}
+use Rattle.papers.specs.Paper.{CIRCLE, SPLIT, Claim, Entry, edgeAt, named, leads, arrives, chained, branchRoom, mayRest, splits, fits, refutes, accepted}
 
-abbrev pub Kept : List Edge → List ℕ → Type 0
+abbrev pub Kept : List Claim → List ℕ → Type 0
 Kept [] xs = Unit {0}
 Kept (e ∷ E) xs = Before xs (e .from) (e .to) × Kept E xs
 
-kept-at : (E : List Edge) (xs : List ℕ) → Kept E xs → (i : ℕ) → i < length E → Before xs (edgeAt E i .from) (edgeAt E i .to)
+kept-at : (E : List Claim) (xs : List ℕ) → Kept E xs → (i : ℕ) → i < length E → Before xs (edgeAt E i .from) (edgeAt E i .to)
 kept-at [] xs k i h = absurd (not-suc-le-zero h)
 kept-at (e ∷ E) xs k zero h = k .0
 kept-at (e ∷ E) xs k (suc i) h = kept-at E xs (k .1) i (omega arith)
 
-pub kept-named : (E : List Edge) (xs : List ℕ) (x y : ℕ) → Kept E xs → Before xs x y → Kept (named E x y) xs
+pub kept-named : (E : List Claim) (xs : List ℕ) (x y : ℕ) → Kept E xs → Before xs x y → Kept (named E x y) xs
 kept-named [] xs x y k b = (b, tt)
 kept-named (e ∷ E) xs x y k b = (k .0, kept-named E xs x y (k .1) b)
 
-module _ (E : List Edge) (xs : List ℕ) (k : Kept E xs) where
+module _ (E : List Claim) (xs : List ℕ) (k : Kept E xs) where
   -- where the entries lead is not before where they start
   leads-sound : (is : List ℕ) (x z : ℕ) → leads E is x ≡ some z → pos xs x ≤ pos xs z
   unfolding leads
@@ -72,23 +72,23 @@ module _ (E : List Edge) (xs : List ℕ) (k : Kept E xs) where
       go false u t = absurd (false≢true t)
 
 module _ (f : Frame) (g : Good f) (K : Table) (xs : List ℕ) (v : Valid f K xs) where
-  pub fits-sound : (E : List Edge) (e : Entry) → Kept E xs → So (fits f K E e) → Before xs (e .from) (e .to)
+  pub fits-sound : (E : List Claim) (e : Entry) → Kept E xs → So (fits f K E e) → Before xs (e .from) (e .to)
   unfolding fits
   fits-sound E e k t =
-      let p : So (roomy E) × (So (bare (e .rule) (length (e .rests))) × So (gives? f K nothing (chained E (e .rests)) (e .from) (e .to) (e .rule)))
+      let p : So (branchRoom E) × (So (mayRest (e .rule) (length (e .rests))) × So (gives? f K nothing (chained E (e .rests)) (e .from) (e .to) (e .rule)))
       = and-iff same-iff (and-iff same-iff same-iff) .0 t in
       gives-sound f g K xs v nothing (λ x y u. absurd (false≢true u)) (On (chained E (e .rests))) (chained-sound E xs k (e .rests))
       (gives-iff f g K nothing (chained E (e .rests)) (On (chained E (e .rests))) (λ x y. same-iff) (e .from) (e .to) (e .rule) .0 (p .1 .1))
 
   -- no branch that is closed is kept
-  abbrev None : List (List Edge) → Type 0
+  abbrev None : List (List Claim) → Type 0
   None [] = Unit {0}
   None (E ∷ Es) = (Kept E xs → ⊥) × None Es
 
   abbrev Rest : List Entry → Type 0
-  Rest es = (Es : List (List Edge)) → So (refutes f K Es es) → None Es
+  Rest es = (Es : List (List Claim)) → So (refutes f K Es es) → None Es
 
-  refutes-none : (es : List Entry) (Es : List (List Edge)) → So (refutes f K Es es) → None Es
+  refutes-none : (es : List Entry) (Es : List (List Claim)) → So (refutes f K Es es) → None Es
   unfolding refutes splits
   refutes-none [] [] t = tt
   refutes-none [] (E ∷ Es) t = absurd (false≢true t)
@@ -103,7 +103,7 @@ module _ (f : Frame) (g : Good f) (K : Table) (xs : List ℕ) (v : Valid f K xs)
       split : Rest es → So (splits f E e && refutes f K (named E (e .from) (e .to) ∷ named E (e .to) (e .from) ∷ Es) es) → None (E ∷ Es)
       split r t =
           let p : So (splits f E e) × So (refutes f K (named E (e .from) (e .to) ∷ named E (e .to) (e .from) ∷ Es) es) = and-iff same-iff same-iff .0 t in
-          let s : So (roomy E) × (((So (f .operation (e .from)) × So (f .operation (e .to))) × (e .from ≢ e .to)) × (length (e .rests) ≡ 0))
+          let s : So (branchRoom E) × (((So (f .operation (e .from)) × So (f .operation (e .to))) × (e .from ≢ e .to)) × (length (e .rests) ≡ 0))
           = and-iff same-iff (and-iff (and-iff (and-iff same-iff same-iff) (not-iff so-eq)) so-eq) .0 (p .0) in
           let n = r (named E (e .from) (e .to) ∷ named E (e .to) (e .from) ∷ Es) (p .1) in (
             λ k. elim (either f xs (v .all) (s .1 .0 .0 .0) (s .1 .0 .1)) [

@@ -1,6 +1,6 @@
 -- A paper: a list of reasons why a trace has no valid order, and when it is accepted. K is any table of kept pairs.
 --
---   Edge                == x before y
+--   Claim               == x before y
 --   Entry               == a rule, two records and the entries that it rests on, by their numbers: an entry's number is how many entries of its branch
 --                          stand before it. Rules 1 to 7 give an edge; SPLIT is two branches, "x before y" and then "y before x"; CIRCLE ends a branch
 --   BRANCH              == how many entries a branch has at the most: more than a branch that names no edge twice
@@ -10,8 +10,8 @@
 --   leads E is x        == where the entries is of E lead from x, each from where the one before it led
 --   arrives o y         == that is y
 --   chained E is x y    == they are one or more, and lead from x to y
---   roomy E             == the branch may have one entry more
---   bare r k            == an entry of rule r may rest on k entries: only rules 6 and 7 rest on any
+--   branchRoom E        == the branch may have one entry more
+--   mayRest r k         == an entry of rule r may rest on k entries: only rules 6 and 7 rest on any
 --   splits f E e        == the branch E may split by e: on two operations, resting on nothing
 --   fits f K E e        == the rule of e gives its edge in the branch E
 --   refutes f K Es es   == the list es closes every one of the branches Es, in turn
@@ -24,9 +24,9 @@ use lib.Dec.{eqb, ltb, leb}
 use lib.ListN.{length, getD}
 use Rattle.laws.specs.Relation.{Table}
 use Rattle.trace.specs.Bounds.{RECORDS}
-use Rattle.trace.specs.Frame.{Frame}
+use Rattle.rules.specs.Frame.{Frame}
 use Rattle.rules.specs.Rules.{nothing}
-use Rattle.rules.specs.Tests.{gives?}
+use Rattle.rules.specs.RuleTests.{gives?}
 
 abbrev pub CIRCLE : ℕ
 CIRCLE = 0
@@ -41,7 +41,7 @@ CHAINED = 6
 abbrev pub BRANCH : ℕ
 BRANCH = RECORDS * RECORDS
 
-pub record Edge : Type 0 where
+pub record Claim : Type 0 where
   pub from : ℕ
   pub to : ℕ
 
@@ -55,13 +55,13 @@ unfoldable pub spell : List Entry → List ℕ
 spell [] = []
 spell (e ∷ es) = e .rule ∷ e .from ∷ e .to ∷ length (e .rests) ∷ e .rests ++ spell es
 
-abbrev pub edgeAt : List Edge → ℕ → Edge
+abbrev pub edgeAt : List Claim → ℕ → Claim
 edgeAt E i = getD E i (record { from = 0; to = 0 })
 
-abbrev pub named : List Edge → ℕ → ℕ → List Edge
+abbrev pub named : List Claim → ℕ → ℕ → List Claim
 named E x y = E ++ record { from = x; to = y } ∷ []
 
-unfoldable pub leads : List Edge → List ℕ → ℕ → Option ℕ
+unfoldable pub leads : List Claim → List ℕ → ℕ → Option ℕ
 leads E [] x = some x
 leads E (i ∷ is) x = elim (ltb i (length E) && eqb (edgeAt E i .from) x) [ true ↦ leads E is (edgeAt E i .to) | false ↦ none ]
 
@@ -69,24 +69,24 @@ abbrev pub arrives : Option ℕ → ℕ → Bool
 arrives (some z) y = eqb z y
 arrives none y = false
 
-unfoldable pub chained : List Edge → List ℕ → Table
+unfoldable pub chained : List Claim → List ℕ → Table
 chained E [] x y = false
 chained E (i ∷ is) x y = arrives (leads E (i ∷ is) x) y
 
-abbrev pub roomy : List Edge → Bool
-roomy E = ltb (length E) BRANCH
+abbrev pub branchRoom : List Claim → Bool
+branchRoom E = ltb (length E) BRANCH
 
-abbrev pub bare : ℕ → ℕ → Bool
-bare r k = leb CHAINED r || eqb k 0
+abbrev pub mayRest : ℕ → ℕ → Bool
+mayRest r k = leb CHAINED r || eqb k 0
 
-unfoldable pub splits : Frame → List Edge → Entry → Bool
-splits f E e = roomy E && (f .operation (e .from) && f .operation (e .to) && not (eqb (e .from) (e .to)) && eqb (length (e .rests)) 0)
+unfoldable pub splits : Frame → List Claim → Entry → Bool
+splits f E e = branchRoom E && (f .operation (e .from) && f .operation (e .to) && not (eqb (e .from) (e .to)) && eqb (length (e .rests)) 0)
 
 -- the chain that the entry rests on is the only one, and no pairs are supposed
-unfoldable pub fits : Frame → Table → List Edge → Entry → Bool
-fits f K E e = roomy E && (bare (e .rule) (length (e .rests)) && gives? f K nothing (chained E (e .rests)) (e .from) (e .to) (e .rule))
+unfoldable pub fits : Frame → Table → List Claim → Entry → Bool
+fits f K E e = branchRoom E && (mayRest (e .rule) (length (e .rests)) && gives? f K nothing (chained E (e .rests)) (e .from) (e .to) (e .rule))
 
-unfoldable pub refutes : Frame → Table → List (List Edge) → List Entry → Bool
+unfoldable pub refutes : Frame → Table → List (List Claim) → List Entry → Bool
 refutes f K [] [] = true
 refutes f K [] (e ∷ es) = false
 refutes f K (E ∷ Es) [] = false

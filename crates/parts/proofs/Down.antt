@@ -21,14 +21,15 @@ use Rattle.laws.specs.Relation.{Rel, Table}
 use Rattle.laws.specs.Lowest.{Lowest}
 use Rattle.laws.proofs.Tests.{and-iff, not-iff, same-iff, test-one, eq?, last?}
 use Rattle.laws.proofs.Lowest.{lowest-one}
-use Rattle.parts.specs.Removal.{Set, cut}
-use Rattle.parts.specs.Smaller.{Removed, Spare, CutDown, over, next}
+use Rattle.parts.specs.Removal.{Set}
+use Rattle.parts.specs.inner.RemovalTests.{cutAway}
+use Rattle.parts.specs.CutDown.{Removed, Spare, CutDown, over, next}
 
 module _ (G : Rel) where
   pub removed-one : (A : Set) (i : ℕ) (B C : Set) → Removed G A i B → Removed G A i C → B ≡ C
   removed-one A i B C p q = fun-ext (λ x. test-one (p x) (q x))
 
-  pub cut-removed : (r : Table) → ((i x : ℕ) → So (r i x) ↔ G i x) → (A : Set) (i : ℕ) → Removed G A i (cut r A i)
+  pub cut-removed : (r : Table) → ((i x : ℕ) → So (r i x) ↔ G i x) → (A : Set) (i : ℕ) → Removed G A i (cutAway r A i)
   cut-removed r is A i x = and-iff same-iff (not-iff (is i x))
 
 module _ (n : ℕ) (G : Rel) (Fault : Set → Type 0) where
@@ -71,9 +72,9 @@ module _ (n : ℕ) (G : Rel) (Fault : Set → Type 0) where
       | inr h ↦ d j h (record {
         below = u .below;
         there = s .removed j .0 (u .there) .0;
-        left = cut r A j;
+        left = cutAway r A j;
         removed = cut-removed G r is A j;
-        fault = mono (u .left) (cut r A j) (keeps (s .left) (u .left) j (u .removed) (keeps A (s .left) i (s .removed) c)) (keeps A (cut r A j) j (cut-removed G r is A j) c)
+        fault = mono (u .left) (cutAway r A j) (keeps (s .left) (u .left) j (u .removed) (keeps A (s .left) i (s .removed) c)) (keeps A (cutAway r A j) j (cut-removed G r is A j) c)
             (λ x t. let p = u .removed x .0 t in cut-removed G r is A j x .1 (s .removed x .0 (p .0) .0, p .1)) (u .fault);
       })
     ]

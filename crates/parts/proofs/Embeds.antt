@@ -15,8 +15,8 @@ use Rattle.laws.proofs.Tests.{and-iff, or-iff, any-iff, same-iff, so-eq, so-lt,
 use Rattle.trace.specs.Op.{thread, address, read, written, reads, writes, fence}
 use Rattle.trace.specs.Trace.{at, first}
 use Rattle.trace.specs.WellFormed.{wellFormed}
-use Rattle.trace.specs.Frame.{Source}
-use Rattle.trace.specs.Order.{Valid}
+use Rattle.rules.specs.Frame.{Source}
+use Rattle.rules.specs.Order.{Valid}
 use Rattle.trace.specs.Meaning.{frameOf}
 use Rattle.trace.specs.declared.Op.{Op}
 use Rattle.trace.specs.declared.Trace.{Trace}

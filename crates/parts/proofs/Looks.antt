@@ -15,11 +15,12 @@ use Prim.Native.Nat.{ℕ, suc, _≤_, _<_}
 use native.Mathlib.Omega.{arith}
 use Rattle.trace.specs.WellFormed.{wellFormed}
 use Rattle.trace.specs.Meaning.{frameOf}
-use Rattle.trace.specs.Frame.{Frame}
+use Rattle.rules.specs.Frame.{Frame}
 use Rattle.trace.specs.declared.Trace.{Trace}
 use Rattle.trace.proofs.Good.{good}
-use Rattle.parts.specs.Removal.{Set, every, Goes, goes?}
-use Rattle.parts.specs.Smaller.{Removed, Spare, Faulty, Left}
+use Rattle.parts.specs.Removal.{Set, every, Goes}
+use Rattle.parts.specs.inner.RemovalTests.{goes?}
+use Rattle.parts.specs.CutDown.{Removed, Spare, Faulty, Left}
 use Rattle.parts.specs.Picked.{picked}
 use Rattle.parts.proofs.Removal.{Closed, goes-iff, goes-self, removed-closed}
 use Rattle.parts.proofs.Picked.{picks, picked-fault}

@@ -13,11 +13,11 @@ use native.Mathlib.Omega.{arith}
 use lib.Dec.{ltb}
 use Rattle.laws.specs.Places.{pos, Before}
 use Rattle.laws.specs.Relation.{Table, Transitive}
-use Rattle.laws.specs.Sorted.{On, sorted}
+use Rattle.laws.specs.inner.Sorted.{On, sorted}
 use Rattle.laws.proofs.Tests.{so-lt, eq?}
 use Rattle.laws.proofs.Sorted.{sorted-once, sorted-keeps}
-use Rattle.trace.specs.Frame.{Frame, Good, Source}
-use Rattle.trace.specs.Order.{Visible, Sees, nobody, latest, Valid}
+use Rattle.rules.specs.Frame.{Frame, Good, Source}
+use Rattle.rules.specs.Order.{Visible, Sees, nobody, latest, Valid}
 use Rattle.rules.proofs.Orders.{apart, either}
 
 pub record Part (f g : Frame) (K J : Table) (r : ℕ → ℕ) : Type 0 where

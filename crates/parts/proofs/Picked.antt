@@ -17,11 +17,11 @@ use Rattle.laws.specs.Places.{pos, count}
 use Rattle.laws.proofs.Tests.{and-iff, not-iff, same-iff, so-eq, so-lt, last?, three}
 use Rattle.laws.proofs.Places.{pos-lt, at-pos, count-at}
 use Rattle.trace.specs.Bounds.{RECORDS}
-use Rattle.trace.specs.Frame.{Source}
-use Rattle.trace.specs.Order.{Valid}
+use Rattle.rules.specs.Frame.{Source}
+use Rattle.rules.specs.Order.{Valid}
 use Rattle.trace.specs.Op.{address, read, written, reads}
 use Rattle.trace.specs.Trace.{at, pushed, upTo, first}
-use Rattle.trace.specs.Form.{Follows, Form, Writes}
+use Rattle.trace.specs.FormFacts.{Follows, Form, Writes}
 use Rattle.trace.specs.WellFormed.{wellFormed}
 use Rattle.trace.specs.Meaning.{frameOf}
 use Rattle.trace.specs.declared.Op.{Op}
@@ -31,9 +31,9 @@ use Rattle.trace.proofs.Growth.{upTo-len, upTo-firsts, upTo-well, upTo-all, upT
 use Rattle.trace.proofs.WellFormed.{follows-iff, form-iff}
 use Rattle.trace.proofs.Meaning.{reads-iff}
 use Rattle.rules.specs.Missing.{Missing}
-use Rattle.rules.specs.SourceOf.{readsFrom}
-use Rattle.rules.proofs.Tests.{source-iff}
-use Rattle.rules.proofs.SourceOf.{source-parts}
+use Rattle.pairs.specs.SourceOf.{readsFrom}
+use Rattle.rules.proofs.RuleTests.{source-iff}
+use Rattle.pairs.proofs.SourceOf.{source-parts}
 use Rattle.pairs.specs.Kept.{keptOf}
 use Rattle.parts.specs.Removal.{Set, every}
 use Rattle.parts.specs.Picked.{pickedTo, oldsTo, picked, olds}

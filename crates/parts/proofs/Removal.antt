@@ -12,10 +12,11 @@ use Rattle.laws.specs.Relation.{one}
 use Rattle.laws.proofs.Relation.{chain-join}
 use Rattle.laws.proofs.Warshall.{chains-iff}
 use Rattle.laws.proofs.Tests.{or-iff, so-eq}
-use Rattle.trace.specs.Frame.{Frame, Good, Source}
-use Rattle.rules.proofs.Tests.{source-iff}
-use Rattle.parts.specs.Removal.{Set, Goes, goes?}
-use Rattle.parts.specs.Smaller.{Removed}
+use Rattle.rules.specs.Frame.{Frame, Good, Source}
+use Rattle.rules.proofs.RuleTests.{source-iff}
+use Rattle.parts.specs.Removal.{Set, Goes}
+use Rattle.parts.specs.inner.RemovalTests.{goes?}
+use Rattle.parts.specs.CutDown.{Removed}
 
 abbrev pub Closed : Frame → Set → Type 0
 Closed f A = (S L : ℕ) → Source f S L → So (A L) → So (A S)

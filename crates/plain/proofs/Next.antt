@@ -20,7 +20,7 @@ use Rattle.laws.specs.Tests.{_⇒_, all}
 use Rattle.laws.specs.Places.{pos, count, Before}
 use Rattle.laws.specs.Relation.{Table}
 use Rattle.laws.specs.Dict.{Answer}
-use Rattle.laws.specs.Steps.{Steps}
+use Rattle.laws.specs.inner.Steps.{Steps}
 use Rattle.laws.specs.Latest.{Latest, nobody-yet, at}
 use Rattle.laws.proofs.Tests.{and-iff, imp-iff, same-iff, all-iff, so-eq, so-lt, test, off, eq?}
 use Rattle.laws.proofs.Places.{pos-lt, at-pos, pos-at, count-at, count-here, count-later}
@@ -29,13 +29,13 @@ use Rattle.laws.proofs.Sums.{sum-same}
 use Rattle.laws.proofs.Counts.{count-append, count-sum, count-mid, cut}
 use Rattle.laws.proofs.Steps.{steps-at}
 use Rattle.laws.proofs.Prefixes.{pos-in, pos-out}
-use Rattle.trace.specs.Frame.{Frame, Good, Writer}
-use Rattle.trace.specs.Order.{Visible, Sees, nobody, latest, Keeps, Once, Valid}
-use Rattle.rules.specs.Tests.{writer?}
-use Rattle.rules.proofs.Tests.{writer-iff}
-use Rattle.orders.specs.Ready.{operations}
-use Rattle.orders.proofs.Seen.{at-most-one, operation-there, sees-one}
-use Rattle.orders.proofs.Ready.{not-before, place, in-before, before-in, due, steps-full}
+use Rattle.rules.specs.Frame.{Frame, Good, Writer}
+use Rattle.rules.specs.Order.{Visible, Sees, nobody, latest, Keeps, Once, Valid}
+use Rattle.rules.specs.RuleTests.{writer?}
+use Rattle.rules.proofs.RuleTests.{writer-iff}
+use Rattle.rules.specs.Ready.{operations}
+use Rattle.rules.proofs.Seen.{at-most-one, operation-there, sees-one}
+use Rattle.rules.proofs.Ready.{not-before, place, in-before, before-in, due, steps-full}
 use Rattle.plain.specs.Plain.{waits, soFar, expected, Next, next?, Orderly}
 
 pub waits-iff : (f : Frame) (p : List ℕ) (c S : ℕ) → So (waits f p c S) ↔ ((Writer f S c × So (f .earlier S c)) × (count S p ≡ 0))

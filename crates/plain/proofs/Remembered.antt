@@ -13,19 +13,19 @@ use native.Mathlib.Omega.{arith}
 use lib.ListN.{length}
 use Rattle.laws.specs.Places.{count}
 use Rattle.laws.specs.Relation.{Table}
-use Rattle.laws.specs.Steps.{Steps}
+use Rattle.laws.specs.inner.Steps.{Steps}
 use Rattle.laws.proofs.Tests.{test, off, eq?}
 use Rattle.laws.proofs.Sums.{sum-cong}
 use Rattle.laws.proofs.Counts.{count-append, count-sum}
-use Rattle.trace.specs.Frame.{Frame, Good, Writer, Source}
-use Rattle.rules.specs.Tests.{writer?}
-use Rattle.rules.proofs.Tests.{writer-iff}
-use Rattle.orders.specs.Ready.{operations}
-use Rattle.orders.proofs.Ready.{due, not-due, steps-few}
+use Rattle.rules.specs.Frame.{Frame, Good, Writer, Source}
+use Rattle.rules.specs.RuleTests.{writer?}
+use Rattle.rules.proofs.RuleTests.{writer-iff}
+use Rattle.rules.specs.Ready.{operations}
+use Rattle.rules.proofs.Ready.{due, not-due, steps-few}
 use Rattle.plain.specs.Plain.{soFar, Next, Orderly, plain}
-use Rattle.plain.specs.Alike.{Served, Alike}
-use Rattle.plain.specs.Remembered.{Stands, Remembered}
-use Rattle.plain.proofs.Alike.{soFar-snoc, plain-alike}
+use Rattle.plain.specs.inner.SameBelow.{Served, Alike}
+use Rattle.plain.specs.inner.Remembered.{StandsFor, Remembered}
+use Rattle.plain.proofs.SameBelow.{soFar-snoc, plain-alike}
 
 module _ (f : Frame) (g : Good f) where
   pub served-step : (p : List ℕ) (y c : ℕ) → Served f (p ++ (y ∷ [])) c ↔ ((count c (p ++ (y ∷ [])) ≡ 0) × (Source f y c ⊎ ((Writer f y c → ⊥) × Served f p c)))
@@ -58,16 +58,16 @@ module _ (f : Frame) (g : Good f) where
       }
 
 module _ (f : Frame) (g : Good f) (K : Table) (placed served : ℕ → Bool) where
-  few : (p : List ℕ) → Stands f K p placed served → (x : ℕ) → count x p ≤ cond (f .operation x) 1 0
+  few : (p : List ℕ) → StandsFor f K p placed served → (x : ℕ) → count x p ≤ cond (f .operation x) 1 0
   few p s = steps-few f (Next f K) (λ p c n. (n .operation, n .unplaced)) p (s .built)
 
-  one : (p : List ℕ) → Stands f K p placed served → (x : ℕ) → count x p ≤ 1
+  one : (p : List ℕ) → StandsFor f K p placed served → (x : ℕ) → count x p ≤ 1
   one p s x = elim (test (f .operation x)) [ inl t ↦ omega (arith, few p s x, due t) | inr t ↦ omega (arith, few p s x, not-due t) ]
 
-  below : (p : List ℕ) → Stands f K p placed served → (x : ℕ) → 0 < count x p → x < f .records
+  below : (p : List ℕ) → StandsFor f K p placed served → (x : ℕ) → 0 < count x p → x < f .records
   below p s x h = g .below x (elim (test (f .operation x)) [ inl t ↦ t | inr t ↦ absurd (omega (arith, few p s x, not-due t)) ])
 
-  pub stands-alike : (p q : List ℕ) → Stands f K p placed served → Stands f K q placed served → Alike f p q
+  pub stands-alike : (p q : List ℕ) → StandsFor f K p placed served → StandsFor f K q placed served → Alike f p q
   stands-alike p q s t = record {
     often = λ x. elim (test (placed x)) [
       | inl h ↦ omega (arith, s .holds x .0 h, t .holds x .0 h, one p s x, one q t x)
@@ -76,13 +76,13 @@ module _ (f : Frame) (g : Good f) (K : Table) (placed served : ℕ → Bool) whe
     serves = λ c. (λ h. t .serves c .0 (s .serves c .1 h), λ h. s .serves c .0 (t .serves c .1 h));
   }
     where
-      none-of : (p : List ℕ) → Stands f K p placed served → (x : ℕ) → placed x ≡ false → count x p ≡ 0
+      none-of : (p : List ℕ) → StandsFor f K p placed served → (x : ℕ) → placed x ≡ false → count x p ≡ 0
       none-of p s x h = elim (eq? (count x p) 0) [ inl e ↦ e | inr n ↦ absurd (false≢true (sym h ∙ s .holds x .1 (omega arith))) ]
 
-  stands-long : (p q : List ℕ) → Stands f K p placed served → Stands f K q placed served → length p ≡ length q
+  stands-long : (p q : List ℕ) → StandsFor f K p placed served → StandsFor f K q placed served → length p ≡ length q
   stands-long p q s t =
       sym (count-sum (f .records) p (below p s)) ∙ sum-cong (f .records) _ _ (λ x _. stands-alike p q s t .often x) ∙ count-sum (f .records) q (below q t)
 
-  pub remember : Orderly f K → (p : List ℕ) → Stands f K p placed served → (c : ℕ) → plain f K (operations f - length p) p ≡ (c, none) → Remembered f K placed served c
+  pub remember : Orderly f K → (p : List ℕ) → StandsFor f K p placed served → (c : ℕ) → plain f K (operations f - length p) p ≡ (c, none) → Remembered f K placed served c
   remember k p s c e q t h =
       ap (λ (n : ℕ). plain f K (operations f - n) q) (stands-long q p t s) ∙ plain-alike f g K k (operations f - length p) q p (stands-alike q p t s) ∙ e

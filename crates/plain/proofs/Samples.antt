@@ -11,9 +11,9 @@ use Rattle.trace.specs.Trace.{first}
 use Rattle.trace.specs.Meaning.{frameOf}
 use Rattle.trace.specs.declared.Op.the-variants.{Load, Store, Swap, Fence}
 use Rattle.pairs.specs.Kept.{SC, TSO, letOff, keptBy, fenced, keptOf}
-use Rattle.rules.specs.Tests.{writer?}
-use Rattle.orders.specs.Ready.{operations}
-use Rattle.orders.specs.Starred.{places, traceOf}
+use Rattle.rules.specs.RuleTests.{writer?}
+use Rattle.rules.specs.Ready.{operations}
+use Rattle.pairs.specs.Starred.{places, traceOf}
 use Rattle.plain.specs.Plain.{waits, soFar, expected, next?, tries, plain}
 
 buffers-tso : let t = traceOf (Store 0 0 1 ∷ Load 0 1 0 ∷ Store 1 1 1 ∷ Load 1 0 0 ∷ []) in plain (frameOf t) (keptOf TSO t) (operations (frameOf t)) [] ≡ (11, some (1 ∷ 2 ∷ 3 ∷ 0 ∷ []))

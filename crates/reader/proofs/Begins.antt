@@ -1,7 +1,7 @@
 -- When a line gives a first value.
 --
 --   Good given l a v == the parts of it: the init line of a and v, short, ended, in bounds, of an address without one
---   begins-good, good-begins == `begins` says so exactly then
+--   begins-good, good-begins == `initGiven` says so exactly then
 --   begins-none == where it gives none, no line of that kind stands there
 use mathlib.Core.Path.{_≡_, refl, sym, ap, subst, _∙_}
 use mathlib.Core.Bool.{Bool, true, false, not, _&&_, cond, So}
@@ -15,8 +15,8 @@ use Rattle.laws.proofs.Tests.{and-iff, same-iff, so-lt}
 use Rattle.trace.specs.Bounds.{ADDRESSES, VALUES}
 use Rattle.text.specs.Lines.{Line}
 use Rattle.reader.specs.Bounds.{LINE}
-use Rattle.reader.specs.Form.{renderInit, initOf}
-use Rattle.reader.specs.Answer.{beginning, begins}
+use Rattle.reader.specs.LineForms.{renderInit, initOf}
+use Rattle.reader.specs.Answer.{beginning, initGiven}
 use Rattle.reader.specs.declared.Init.{Init}
 use Rattle.reader.specs.declared.Init.the-variants as init
 use Rattle.reader.proofs.Rendering.{init-only, init-found}
@@ -33,8 +33,8 @@ module _ (given : List Bool) (l : Line) where
   abbrev fits : ℕ → ℕ → Bool
   fits a v = ltb a ADDRESSES && ltb v VALUES && not (getD given a false)
 
-  pub begins-good : (a v : ℕ) → begins given l ≡ init.Of a v → Good given l a v
-  unfolding begins
+  pub begins-good : (a v : ℕ) → initGiven given l ≡ init.Of a v → Good given l a v
+  unfolding initGiven
   begins-good a v = go (ltb LINE (length (l .bytes))) refl (l .ended) refl (initOf (l .bytes)) refl
     where
       last : (b w : ℕ) → l .bytes ≡ renderInit b w → length (l .bytes) ≤ LINE → l .ended ≡ true → (c : Bool) → fits b w ≡ c → cond c (init.Of b w) init.Nothing ≡ init.Of a v → Good given l a v
@@ -51,11 +51,11 @@ module _ (given : List Bool) (l : Line) where
       go false hp true he init.Nothing hi k = let z : _≡_ {A = ℕ} 0 1 = cc in absurd (omega arith)
       go false hp true he (init.Of b w) hi k = last b w (init-only (l .bytes) b w hi) (ltb-false LINE (length (l .bytes)) hp) he (fits b w) refl k
 
-  pub good-begins : (a v : ℕ) → Good given l a v → begins given l ≡ init.Of a v
-  unfolding begins
+  pub good-begins : (a v : ℕ) → Good given l a v → initGiven given l ≡ init.Of a v
+  unfolding initGiven
   good-begins a v g =
       let i : initOf (l .bytes) ≡ init.Of a v = ap initOf (g .text) ∙ init-found a v in
       rw (le-ltb LINE (length (l .bytes)) (g .short), g .whole, i, lt-ltb a ADDRESSES (g .address), lt-ltb v VALUES (g .value), g .once) refl
 
-  pub begins-none : begins given l ≡ init.Nothing → (a v : ℕ) → Good given l a v → ⊥
+  pub begins-none : initGiven given l ≡ init.Nothing → (a v : ℕ) → Good given l a v → ⊥
   begins-none e a v g = let q = good-begins a v g in let z : _≡_ {A = ℕ} 0 1 = cc in omega arith

@@ -17,12 +17,12 @@ use lib.Dec.{ltb}
 use borrow.Author.Tests.{lt-ltb, le-ltb}
 use Rattle.laws.proofs.Tests.{and-iff, so-lt, test}
 use Rattle.trace.specs.Bounds.{THREADS, ADDRESSES, VALUES}
-use Rattle.trace.specs.Form.{Bounded}
+use Rattle.trace.specs.FormFacts.{Bounded}
 use Rattle.trace.specs.declared.Op.{Op}
 use Rattle.trace.specs.declared.Op.the-variants as op
 use Rattle.trace.specs.declared.Trace.{Trace}
 use Rattle.text.specs.Number.{cut}
-use Rattle.reader.specs.Form.{cutRaw, cutForm, cutInit, rawOf}
+use Rattle.reader.specs.LineForms.{cutRaw, cutForm, cutInit, rawOf}
 use Rattle.reader.specs.declared.Init.{Init}
 use Rattle.reader.specs.declared.Init.the-variants as init
 use Rattle.reader.specs.Answer.{inBounds, checked, late, unformed, checkedForm, beginning}

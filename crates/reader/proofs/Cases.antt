@@ -29,12 +29,12 @@ use Rattle.trace.proofs.Places.{pushed-len}
 use Rattle.trace.proofs.WellFormed.{bounded-iff, written-before-iff}
 use Rattle.reader.specs.Bounds.{TEXT, LINE}
 use Rattle.text.specs.Lines.{Line, lines}
-use Rattle.reader.specs.Form.{render, renderInit, formOf, initOf, rawOf}
+use Rattle.reader.specs.LineForms.{render, renderInit, formOf, initOf, rawOf}
 use Rattle.reader.specs.declared.Init.{Init}
 use Rattle.reader.specs.declared.Init.the-variants as init
-use Rattle.reader.specs.Answer.{numberOf, inBounds, oneAddress, opOf, joined, checked, late, unformed, checkedForm, turned, begins}
+use Rattle.reader.specs.Answer.{numberOf, inBounds, oneAddress, opOf, joined, checked, late, unformed, checkedForm, turned, initGiven}
 use Rattle.reader.specs.Read.{refusal, readLines, readInits, readText, badLines, badInits, badLineOf}
-use Rattle.reader.specs.Cases.{Says, Begins, Past, PastInit, TwoAddresses, Above, top, begun, grown, LateInit, Case, Below, Lowest, Free, Clean, CleanInit, Took, nothing, begin, next, Reaches, AtLine, Back, long, line}
+use Rattle.reader.specs.Cases.{Renders, Begins, Past, PastInit, TwoAddresses, Above, top, withInit, grown, LateInit, Case, NoLower, LowestCase, Free, Clean, CleanInit, Took, nothing, begin, next, ReachesLine, AtLine, Back, long, line}
 use Rattle.reader.specs.declared.Raw.{Raw}
 use Rattle.reader.specs.declared.Raw.the-variants.{Load, Store, Swap, Fence}
 use Rattle.reader.specs.declared.Form.{Form}
@@ -114,7 +114,7 @@ raw-op (Fence t) h = refl
 -- what a turn says of its line
 data Verdict (s : Above) (l : Line) : Turn → Type 0 where
   clean : {o : Op} → Clean s l o → Verdict s l (turn.Taken o)
-  bad : {reason : Reason} → Lowest reason s l → Verdict s l (turn.Refused reason)
+  bad : {reason : Reason} → LowestCase reason s l → Verdict s l (turn.Refused reason)
 
 module _ (s : Above) (l : Line) where
   abbrev t : Trace
@@ -124,10 +124,10 @@ module _ (s : Above) (l : Line) where
   abbrev Under : ℕ → Type 0
   Under n = (other : Reason) → numberOf other < n → Case other s l → ⊥
 
-  past-one : (reason : Reason) → (Case reason s l → ⊥) → Below reason s l → Under (suc (numberOf reason))
+  past-one : (reason : Reason) → (Case reason s l → ⊥) → NoLower reason s l → Under (suc (numberOf reason))
   past-one reason c low other h k = elim (last? h) [ inl q ↦ c (subst (λ r. Case r s l) (number-one other reason q) k) | inr m ↦ low other m k ]
 
-  module _ (reason : Reason) {rest : Turn} (low : Below reason s l) (next : Under (suc (numberOf reason)) → Verdict s l rest) where
+  module _ (reason : Reason) {rest : Turn} (low : NoLower reason s l) (next : Under (suc (numberOf reason)) → Verdict s l rest) where
     when : {b : Bool} → So b ↔ Case reason s l → Verdict s l (cond b (turn.Refused reason) rest)
     when {b = true} c = bad (c .0 refl, low)
     when {b = false} c = next (past-one reason (λ k. false≢true (c .1 k)) low)
@@ -138,7 +138,7 @@ module _ (s : Above) (l : Line) where
 
   -- a line that renders one raw record says what holds of that one
   module _ (raw : Raw) (e : l .bytes ≡ render raw) where
-    says : {A : Type 0} (P : Raw → Type 0) → A ↔ P raw → A ↔ Says l P
+    says : {A : Type 0} (P : Raw → Type 0) → A ↔ P raw → A ↔ Renders l P
     says P f = (λ a. (raw, e, f .0 a), λ k. f .1 (subst P (render-one (k .0) raw (sym (k .1) ∙ e)) (k .2)))
 
     -- no number is left
@@ -152,7 +152,7 @@ module _ (s : Above) (l : Line) where
     )
 
     -- numbers 6 to 8
-    joined-right : So (oneAddress raw) → So (inBounds raw) → Below FirstValue s l → Verdict s l (joined t (opOf raw))
+    joined-right : So (oneAddress raw) → So (inBounds raw) → NoLower FirstValue s l → Verdict s l (joined t (opOf raw))
     joined-right h k low =
         let o = opOf raw in
         subst (Verdict s l) (sym (joined-tests t o (bounded-iff o .1 (in-bounds o .0 (subst (λ r. So (inBounds r)) (raw-op raw h) k)))))
@@ -165,7 +165,7 @@ module _ (s : Above) (l : Line) where
         (says (λ raw. WritesFirst t (opOf raw)) (and-iff same-iff so-eq)))
 
     -- numbers 4 and 5
-    checked-right : Below PastBound s l → Verdict s l (checked t raw)
+    checked-right : NoLower PastBound s l → Verdict s l (checked t raw)
     unfolding checked
     checked-right low =
         let two = says TwoAddresses (two-iff raw) in
@@ -180,12 +180,12 @@ module _ (s : Above) (l : Line) where
         four
       where
         -- a line of a record is no init line
-        past-says : {A : Type 0} → A ↔ Says l Past → A ↔ Case PastBound s l
+        past-says : {A : Type 0} → A ↔ Renders l Past → A ↔ Case PastBound s l
         past-says i = (λ a. inl (i .0 a), λ k. elim k [ inl p ↦ i .1 p | inr (a, v, q, _) ↦ absurd (no-init raw a v (sym e ∙ q)) ])
 
   -- an init line: numbers 4 and 17
   module _ (a v : ℕ) (e : l .bytes ≡ renderInit a v) where
-    no-raw : {P : Raw → Type 0} → Says l P → ⊥
+    no-raw : {P : Raw → Type 0} → Renders l P → ⊥
     no-raw k = no-init (k .0) a v (sym (k .1) ∙ e)
 
     past-init : ((ltb a ADDRESSES && ltb v VALUES) ≡ false) ↔ PastInit a v
@@ -213,14 +213,14 @@ module _ (s : Above) (l : Line) where
           once = q;
         }
 
-    late-right : (Good (s .given) l a v → 0 < t .len) → Below PastBound s l → Verdict s l (late a v)
+    late-right : (Good (s .given) l a v → 0 < t .len) → NoLower PastBound s l → Verdict s l (late a v)
     unfolding late
     late-right stuck low = unless PastBound low (λ low. bad ((a, v, e, why low), below low)) four-init
       where
         why : Under (suc (numberOf PastBound)) → LateInit s a v
         why low = elim (test (getD (s .given) a false)) [ inl h ↦ inr h | inr h ↦ inl (stuck (good low h)) ]
 
-        below : Under (suc (numberOf PastBound)) → Below Late s l
+        below : Under (suc (numberOf PastBound)) → NoLower Late s l
         below low LongText h c = c
         below low LongLine h c = low LongLine (omega arith) c
         below low NoForm h c = low NoForm (omega arith) c
@@ -235,14 +235,14 @@ module _ (s : Above) (l : Line) where
   abbrev Stuck : Type 0
   Stuck = (a v : ℕ) → Good (s .given) l a v → 0 < t .len
 
-  unformed-right : Stuck → Below NoForm s l → l .ended ≡ true → formOf (l .bytes) ≡ Nothing → (i : Init) → initOf (l .bytes) ≡ i → Verdict s l (unformed i)
+  unformed-right : Stuck → NoLower NoForm s l → l .ended ≡ true → formOf (l .bytes) ≡ Nothing → (i : Init) → initOf (l .bytes) ≡ i → Verdict s l (unformed i)
   unformed-right stuck low p q (init.Of a v) r =
       let e = init-only (l .bytes) a v r in
       late-right a v e (stuck a v) (past-one NoForm (λ c. elim c [ inl f ↦ false≢true (sym f ∙ p) | inr n ↦ n .1 a v e ]) low)
   unformed-right stuck low p q init.Nothing r = bad {reason = NoForm} (inr (no-form (l .bytes) .0 q, init-none (l .bytes) r), low)
 
   -- number 3
-  form-right : Stuck → Below NoForm s l → (b : Bool) → l .ended ≡ b → (f : Form) → formOf (l .bytes) ≡ f → Verdict s l (cond b (checkedForm t f (initOf (l .bytes))) (turn.Refused NoForm))
+  form-right : Stuck → NoLower NoForm s l → (b : Bool) → l .ended ≡ b → (f : Form) → formOf (l .bytes) ≡ f → Verdict s l (cond b (checkedForm t f (initOf (l .bytes))) (turn.Refused NoForm))
   form-right stuck low true p (Of raw) q = let e = form-only (l .bytes) raw q in checked-right raw e (past-one NoForm (λ c. elim c [ inl f ↦ false≢true (sym f ∙ p) | inr n ↦ n .0 raw e ]) low)
   form-right stuck low true p Nothing q = unformed-right stuck low p q (initOf (l .bytes)) refl
   form-right stuck low false p f q = bad (inl p, low)
@@ -271,13 +271,13 @@ module _ (s : Above) (l : Line) where
     elim (decLt 0 (t .len)) [ yes h ↦ absurd (c .0 Late (a, v, c .1, inl h)) | no h ↦ omega arith ],
   )
 
-  pub turned-refused : Stuck → (reason : Reason) → (turned t l ≡ turn.Refused reason) ↔ Lowest reason s l
+  pub turned-refused : Stuck → (reason : Reason) → (turned t l ≡ turn.Refused reason) ↔ LowestCase reason s l
   turned-refused stuck reason = (λ e. lowest (subst (Verdict s l) e (turned-right stuck)), λ c. go c (turned t l) (turned-right stuck))
     where
-      lowest : Verdict s l (turn.Refused reason) → Lowest reason s l
+      lowest : Verdict s l (turn.Refused reason) → LowestCase reason s l
       lowest (bad c) = c
 
-      go : Lowest reason s l → (w : Turn) → Verdict s l w → w ≡ turn.Refused reason
+      go : LowestCase reason s l → (w : Turn) → Verdict s l w → w ≡ turn.Refused reason
       go c (turn.Taken o) (clean d) = absurd (d .0 reason (c .0))
       go c (turn.Refused other) (bad d) = elim (which (numberOf other) (numberOf reason)) [
         | inl h ↦ absurd (c .1 other h (d .0))
@@ -298,14 +298,14 @@ module _ (s : Above) (l : Line) where
   clean-stuck : (o : Op) → Clean s l o → Stuck
   clean-stuck o c a v g = absurd (no-init (rawOf o) a v (sym (c .1) ∙ g .text))
 
-  bad-stuck : (reason : Reason) → Lowest reason s l → Stuck
+  bad-stuck : (reason : Reason) → LowestCase reason s l → Stuck
   bad-stuck reason c a v g = elim (decLt 0 (t .len)) [ yes h ↦ h | no h ↦ absurd (good-free a v g (omega arith) reason (c .0)) ]
 
   -- each line is one of three
   pub data Which : Type 0 where
     record-line : (o : Op) → Clean s l o → Which
     init-line : (a v : ℕ) → CleanInit s l a v → Which
-    bad-line : (reason : Reason) → Lowest reason s l → Which
+    bad-line : (reason : Reason) → LowestCase reason s l → Which
 
   judged : Stuck → Which
   judged stuck = go (turned t l) (turned-right stuck)
@@ -317,10 +317,10 @@ module _ (s : Above) (l : Line) where
   pub each : Which
   each = elim (decLt 0 (t .len)) [
     | yes h ↦ judged (λ a v g. h)
-    | no h ↦ go (omega arith) (begins (s .given) l) refl
+    | no h ↦ go (omega arith) (initGiven (s .given) l) refl
   ]
     where
-      go : t .len ≡ 0 → (i : Init) → begins (s .given) l ≡ i → Which
+      go : t .len ≡ 0 → (i : Init) → initGiven (s .given) l ≡ i → Which
       go n (init.Of a v) q = let g = begins-good (s .given) l a v q in init-line a v (good-free a v g n, g .text)
       go n init.Nothing q = judged (λ a v g. absurd (begins-none (s .given) l q a v g))
 
@@ -356,10 +356,10 @@ bad-end s = elim (test (eqb (s .trace .len) 0)) [ inl e ↦ rw e refl | inr e �
 
 module _ (s : Above) (l : Line) (ls : List Line) where
   -- no first value is given here
-  left : Stuck s l → So (eqb (s .trace .len) 0) → begins (s .given) l ≡ init.Nothing
-  left stuck e = go (begins (s .given) l) refl
+  left : Stuck s l → So (eqb (s .trace .len) 0) → initGiven (s .given) l ≡ init.Nothing
+  left stuck e = go (initGiven (s .given) l) refl
     where
-      go : (i : Init) → begins (s .given) l ≡ i → i ≡ init.Nothing
+      go : (i : Init) → initGiven (s .given) l ≡ i → i ≡ init.Nothing
       go (init.Of a v) q = let h = stuck a v (begins-good (s .given) l a v q) in absurd (omega (arith, eqb-true (s .trace .len) 0 e))
       go init.Nothing q = refl
 
@@ -391,16 +391,16 @@ module _ (s : Above) (l : Line) (ls : List Line) where
     nothing-yet : eqb (s .trace .len) 0 ≡ true
     nothing-yet = eq-eqb (s .trace .len) 0 (free-good s l a v c .1)
 
-    pub read-init : (n : ℕ) → readOn n s (l ∷ ls) ≡ readOn (n + 1) (begun s a v) ls
+    pub read-init : (n : ℕ) → readOn n s (l ∷ ls) ≡ readOn (n + 1) (withInit s a v) ls
     unfolding started
     read-init n = rw nothing-yet (read-begun (s .trace) l ls (s .given) a v (good-begins (s .given) l a v (free-good s l a v c .0)) n)
 
-    bad-init : badOn s (l ∷ ls) ≡ badOn (begun s a v) ls
+    bad-init : badOn s (l ∷ ls) ≡ badOn (withInit s a v) ls
     unfolding started
     bad-init = rw nothing-yet (bad-begun (s .trace) l ls (s .given) a v (good-begins (s .given) l a v (free-good s l a v c .0)))
 
   -- a bad line
-  module _ (reason : Reason) (c : Lowest reason s l) where
+  module _ (reason : Reason) (c : LowestCase reason s l) where
     pub read-bad : (n : ℕ) → readOn n s (l ∷ ls) ≡ refusal reason n
     read-bad n = let k = bad-stuck s l reason c in stuck-reads k n ∙ read-refused (s .trace) l ls reason (turned-refused s l k reason .1 c) n
 
@@ -421,7 +421,7 @@ took-bad (begin {s} {u} {l} {ls} a v c k) rest = bad-init s l (ls ++ rest) a v c
 took-bad (next {s} {u} {l} {ls} o c k) rest = bad-clean s l (ls ++ rest) o c ∙ took-bad k rest
 
 -- one clean line more above
-further : {n m : ℕ} {s u : Above} {l : Line} {ls : List Line} {P : Above → Line → Type 0} → ((ks : List Line) (w : Above) → Took u ks w → Took s (l ∷ ks) w) → Reaches (n + 1) u ls m P → Reaches n s (l ∷ ls) m P
+further : {n m : ℕ} {s u : Above} {l : Line} {ls : List Line} {P : Above → Line → Type 0} → ((ks : List Line) (w : Above) → Took u ks w → Took s (l ∷ ks) w) → ReachesLine (n + 1) u ls m P → ReachesLine n s (l ∷ ls) m P
 further {l} more r = record {
   before = l ∷ r .before;
   line = r .line;
@@ -433,12 +433,12 @@ further {l} more r = record {
   holds = r .holds;
 }
 
-stops : (n : ℕ) (s : Above) (ls : List Line) (reason : Reason) (m : ℕ) → readOn n s ls ≡ refusal reason m → Reaches n s ls m (Lowest reason)
+stops : (n : ℕ) (s : Above) (ls : List Line) (reason : Reason) (m : ℕ) → readOn n s ls ≡ refusal reason m → ReachesLine n s ls m (LowestCase reason)
 stops n s [] reason m e = let f = ap answer-of (sym (read-end n s) ∙ e) in let z : _≡_ {A = ℕ} 0 1 = cc in absurd (omega arith)
-stops n s (l ∷ ls) reason m e = go (each s l) (λ o. stops (n + 1) (grown s o) ls reason m) (λ a v. stops (n + 1) (begun s a v) ls reason m)
+stops n s (l ∷ ls) reason m e = go (each s l) (λ o. stops (n + 1) (grown s o) ls reason m) (λ a v. stops (n + 1) (withInit s a v) ls reason m)
   where
-    go : Which s l → ((o : Op) → readOn (n + 1) (grown s o) ls ≡ refusal reason m → Reaches (n + 1) (grown s o) ls m (Lowest reason))
-        → ((a v : ℕ) → readOn (n + 1) (begun s a v) ls ≡ refusal reason m → Reaches (n + 1) (begun s a v) ls m (Lowest reason)) → Reaches n s (l ∷ ls) m (Lowest reason)
+    go : Which s l → ((o : Op) → readOn (n + 1) (grown s o) ls ≡ refusal reason m → ReachesLine (n + 1) (grown s o) ls m (LowestCase reason))
+        → ((a v : ℕ) → readOn (n + 1) (withInit s a v) ls ≡ refusal reason m → ReachesLine (n + 1) (withInit s a v) ls m (LowestCase reason)) → ReachesLine n s (l ∷ ls) m (LowestCase reason)
     go (record-line o c) more first = further (λ ks w. next o c) (more o (sym (read-clean s l ls o c n) ∙ e))
     go (init-line a v c) more first = further (λ ks w. begin a v c) (first a v (sym (read-init s l ls a v c n) ∙ e))
     go (bad-line other c) more first =
@@ -453,7 +453,7 @@ stops n s (l ∷ ls) reason m e = go (each s l) (λ o. stops (n + 1) (grown s o)
           all = refl;
           place = omega arith;
           took = nothing;
-          holds = subst (λ r. Lowest r s l) q c;
+          holds = subst (λ r. LowestCase r s l) q c;
         }
 
 abbrev Goes : Above → List Line → Trace → Type 0
@@ -461,15 +461,15 @@ Goes s ls t = (u : Above) × Took s ls u × (u .trace ≡ t)
 
 goes : (n : ℕ) (s : Above) (ls : List Line) (t : Trace) → readOn n s ls ≡ good-of t → Goes s ls t
 goes n s [] t e = (s, nothing, ap (λ (r : Reading). r .trace) (sym (read-end n s) ∙ e))
-goes n s (l ∷ ls) t e = go (each s l) (λ o. goes (n + 1) (grown s o) ls t) (λ a v. goes (n + 1) (begun s a v) ls t)
+goes n s (l ∷ ls) t e = go (each s l) (λ o. goes (n + 1) (grown s o) ls t) (λ a v. goes (n + 1) (withInit s a v) ls t)
   where
     go : Which s l → ((o : Op) → readOn (n + 1) (grown s o) ls ≡ good-of t → Goes (grown s o) ls t)
-        → ((a v : ℕ) → readOn (n + 1) (begun s a v) ls ≡ good-of t → Goes (begun s a v) ls t) → Goes s (l ∷ ls) t
+        → ((a v : ℕ) → readOn (n + 1) (withInit s a v) ls ≡ good-of t → Goes (withInit s a v) ls t) → Goes s (l ∷ ls) t
     go (record-line o c) more first = let g = more o (sym (read-clean s l ls o c n) ∙ e) in (g .0, next o c (g .1), g .2)
     go (init-line a v c) more first = let g = first a v (sym (read-init s l ls a v c n) ∙ e) in (g .0, begin a v c (g .1), g .2)
     go (bad-line other c) more first = let f = ap answer-of (sym (read-bad s l ls other c n) ∙ e) in let z : _≡_ {A = ℕ} 0 1 = cc in absurd (omega arith)
 
-stopped : {n : ℕ} {s : Above} {ls : List Line} {reason : Reason} {m : ℕ} → Reaches n s ls m (Lowest reason) → readOn n s ls ≡ refusal reason m
+stopped : {n : ℕ} {s : Above} {ls : List Line} {reason : Reason} {m : ℕ} → ReachesLine n s ls m (LowestCase reason) → readOn n s ls ≡ refusal reason m
 stopped {n} {reason} r = rw (r .all) (took-reads (r .took) n (r .line ∷ r .after) ∙ read-bad (r .above) (r .line) (r .after) reason (r .holds) (n + length (r .before)) ∙ rw (r .place) refl)
 
 gone : {s u : Above} {ls : List Line} → Took s ls u → (n : ℕ) → readOn n s ls ≡ good-of (u .trace)
@@ -517,7 +517,7 @@ module _ (text : List ℕ) where
   unfolding badLineOf
   part-lines h = rw (le-ltb TEXT (length text) h)
 
-  pub part-at : (reason : Reason) (m : ℕ) (r : AtLine text m (Lowest reason)) → badLineOf text ≡ r .1 .line .bytes
+  pub part-at : (reason : Reason) (m : ℕ) (r : AtLine text m (LowestCase reason)) → badLineOf text ≡ r .1 .line .bytes
   part-at reason m r =
       let k = r .1 in
       part-lines (r .0) ∙ rw (k .all) (took-bad (k .took) (k .line ∷ k .after) ∙ bad-bad (k .above) (k .line) (k .after) reason (k .holds))
@@ -526,10 +526,10 @@ module _ (text : List ℕ) where
   part-good t e = let b = read-good t .0 e in part-lines (b .0) ∙ ap (badOn top) (sym (append-nil (lines text))) ∙ took-bad (b .1 .1) [] ∙ bad-end (b .1 .0)
 
   -- ---- the table, number by number
-  only-line : (reason : Reason) → numberOf LongText < numberOf reason → (m : ℕ) → (readText text ≡ refusal reason m) ↔ AtLine text m (Lowest reason)
+  only-line : (reason : Reason) → numberOf LongText < numberOf reason → (m : ℕ) → (readText text ≡ refusal reason m) ↔ AtLine text m (LowestCase reason)
   only-line reason h m = let b = refused-exactly reason m in (λ e. of h (b .0 e), λ r. b .1 (line r))
     where
-      of : {reason : Reason} → numberOf LongText < numberOf reason → Back text m reason → AtLine text m (Lowest reason)
+      of : {reason : Reason} → numberOf LongText < numberOf reason → Back text m reason → AtLine text m (LowestCase reason)
       of h (long g q) = absurd (omega arith)
       of h (line r) = r
 
@@ -541,29 +541,29 @@ module _ (text : List ℕ) where
         of (long h q) = (h, q)
         of (line r) = absurd (r .1 .holds .0)
 
-    pub two : (readText text ≡ refusal LongLine m) ↔ AtLine text m (λ s l. (LINE < length (l .bytes)) × Below LongLine s l)
+    pub two : (readText text ≡ refusal LongLine m) ↔ AtLine text m (λ s l. (LINE < length (l .bytes)) × NoLower LongLine s l)
     two = only-line LongLine (omega arith) m
 
     pub three : (readText text ≡ refusal NoForm m)
-        ↔ AtLine text m (λ s l. ((l .ended ≡ false) ⊎ (((raw : Raw) → l .bytes ≡ render raw → ⊥) × ((a v : ℕ) → l .bytes ≡ renderInit a v → ⊥))) × Below NoForm s l)
+        ↔ AtLine text m (λ s l. ((l .ended ≡ false) ⊎ (((raw : Raw) → l .bytes ≡ render raw → ⊥) × ((a v : ℕ) → l .bytes ≡ renderInit a v → ⊥))) × NoLower NoForm s l)
     three = only-line NoForm (omega arith) m
 
-    pub four : (readText text ≡ refusal PastBound m) ↔ AtLine text m (λ s l. (Says l Past ⊎ Begins l PastInit) × Below PastBound s l)
+    pub four : (readText text ≡ refusal PastBound m) ↔ AtLine text m (λ s l. (Renders l Past ⊎ Begins l PastInit) × NoLower PastBound s l)
     four = only-line PastBound (omega arith) m
 
-    pub five : (readText text ≡ refusal Addresses m) ↔ AtLine text m (λ s l. Says l TwoAddresses × Below Addresses s l)
+    pub five : (readText text ≡ refusal Addresses m) ↔ AtLine text m (λ s l. Renders l TwoAddresses × NoLower Addresses s l)
     five = only-line Addresses (omega arith) m
 
     pub six : (readText text ≡ refusal FirstValue m)
-        ↔ AtLine text m (λ s l. Says l (λ raw. WritesFirst (s .trace) (opOf raw)) × Below FirstValue s l)
+        ↔ AtLine text m (λ s l. Renders l (λ raw. WritesFirst (s .trace) (opOf raw)) × NoLower FirstValue s l)
     six = only-line FirstValue (omega arith) m
 
-    pub seven : (readText text ≡ refusal TooMany m) ↔ AtLine text m (λ s l. Says l (λ raw. RECORDS ≤ s .trace .len) × Below TooMany s l)
+    pub seven : (readText text ≡ refusal TooMany m) ↔ AtLine text m (λ s l. Renders l (λ raw. RECORDS ≤ s .trace .len) × NoLower TooMany s l)
     seven = only-line TooMany (omega arith) m
 
     pub eight : (readText text ≡ refusal Twice m)
-        ↔ AtLine text m (λ s l. Says l (λ raw. WritesAgain (s .trace) (opOf raw)) × Below Twice s l)
+        ↔ AtLine text m (λ s l. Renders l (λ raw. WritesAgain (s .trace) (opOf raw)) × NoLower Twice s l)
     eight = only-line Twice (omega arith) m
 
-    pub seventeen : (readText text ≡ refusal Late m) ↔ AtLine text m (λ s l. Begins l (LateInit s) × Below Late s l)
+    pub seventeen : (readText text ≡ refusal Late m) ↔ AtLine text m (λ s l. Begins l (LateInit s) × NoLower Late s l)
     seventeen = only-line Late (omega arith) m

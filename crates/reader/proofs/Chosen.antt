@@ -22,9 +22,9 @@ use lib.ListN.{length, drop, getD, replicate, List·getD-map}
 use Rattle.trace.specs.Bounds.{VALUES}
 use Rattle.text.specs.Number.{digits, value, isNumber, cut}
 use Rattle.text.specs.Template.{HOLE, NUMBERS, Hit, hit, miss, also, begins, found, fitFrom, fitted}
-use Rattle.reader.specs.Form.{begun, storeRest, loadRest, swapRest, sync, orElse, cutRaw, cutForm, storeOf, loadOf, swapOf, fenceOf, formOf, initForm, initHit, initOf, cutInit}
+use Rattle.reader.specs.LineForms.{threadThen, storeRest, loadRest, swapRest, sync, orElse, cutRaw, cutForm, storeOf, loadOf, swapOf, fenceOf, formOf, initForm, initHit, initOf, cutInit}
 use Rattle.reader.specs.declared.Init.the-variants as init
-use Rattle.reader.specs.Behind.{fenceElse, swapElse, loadElse, plainOf, exchangeOf, syncOf, firstOf, behindOf}
+use Rattle.reader.specs.inner.AfterThread.{fenceElse, swapElse, loadElse, plainOf, exchangeOf, syncOf, firstForm, behindOf}
 use Rattle.text.specs.declared.Fit.{Fit}
 use Rattle.reader.specs.declared.Raw.{Raw}
 use Rattle.reader.specs.declared.Form.{Form}
@@ -99,20 +99,20 @@ module _ (thread : ℕ) (s : List ℕ) (i : ℕ) where
   not-there : (b t : ℕ) → i < length s → getD s i 0 ≡ b → (b ≡ t → ⊥) → begins t (drop i s) ≡ false
   not-there b t h e d = begins-at t s i h ∙ ne-eqb (getD s i 0) t (λ q. d (sym e ∙ q))
 
-  pub plain-first : i < length s → getD s i 0 ≡ 77 → plainOf thread (drop i s) ≡ firstOf thread (drop i s)
+  pub plain-first : i < length s → getD s i 0 ≡ 77 → plainOf thread (drop i s) ≡ firstForm thread (drop i s)
   plain-first h e =
       rw (other-byte 123 _ (drop i s) (λ q. omega arith) (not-there 77 123 h e (λ q. omega arith)), other-byte 0x73 _ (drop i s) (λ q. omega arith) (not-there 77 0x73 h e (λ q. omega arith)))
 
-  pub swap-first : i < length s → getD s i 0 ≡ 123 → exchangeOf thread (drop i s) ≡ firstOf thread (drop i s)
+  pub swap-first : i < length s → getD s i 0 ≡ 123 → exchangeOf thread (drop i s) ≡ firstForm thread (drop i s)
   swap-first h e =
       let m : begins 77 (drop i s) ≡ false = not-there 123 77 h e (λ q. omega arith) in
       rw (other-byte 77 (91 ∷ 35 ∷ 93 ∷ 32 ∷ 58 ∷ 61 ∷ 32 ∷ 35 ∷ []) (drop i s) (λ q. omega arith) m, other-byte 77 (91 ∷ 35 ∷ 93 ∷ 32 ∷ 61 ∷ 61 ∷ 32 ∷ 35 ∷ []) (drop i s) (λ q. omega arith) m, other-byte 0x73 _ (drop i s) (λ q. omega arith) (not-there 123 0x73 h e (λ q. omega arith)))
 
-  pub fence-first : begins 77 (drop i s) ≡ false → begins 123 (drop i s) ≡ false → syncOf thread (drop i s) ≡ firstOf thread (drop i s)
+  pub fence-first : begins 77 (drop i s) ≡ false → begins 123 (drop i s) ≡ false → syncOf thread (drop i s) ≡ firstForm thread (drop i s)
   fence-first m b =
       rw (other-byte 77 (91 ∷ 35 ∷ 93 ∷ 32 ∷ 58 ∷ 61 ∷ 32 ∷ 35 ∷ []) (drop i s) (λ q. omega arith) m, other-byte 77 (91 ∷ 35 ∷ 93 ∷ 32 ∷ 61 ∷ 61 ∷ 32 ∷ 35 ∷ []) (drop i s) (λ q. omega arith) m, other-byte 123 _ (drop i s) (λ q. omega arith) b)
 
-  pub none-first : length s ≤ i → Nothing ≡ firstOf thread (drop i s)
+  pub none-first : length s ≤ i → Nothing ≡ firstForm thread (drop i s)
   none-first h =
       sym (ap (λ (f : Hit). orElse (also thread f) fenceOf Nothing) (other-byte 0x73 _ (drop i s) (λ q. omega arith) (begins-past 0x73 s i h)))
       ∙ fence-first (begins-past 77 s i h) (begins-past 123 s i h)
@@ -133,7 +133,7 @@ module _ (line : List ℕ) where
   abbrev rest : List ℕ
   rest = drop (length (digits line)) line
 
-  begun-found : (ts : List ℕ) → found (begun ts) line
+  begun-found : (ts : List ℕ) → found (threadThen ts) line
       ≡ cond (isNumber (digits line)) (also (value 0 (digits line)) (cond (begins 58 rest) (cond (begins 32 (drop 1 rest)) (found ts (drop 1 (drop 1 rest))) miss) miss)) miss
   unfolding found
   begun-found ts = refl
@@ -142,7 +142,7 @@ module _ (line : List ℕ) where
   unfolding formOf
   no-thread e = rw (none storeRest, none loadRest, none swapRest, none sync)
     where
-      none : (ts : List ℕ) → found (begun ts) line ≡ miss
+      none : (ts : List ℕ) → found (threadThen ts) line ≡ miss
       none ts = begun-found ts ∙ ap (λ (b : Bool). cond b (also (value 0 (digits line)) (cond (begins 58 rest) (cond (begins 32 (drop 1 rest)) (found ts (drop 1 (drop 1 rest))) miss) miss)) miss) e
 
   pub no-colon : (begins 58 rest && begins 32 (drop 1 rest)) ≡ false → formOf line ≡ Nothing
@@ -155,10 +155,10 @@ module _ (line : List ℕ) where
       both true false c v f e = refl
       both false b c v f e = refl
 
-      none : (ts : List ℕ) → found (begun ts) line ≡ miss
+      none : (ts : List ℕ) → found (threadThen ts) line ≡ miss
       none ts = begun-found ts ∙ both (isNumber (digits line)) (begins 58 rest) (begins 32 (drop 1 rest)) _ _ e
 
-  pub with-thread : isNumber (digits line) ≡ true → (begins 58 rest && begins 32 (drop 1 rest)) ≡ true → formOf line ≡ firstOf (value 0 (digits line)) (drop 1 (drop 1 rest))
+  pub with-thread : isNumber (digits line) ≡ true → (begins 58 rest && begins 32 (drop 1 rest)) ≡ true → formOf line ≡ firstForm (value 0 (digits line)) (drop 1 (drop 1 rest))
   unfolding formOf
   with-thread n e = rw (some storeRest, some loadRest, some swapRest, some sync)
     where
@@ -167,7 +167,7 @@ module _ (line : List ℕ) where
       both true false f e = absurd (true≢false (sym e))
       both false c f e = absurd (true≢false (sym e))
 
-      some : (ts : List ℕ) → found (begun ts) line ≡ also (value 0 (digits line)) (found ts (drop 1 (drop 1 rest)))
+      some : (ts : List ℕ) → found (threadThen ts) line ≡ also (value 0 (digits line)) (found ts (drop 1 (drop 1 rest)))
       some ts =
           begun-found ts
           ∙ ap (λ (b : Bool). cond b (also (value 0 (digits line)) (cond (begins 58 rest) (cond (begins 32 (drop 1 rest)) (found ts (drop 1 (drop 1 rest))) miss) miss)) miss) n

@@ -27,8 +27,8 @@ use Rattle.trace.proofs.Places.{started-first, started-other}
 use Rattle.text.specs.Bounds.{FEED}
 use Rattle.text.specs.Lines.{Line, lines}
 use Rattle.reader.specs.Bounds.{LINE}
-use Rattle.reader.specs.Form.{renderInit}
-use Rattle.reader.specs.Cases.{Above, begun, Took, begin}
+use Rattle.reader.specs.LineForms.{renderInit}
+use Rattle.reader.specs.Cases.{Above, withInit, Took, begin}
 use Rattle.reader.specs.TextOf.{Begin, renderInits, firstIn, Without, Apart, initsFrom}
 use Rattle.reader.proofs.Rendering.{init-feed, LONGEST-INIT, init-long}
 use Rattle.reader.proofs.Lined.{lines-line}
@@ -41,7 +41,7 @@ Low (i ∷ is) = (i .value < VALUES) × Low is
 
 abbrev pub startAll : Above → List Begin → Above
 startAll s [] = s
-startAll s (i ∷ is) = startAll (begun s (i .address) (i .value)) is
+startAll s (i ∷ is) = startAll (withInit s (i .address) (i .value)) is
 
 abbrev pub Open : List Bool → List Begin → Type 0
 Open given is = (a : ℕ) → So (getD given a false) → Without is a
@@ -77,24 +77,24 @@ started-all s i = length-set (s .trace .firsts) (i .address) (i .value)
 pub first-start : (is : List Begin) (s : Above) → Apart is → length (s .trace .firsts) ≡ ADDRESSES → (a : ℕ) → first (startAll s is .trace) a ≡ firstOr is (first (s .trace) a) a
 first-start [] s p full a = refl
 first-start (i ∷ is) s p full a =
-    first-start is (begun s (i .address) (i .value)) (p .2) (started-all s i ∙ full) a ∙ elim (eq? a (i .address)) [
+    first-start is (withInit s (i .address) (i .value)) (p .2) (started-all s i ∙ full) a ∙ elim (eq? a (i .address)) [
       | inl e ↦ rw (eq-eqb a (i .address) e) (without-first is (first (started (s .trace) (i .address) (i .value)) a) a (subst (Without is) (sym e) (p .1)) ∙ ap (first (started (s .trace) (i .address) (i .value))) e ∙ started-first (s .trace) (i .address) (i .value) full (p .0))
       | inr d ↦ rw (ne-eqb a (i .address) d, started-other (s .trace) (i .address) (i .value) a d) refl
     ]
 
 pub start-firsts : (is : List Begin) (s : Above) → length (startAll s is .trace .firsts) ≡ length (s .trace .firsts)
 start-firsts [] s = refl
-start-firsts (i ∷ is) s = start-firsts is (begun s (i .address) (i .value)) ∙ started-all s i
+start-firsts (i ∷ is) s = start-firsts is (withInit s (i .address) (i .value)) ∙ started-all s i
 
 pub start-records : (is : List Begin) (s : Above) → startAll s is .trace .records ≡ s .trace .records
 unfolding started
 start-records [] s = refl
-start-records (i ∷ is) s = start-records is (begun s (i .address) (i .value))
+start-records (i ∷ is) s = start-records is (withInit s (i .address) (i .value))
 
 pub start-len : (is : List Begin) (s : Above) → startAll s is .trace .len ≡ s .trace .len
 unfolding started
 start-len [] s = refl
-start-len (i ∷ is) s = start-len is (begun s (i .address) (i .value))
+start-len (i ∷ is) s = start-len is (withInit s (i .address) (i .value))
 
 -- ---- how many
 flags : List Bool → ℕ
@@ -144,7 +144,7 @@ inits-length (i ∷ is) p w =
     rw (length-append (renderInit (i .address) (i .value)) (FEED ∷ renderInits is)) (omega (arith, init-long (i .address) (i .value) (p .0) (w .0), inits-length is (p .2) (w .1)))
 
 -- ---- a text that begins with them
-pub begun-len : (s : Above) (a v : ℕ) → begun s a v .trace .len ≡ s .trace .len
+pub begun-len : (s : Above) (a v : ℕ) → withInit s a v .trace .len ≡ s .trace .len
 unfolding started
 begun-len s a v = refl
 
@@ -161,7 +161,7 @@ took-inits (i ∷ is) s u rest n full p w o k =
     let g = good-line (s .given) i (p .0) (w .0) (not-yet (s .given) full i is p o) in
     rw (append-assoc (renderInit (i .address) (i .value)) (FEED ∷ renderInits is) rest, lines-line (renderInit (i .address) (i .value)) (renderInits is ++ rest) (init-feed (i .address) (i .value)))
     (begin (i .address) (i .value) (good-free s (lineOf i) (i .address) (i .value) g n, refl)
-    (took-inits is (begun s (i .address) (i .value)) u rest (begun-len s (i .address) (i .value) ∙ n) (full-on (s .given) full i is p o) (p .2) (w .1) (open-on (s .given) full i is p o) k))
+    (took-inits is (withInit s (i .address) (i .value)) u rest (begun-len s (i .address) (i .value) ∙ n) (full-on (s .given) full i is p o) (p .2) (w .1) (open-on (s .given) full i is p o) k))
 
 -- ---- the values other than 0, addresses rising
 module _ (t : Trace) where

@@ -5,9 +5,9 @@ pub mod Steps
 pub mod Begins
 pub mod Walks
 pub mod Lined
-pub mod Part
+pub mod BadLine
 pub mod Cases
 pub mod Inits
 pub mod RoundTrip
 pub mod Whole
-pub mod One
+pub mod Unique

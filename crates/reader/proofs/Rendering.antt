@@ -18,10 +18,10 @@ use native.Mathlib.Omega.{arith}
 use lib.ListN.{length, getD, drop, length-drop}
 use lib.Seq.{drop-cons}
 use Rattle.laws.specs.Places.{count}
-use Rattle.laws.specs.Warshall.{row}
+use Rattle.laws.specs.ListOf.{row}
 use Rattle.trace.specs.Bounds.{THREADS, ADDRESSES, VALUES}
 use Rattle.trace.specs.WellFormed.{bounded}
-use Rattle.trace.specs.Form.{Bounded}
+use Rattle.trace.specs.FormFacts.{Bounded}
 use Rattle.trace.specs.declared.Op.{Op}
 use Rattle.trace.specs.declared.Op.the-variants as op
 use Rattle.trace.proofs.WellFormed.{bounded-iff}
@@ -29,7 +29,7 @@ use Rattle.reader.specs.Bounds.{LINE}
 use Rattle.text.specs.Bounds.{FEED}
 use Rattle.text.specs.Number.{decimal, digits, isNumber}
 use Rattle.text.specs.Template.{Hit, hit, miss, fill, found}
-use Rattle.reader.specs.Form.{storeForm, loadForm, swapForm, fenceForm, render, orElse, storeOf, loadOf, swapOf, fenceOf, formOf, rawOf, renderOp, initForm, renderInit, initHit, initOf}
+use Rattle.reader.specs.LineForms.{storeForm, loadForm, swapForm, fenceForm, render, orElse, storeOf, loadOf, swapOf, fenceOf, formOf, rawOf, renderOp, initForm, renderInit, initHit, initOf}
 use Rattle.reader.specs.declared.Init.{Init}
 use Rattle.reader.specs.declared.Init.the-variants as init
 use Rattle.reader.specs.Answer.{opOf}

@@ -26,7 +26,7 @@ use Rattle.trace.specs.Bounds.{RECORDS, ADDRESSES}
 use Rattle.trace.specs.Trace.{at, empty, started, pushed, upTo, first}
 use Rattle.trace.specs.WellFormed.{wellFormed}
 use Rattle.trace.specs.Fault.{WritesFirst, WritesAgain}
-use Rattle.trace.specs.Form.{Bounded, Follows, Form}
+use Rattle.trace.specs.FormFacts.{Bounded, Follows, Form}
 use Rattle.trace.specs.declared.Op.{Op}
 use Rattle.trace.specs.declared.Op.the-variants as op
 use Rattle.trace.specs.declared.Record.{Record}
@@ -37,10 +37,10 @@ use Rattle.trace.proofs.Growth.{empty-well, started-well, pushed-well, upTo-all
 use Rattle.reader.specs.Bounds.{TEXT}
 use Rattle.text.specs.Bounds.{FEED}
 use Rattle.text.specs.Lines.{Line, lines}
-use Rattle.reader.specs.Form.{renderInit, rawOf, renderOp}
-use Rattle.reader.specs.Answer.{inBounds, opOf, begins}
+use Rattle.reader.specs.LineForms.{renderInit, rawOf, renderOp}
+use Rattle.reader.specs.Answer.{inBounds, opOf, initGiven}
 use Rattle.reader.specs.Read.{none, readLines, readInits, readText}
-use Rattle.reader.specs.Cases.{Says, Past, TwoAddresses, Above, top, begun, grown, Case, Free, Clean, CleanInit, Took, nothing, begin, next}
+use Rattle.reader.specs.Cases.{Renders, Past, TwoAddresses, Above, top, withInit, grown, Case, Free, Clean, CleanInit, Took, nothing, begin, next}
 use Rattle.reader.specs.TextOf.{Begin, renderRecords, renderInits, Without, Apart, recordsOf, TextOf, initsOf, renderTrace}
 use Rattle.reader.specs.declared.Raw.{Raw}
 use Rattle.reader.specs.declared.Init.{Init}
@@ -95,7 +95,7 @@ follows-clean s o room f = (never, refl)
     t = s .trace
 
     -- what the line says is said of the record's own raw form
-    own : (P : Raw → Type 0) → Says (lineOf o) P → P (rawOf o)
+    own : (P : Raw → Type 0) → Renders (lineOf o) P → P (rawOf o)
     own P k = subst P (sym (render-one (rawOf o) (k .0) (k .1))) (k .2)
 
     never : (reason : Reason) → Case reason s (lineOf o) → ⊥
@@ -228,7 +228,7 @@ module _ (t : Trace) (w : So (wellFormed t)) where
   round-trip = text-read (renderTrace t) own-text
 
 -- ---- any text
-begun-well : (s : Above) (l : Line) (a v : ℕ) → CleanInit s l a v → So (wellFormed (s .trace)) → So (wellFormed (begun s a v .trace))
+begun-well : (s : Above) (l : Line) (a v : ℕ) → CleanInit s l a v → So (wellFormed (s .trace)) → So (wellFormed (withInit s a v .trace))
 begun-well s l a v c w = let g = free-good s l a v c in started-well (s .trace) a v (g .1) (g .0 .value) w
 
 grown-well : (s : Above) (l : Line) (o : Op) → Clean s l o → So (wellFormed (s .trace)) → So (wellFormed (grown s o .trace))
@@ -236,10 +236,10 @@ grown-well s l o c w = let f = clean-follows s l o c in pushed-well (s .trace) o
 
 reads-well : (n : ℕ) (s : Above) (ls : List Line) → So (wellFormed (s .trace)) → So (wellFormed (readOn n s ls .trace))
 reads-well n s [] w = rw (read-end n s) w
-reads-well n s (l ∷ ls) w = go (each s l) (λ o. reads-well (n + 1) (grown s o) ls) (λ a v. reads-well (n + 1) (begun s a v) ls)
+reads-well n s (l ∷ ls) w = go (each s l) (λ o. reads-well (n + 1) (grown s o) ls) (λ a v. reads-well (n + 1) (withInit s a v) ls)
   where
     go : Which s l → ((o : Op) → So (wellFormed (grown s o .trace)) → So (wellFormed (readOn (n + 1) (grown s o) ls .trace)))
-        → ((a v : ℕ) → So (wellFormed (begun s a v .trace)) → So (wellFormed (readOn (n + 1) (begun s a v) ls .trace))) → So (wellFormed (readOn n s (l ∷ ls) .trace))
+        → ((a v : ℕ) → So (wellFormed (withInit s a v .trace)) → So (wellFormed (readOn (n + 1) (withInit s a v) ls .trace))) → So (wellFormed (readOn n s (l ∷ ls) .trace))
     go (record-line o c) more first = rw (read-clean s l ls o c n) (more o (grown-well s l o c w))
     go (init-line a v c) more first = rw (read-init s l ls a v c n) (first a v (begun-well s l a v c w))
     go (bad-line reason c) more first = rw (read-bad s l ls reason c n) empty-well
@@ -285,7 +285,7 @@ written-none s = record {
   whole = sym (append-nil (renderRecords (recordsOf (s .trace))));
 }
 
-written-init : (s u : Above) (l : Line) (ls : List Line) (a v : ℕ) → CleanInit s l a v → So (wellFormed (s .trace)) → length (s .given) ≡ ADDRESSES → Written (begun s a v) ls u → Written s (l ∷ ls) u
+written-init : (s u : Above) (l : Line) (ls : List Line) (a v : ℕ) → CleanInit s l a v → So (wellFormed (s .trace)) → length (s .given) ≡ ADDRESSES → Written (withInit s a v) ls u → Written s (l ∷ ls) u
 unfolding renderInits
 written-init s u l ls a v c w full x = record {
   inits = i ∷ x .inits;
@@ -300,7 +300,7 @@ written-init s u l ls a v c w full x = record {
   firsts = firsts;
   whole =
       append-assoc (renderInit a v) (FEED ∷ renderInits (x .inits)) (renderRecords (recordsOf (u .trace)))
-      ∙ ap (λ bs. renderInit a v ++ (FEED ∷ bs)) (x .whole ∙ ap (λ bs. bs ++ join ls) (no-records (begun s a v .trace) (begun-len s a v ∙ g .1)))
+      ∙ ap (λ bs. renderInit a v ++ (FEED ∷ bs)) (x .whole ∙ ap (λ bs. bs ++ join ls) (no-records (withInit s a v .trace) (begun-len s a v ∙ g .1)))
       ∙ rw (no-records (s .trace) (g .1), c .1, ended s l (c .0)) refl;
 }
   where
@@ -362,8 +362,8 @@ no-inits text h n = read-lines text h ∙ go (lines text) refl
   where
     go : (ls : List Line) → lines text ≡ ls → readInits 1 none empty ls ≡ readLines 1 empty ls
     go [] e = refl
-    go (l ∷ ls) e = on (begins none l) refl
+    go (l ∷ ls) e = on (initGiven none l) refl
       where
-        on : (i : Init) → begins none l ≡ i → readInits 1 none empty (l ∷ ls) ≡ readLines 1 empty (l ∷ ls)
+        on : (i : Init) → initGiven none l ≡ i → readInits 1 none empty (l ∷ ls) ≡ readLines 1 empty (l ∷ ls)
         on (init.Of a v) q = absurd (n [] ls l e a v (begins-good none l a v q .text))
         on init.Nothing q = read-left empty l ls none q 1

@@ -13,7 +13,7 @@ use Rattle.trace.specs.Trace.{started, pushed}
 use Rattle.trace.specs.declared.Op.{Op}
 use Rattle.trace.specs.declared.Trace.{Trace}
 use Rattle.text.specs.Lines.{Line}
-use Rattle.reader.specs.Answer.{turned, begins}
+use Rattle.reader.specs.Answer.{turned, initGiven}
 use Rattle.reader.specs.Read.{refusal, readLines, readInits, badLines, badInits}
 use Rattle.reader.specs.declared.Init.{Init}
 use Rattle.reader.specs.declared.Init.the-variants as init
@@ -41,7 +41,7 @@ module _ (t : Trace) (l : Line) (ls : List Line) where
     bad-refused = ap (λ (r : Turn). elim r [ Taken o ↦ badLines (pushed t o) ls | Refused reason ↦ l .bytes ]) e
 
   module _ (given : List Bool) where
-    module _ (a v : ℕ) (e : begins given l ≡ init.Of a v) where
+    module _ (a v : ℕ) (e : initGiven given l ≡ init.Of a v) where
       pub read-begun : (n : ℕ) → readInits n given t (l ∷ ls) ≡ readInits (n + 1) (set given a true) (started t a v) ls
       unfolding readInits
       read-begun n = ap (λ (i : Init). elim i [ init.Of a v ↦ readInits (n + 1) (set given a true) (started t a v) ls | init.Nothing ↦ readLines n t (l ∷ ls) ]) e
@@ -50,7 +50,7 @@ module _ (t : Trace) (l : Line) (ls : List Line) where
       unfolding badInits
       bad-begun = ap (λ (i : Init). elim i [ init.Of a v ↦ badInits (set given a true) (started t a v) ls | init.Nothing ↦ badLines t (l ∷ ls) ]) e
 
-    module _ (e : begins given l ≡ init.Nothing) where
+    module _ (e : initGiven given l ≡ init.Nothing) where
       pub read-left : (n : ℕ) → readInits n given t (l ∷ ls) ≡ readLines n t (l ∷ ls)
       unfolding readInits
       read-left n = ap (λ (i : Init). elim i [ init.Of a v ↦ readInits (n + 1) (set given a true) (started t a v) ls | init.Nothing ↦ readLines n t (l ∷ ls) ]) e

@@ -10,7 +10,7 @@
 --   late a v         == an init line that gives no first value: 4, or else 17
 --   unformed i       == a line of no record's form (3, 4, 17)
 --   turned t l       == a line behind the trace so far that gives no first value (2 to 8, 17); the lowest number that applies
---   begins given l   == the address and first value of an init line that gives one: short, ended, in bounds, and no line above gave that address one
+--   initGiven given l == the address and first value of an init line that gives one: short, ended, in bounds, and no line above gave that address one
 use mathlib.Core.Bool.{Bool, true, false, not, _&&_, cond}
 use mathlib.Core.List.{List}
 use Prim.Native.Nat.{ℕ}
@@ -25,7 +25,7 @@ use Rattle.trace.specs.declared.Op.the-variants as op
 use Rattle.trace.specs.declared.Trace.{Trace}
 use Rattle.reader.specs.Bounds.{LINE}
 use Rattle.text.specs.Lines.{Line}
-use Rattle.reader.specs.Form.{formOf, initOf}
+use Rattle.reader.specs.LineForms.{formOf, initOf}
 use Rattle.reader.specs.declared.Init.{Init}
 use Rattle.reader.specs.declared.Init.the-variants as init
 use Rattle.reader.specs.declared.Raw.{Raw}
@@ -98,5 +98,5 @@ beginning given (init.Of a v) = cond (ltb a ADDRESSES && ltb v VALUES && not (ge
 beginning given init.Nothing = init.Nothing
 
 -- `given` has a flag for each address
-unfoldable pub begins : List Bool → Line → Init
-begins given l = cond (ltb LINE (length (l .bytes))) init.Nothing (cond (l .ended) (beginning given (initOf (l .bytes))) init.Nothing)
+unfoldable pub initGiven : List Bool → Line → Init
+initGiven given l = cond (ltb LINE (length (l .bytes))) init.Nothing (cond (l .ended) (beginning given (initOf (l .bytes))) init.Nothing)

@@ -1,10 +1,10 @@
--- What a text says. Form and Behind have the notation; Answer, Read, Part, Cases and Whole what comes back for any text whatever; TextOf which texts are a trace's.
+-- What a text says. LineForms and AfterThread have the notation; Answer, Read, BadLine, Cases and Whole what comes back for any text whatever; TextOf which texts are a trace's.
 pub mod Bounds
-pub mod Form
-pub mod Behind
+pub mod LineForms
 pub mod Answer
 pub mod Read
-pub mod Part
+pub mod BadLine
 pub mod Cases
 pub mod TextOf
 pub mod Whole
+pub mod inner

@@ -17,7 +17,7 @@ use Rattle.trace.specs.Trace.{empty, started, pushed}
 use Rattle.trace.specs.declared.Trace.{Trace}
 use Rattle.reader.specs.Bounds.{TEXT}
 use Rattle.text.specs.Lines.{Line, lines}
-use Rattle.reader.specs.Answer.{turned, begins}
+use Rattle.reader.specs.Answer.{turned, initGiven}
 use Rattle.reader.specs.declared.Init.the-variants as init
 use Rattle.reader.specs.declared.Reason.{Reason}
 use Rattle.reader.specs.declared.Reason.the-variants.{LongText}
@@ -38,7 +38,7 @@ none = replicate ADDRESSES false
 
 unfoldable pub readInits : ℕ → List Bool → Trace → List Line → Reading
 readInits n given t [] = record { answer = Good; trace = t }
-readInits n given t (l ∷ ls) = elim (begins given l) [ init.Of a v ↦ readInits (n + 1) (set given a true) (started t a v) ls | init.Nothing ↦ readLines n t (l ∷ ls) ]
+readInits n given t (l ∷ ls) = elim (initGiven given l) [ init.Of a v ↦ readInits (n + 1) (set given a true) (started t a v) ls | init.Nothing ↦ readLines n t (l ∷ ls) ]
 
 unfoldable pub readText : List ℕ → Reading
 readText text = cond (ltb TEXT (length text)) (refusal LongText 0) (readInits 1 none empty (lines text))
@@ -49,7 +49,7 @@ badLines t (l ∷ ls) = elim (turned t l) [ turn.Taken o ↦ badLines (pushed t 
 
 unfoldable pub badInits : List Bool → Trace → List Line → List ℕ
 badInits given t [] = []
-badInits given t (l ∷ ls) = elim (begins given l) [ init.Of a v ↦ badInits (set given a true) (started t a v) ls | init.Nothing ↦ badLines t (l ∷ ls) ]
+badInits given t (l ∷ ls) = elim (initGiven given l) [ init.Of a v ↦ badInits (set given a true) (started t a v) ls | init.Nothing ↦ badLines t (l ∷ ls) ]
 
 unfoldable pub badLineOf : List ℕ → List ℕ
 badLineOf text = cond (ltb TEXT (length text)) [] (badInits none empty (lines text))

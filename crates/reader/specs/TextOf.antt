@@ -22,7 +22,7 @@ use Rattle.trace.specs.Trace.{first}
 use Rattle.trace.specs.declared.Record.{Record}
 use Rattle.trace.specs.declared.Trace.{Trace}
 use Rattle.text.specs.Bounds.{FEED}
-use Rattle.reader.specs.Form.{renderInit, renderOp}
+use Rattle.reader.specs.LineForms.{renderInit, renderOp}
 
 pub record Begin : Type 0 where
   pub address : ℕ

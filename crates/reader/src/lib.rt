@@ -6,7 +6,7 @@ ghost use Rattle.trace.specs.Trace.{empty};
 ghost use Rattle.text.specs.Lines.{lines};
 ghost use Rattle.text.specs.Part.{PartOf};
 ghost use Rattle.reader.specs.Read.{none, readLines, readInits, readText};
-ghost use Rattle.reader.specs.Part.{lineIn, lineStart, lineEnd, startOf, endOf, placeOf};
+ghost use Rattle.reader.specs.BadLine.{lineIn, lineStart, lineEnd, startOf, endOf, placeOf};
 ghost use Rattle.reader.specs.Whole.{readWhole};
 
 pub mod forms;

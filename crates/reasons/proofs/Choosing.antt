@@ -17,12 +17,12 @@ use Rattle.laws.specs.Lowest.{Lowest, lowest}
 use Rattle.laws.proofs.Tests.{and-iff, or-iff, not-iff, same-iff, so-any, so-eq}
 use Rattle.laws.proofs.Lowest.{lowest-iff}
 use Rattle.trace.specs.Bounds.{RECORDS}
-use Rattle.trace.specs.Frame.{Frame, Good, Writer, Source}
-use Rattle.rules.specs.SourceOf.{sourceOf}
-use Rattle.rules.proofs.Tests.{writer-iff}
-use Rattle.rules.proofs.SourceOf.{source-of-has}
-use Rattle.papers.specs.Paper.{Edge}
-use Rattle.reasons.specs.Writing.{readFrom, heldIn, open?, falls, falls₂, firstPair, orElse, choose}
+use Rattle.rules.specs.Frame.{Frame, Good, Writer, Source}
+use Rattle.pairs.specs.SourceOf.{sourceOf}
+use Rattle.rules.proofs.RuleTests.{writer-iff}
+use Rattle.pairs.proofs.SourceOf.{source-of-has}
+use Rattle.papers.specs.Paper.{Claim}
+use Rattle.reasons.specs.inner.Writing.{readFrom, heldIn, open?, falls, falls₂, firstPair, orPair, choose}
 
 -- what a search for a pair comes to
 abbrev pub Found : ℕ → Table → Option (ℕ × ℕ) → Type 0
@@ -47,11 +47,11 @@ first-pair n t = go (lowest (λ x. any n (t x)) n 0) (lowest-iff _ Row n (λ x h
     go (some x) l = inner x (l .0 .1) (lowest (t x) n 0) (lowest-iff _ (Cell x) n (λ y h. (λ s. (h, s), λ r. r .1)) (λ y r. r .0) n 0 (omega arith) (λ y r. omega arith))
     go none l = λ x y a b s. l x (a, so-any n (t x) .1 (y, b, s))
 
-module _ (f : Frame) (K : Table) (E : List Edge) where
-  or-else : (u : Table) (o : Option (ℕ × ℕ)) → Found (f .records) (open? f K E) o → Found (f .records) (open? f K E) (orElse (firstPair (f .records) (λ x y. open? f K E x y && u x y)) o)
+module _ (f : Frame) (K : Table) (E : List Claim) where
+  or-else : (u : Table) (o : Option (ℕ × ℕ)) → Found (f .records) (open? f K E) o → Found (f .records) (open? f K E) (orPair (firstPair (f .records) (λ x y. open? f K E x y && u x y)) o)
   or-else u o h = go (firstPair (f .records) (λ x y. open? f K E x y && u x y)) (first-pair (f .records) (λ x y. open? f K E x y && u x y))
     where
-      go : (q : Option (ℕ × ℕ)) → Found (f .records) (λ x y. open? f K E x y && u x y) q → Found (f .records) (open? f K E) (orElse q o)
+      go : (q : Option (ℕ × ℕ)) → Found (f .records) (λ x y. open? f K E x y && u x y) q → Found (f .records) (open? f K E) (orPair q o)
       go (some p) s = and-iff same-iff same-iff .0 s .0
       go none s = h
 

@@ -14,9 +14,9 @@ use native.Mathlib.Omega.{arith}
 use lib.ListN.{length, length-append}
 use lib.Seq.{sets}
 use Rattle.papers.specs.Paper.{BRANCH, Entry, spell}
-use Rattle.papers.specs.Reading.{branchOf}
-use Rattle.reasons.specs.Telling.{edgesOf}
-use Rattle.reasons.specs.Laid.{Done, ToldBy}
+use Rattle.papers.specs.inner.ReaderBranch.{branchOf}
+use Rattle.reasons.specs.inner.Telling.{edgesOf}
+use Rattle.reasons.specs.inner.Laid.{Done, ToldBy}
 use Rattle.reasons.specs.declared.naming.Told.{Told}
 use Rattle.reasons.specs.declared.naming.Told.the-variants.{On, Over}
 use Rattle.reasons.proofs.Places.{sets-join}

@@ -20,14 +20,14 @@ use lib.Seq.{sets, take-suc, take-suc-set, drop-cons, getD-take, append-snoc, le
 use Rattle.laws.specs.Relation.{Table}
 use Rattle.laws.proofs.Tests.{and-iff, same-iff, off}
 use Rattle.trace.specs.Bounds.{RECORDS}
-use Rattle.trace.specs.Frame.{Frame}
-use Rattle.rules.specs.SourceOf.{sourceOf}
-use Rattle.papers.specs.Paper.{BRANCH, Edge, Entry, named, spell}
-use Rattle.papers.specs.Reading.{branchOf}
+use Rattle.rules.specs.Frame.{Frame}
+use Rattle.pairs.specs.SourceOf.{sourceOf}
+use Rattle.papers.specs.Paper.{BRANCH, Claim, Entry, named, spell}
+use Rattle.papers.specs.inner.ReaderBranch.{branchOf}
 use Rattle.papers.proofs.Branches.{branch-more, same-branch, set-same}
-use Rattle.reasons.specs.Telling.{edgesOf, numberOf, numbers}
-use Rattle.reasons.specs.Ways.{stepOf, wayOf}
-use Rattle.reasons.specs.Laid.{PutAt, Done, ToldBy}
+use Rattle.reasons.specs.inner.Telling.{edgesOf, entryNumber, numbers}
+use Rattle.reasons.specs.inner.Ways.{stepOf, wayOf}
+use Rattle.reasons.specs.inner.Laid.{PutAt, Done, ToldBy}
 use Rattle.reasons.specs.declared.naming.Put.{Put}
 use Rattle.reasons.specs.declared.naming.Put.the-variants.{At, Full}
 use Rattle.reasons.specs.declared.naming.Told.the-variants.{On, Over}
@@ -37,13 +37,13 @@ use Rattle.reasons.proofs.Places.{Reads, sets-join, sets-more}
 one-more : (r : List ℕ) (i v : ℕ) (rest : List ℕ) → i < length r → take (i + 1) (set r i v) ++ rest ≡ take i r ++ v ∷ rest
 one-more r i v rest h = ap (λ k. take k (set r i v) ++ rest) (add-one i) ∙ ap (λ l. l ++ rest) (take-suc-set r i v h) ∙ append-snoc (take i r) v rest
 
-module _ (E : List Edge) (steps : List ℕ) (len a b : ℕ) (fits : len ≤ length steps) where
+module _ (E : List Claim) (steps : List ℕ) (len a b : ℕ) (fits : len ≤ length steps) where
   left : (i : ℕ) → i < len → drop i (take len steps) ≡ getD steps i 0 ∷ drop (i + 1) (take len steps)
   left i h =
       drop-cons (take len steps) i 0 (omega (arith, length-take-le len steps fits))
       ∙ ap₂ (λ z k. z ∷ drop k (take len steps)) (getD-take len steps i 0 h) (sym (add-one i))
 
-  pub numbers-step : (r : List ℕ) (i x v : ℕ) → i < len → i < length r → v ≡ numberOf E x (getD steps i 0)
+  pub numbers-step : (r : List ℕ) (i x v : ℕ) → i < len → i < length r → v ≡ entryNumber E x (getD steps i 0)
       → take i r ++ numbers E x (drop i (take len steps)) b ≡ numbers E a (take len steps) b
       → take (i + 1) (set r i v) ++ numbers E (getD steps i 0) (drop (i + 1) (take len steps)) b ≡ numbers E a (take len steps) b
   unfolding numbers
@@ -53,7 +53,7 @@ module _ (E : List Edge) (steps : List ℕ) (len a b : ℕ) (fits : len ≤ leng
       ∙ ap (λ zs. take i r ++ numbers E x zs b) (sym (left i h))
       ∙ inv
 
-  pub numbers-end : (r : List ℕ) (i x v : ℕ) → i ≡ len → len < length r → v ≡ numberOf E x b
+  pub numbers-end : (r : List ℕ) (i x v : ℕ) → i ≡ len → len < length r → v ≡ entryNumber E x b
       → take i r ++ numbers E x (drop i (take len steps)) b ≡ numbers E a (take len steps) b
       → take (len + 1) (set r len v) ≡ numbers E a (take len steps) b
   unfolding numbers

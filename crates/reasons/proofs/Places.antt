@@ -21,12 +21,12 @@ use lib.Seq.{sets}
 use Rattle.laws.specs.Relation.{Table}
 use Rattle.laws.proofs.LowestLoops.{NoneBelow, lowest-found, lowest-nothing}
 use Rattle.trace.specs.Bounds.{RECORDS}
-use Rattle.trace.specs.Frame.{Frame}
-use Rattle.rules.specs.SourceOf.{sourceOf}
+use Rattle.rules.specs.Frame.{Frame}
+use Rattle.pairs.specs.SourceOf.{sourceOf}
 use Rattle.papers.specs.Paper.{edgeAt}
-use Rattle.papers.specs.Reading.{branchOf}
+use Rattle.papers.specs.inner.ReaderBranch.{branchOf}
 use Rattle.papers.proofs.Branches.{branch-long, branch-at}
-use Rattle.reasons.specs.Telling.{placeOf, numberOf, loadOf}
+use Rattle.reasons.specs.inner.Telling.{entryPlace, entryNumber, restLoad}
 
 module _ (from to : List ℕ) (n x y : ℕ) where
   abbrev pub Here : ℕ → Bool
@@ -35,27 +35,27 @@ module _ (from to : List ℕ) (n x y : ℕ) where
   pub place-test : (i : ℕ) → i < n → Here i ≡ (eqb (getD from i 0) x && eqb (getD to i 0) y)
   place-test i h = ap (λ e. eqb (e .from) x && eqb (e .to) y) (branch-at from to n i h)
 
-  pub place-found : (i : ℕ) → NoneBelow Here i → i < n → So (Here i) → placeOf (branchOf from to n) x y ≡ i
-  unfolding placeOf
+  pub place-found : (i : ℕ) → NoneBelow Here i → i < n → So (Here i) → entryPlace (branchOf from to n) x y ≡ i
+  unfolding entryPlace
   place-found i b h t =
       ap (λ (o : Option ℕ). elim o [ some i ↦ i | none ↦ length (branchOf from to n) ]) (lowest-found Here (length (branchOf from to n)) i b (omega (arith, branch-long from to n)) t)
 
-  pub place-none : (i : ℕ) → NoneBelow Here i → n ≤ i → placeOf (branchOf from to n) x y ≡ n
-  unfolding placeOf
+  pub place-none : (i : ℕ) → NoneBelow Here i → n ≤ i → entryPlace (branchOf from to n) x y ≡ n
+  unfolding entryPlace
   place-none i b h =
       ap (λ (o : Option ℕ). elim o [ some i ↦ i | none ↦ length (branchOf from to n) ]) (lowest-nothing Here (length (branchOf from to n)) i b (omega (arith, branch-long from to n)))
       ∙ branch-long from to n
 
-  pub number-found : (i : ℕ) → i ≡ placeOf (branchOf from to n) x y → i < n → numberOf (branchOf from to n) x y ≡ i
-  unfolding numberOf
+  pub number-found : (i : ℕ) → i ≡ entryPlace (branchOf from to n) x y → i < n → entryNumber (branchOf from to n) x y ≡ i
+  unfolding entryNumber
   number-found i e h =
-      let p = placeOf (branchOf from to n) x y in
+      let p = entryPlace (branchOf from to n) x y in
       ap (λ b. cond b p 0) (lt-ltb p (length (branchOf from to n)) (omega (arith, e, branch-long from to n))) ∙ sym e
 
-  pub number-none : (i : ℕ) → i ≡ placeOf (branchOf from to n) x y → n ≤ i → numberOf (branchOf from to n) x y ≡ 0
-  unfolding numberOf
+  pub number-none : (i : ℕ) → i ≡ entryPlace (branchOf from to n) x y → n ≤ i → entryNumber (branchOf from to n) x y ≡ 0
+  unfolding entryNumber
   number-none i e h =
-      let p = placeOf (branchOf from to n) x y in
+      let p = entryPlace (branchOf from to n) x y in
       ap (λ b. cond b p 0) (le-ltb p (length (branchOf from to n)) (omega (arith, e, branch-long from to n)))
 
 pub sets-join : (l : List ℕ) (at : ℕ) (vs ws : List ℕ) → sets (sets l at vs) (at + length vs) ws ≡ sets l at (vs ++ ws)
@@ -71,12 +71,12 @@ module _ (f : Frame) (C : Table) (x y : ℕ) where
   abbrev pub Reads : ℕ → Bool
   Reads L = C x L && eqb (sourceOf f L) y && not (eqb x L)
 
-  pub load-here : (L : ℕ) → NoneBelow Reads L → L < RECORDS → So (Reads L) → L ≡ loadOf f C x y
-  unfolding loadOf
+  pub load-here : (L : ℕ) → NoneBelow Reads L → L < RECORDS → So (Reads L) → L ≡ restLoad f C x y
+  unfolding restLoad
   load-here L n h t = sym (ap (λ (o : Option ℕ). elim o [ some L ↦ L | none ↦ RECORDS ]) (lowest-found Reads RECORDS L n h t))
 
-  pub load-past : (L : ℕ) → NoneBelow Reads L → RECORDS ≤ L → RECORDS ≡ loadOf f C x y
-  unfolding loadOf
+  pub load-past : (L : ℕ) → NoneBelow Reads L → RECORDS ≤ L → RECORDS ≡ restLoad f C x y
+  unfolding restLoad
   load-past L n h = sym (ap (λ (o : Option ℕ). elim o [ some L ↦ L | none ↦ RECORDS ]) (lowest-nothing Reads RECORDS L n h))
 
 -- two writers, one of them read from, held neither way: part by part

@@ -13,24 +13,24 @@ use Prim.Native.Nat.{ℕ, _*_, _<_, _≤_}
 use native.Mathlib.Nat.{mul-le-mul}
 use native.Mathlib.Omega.{arith}
 use lib.ListN.{length, length-append}
-use Rattle.laws.specs.Growth.{pairs}
+use Rattle.laws.proofs.GrowingTables.{pairs}
 use Rattle.laws.proofs.Growth.{pairs-bound, pairs-more}
 use Rattle.laws.proofs.Tests.{so-lt}
 use Rattle.trace.specs.Bounds.{RECORDS}
-use Rattle.papers.specs.Paper.{BRANCH, Edge, named, roomy}
-use Rattle.reasons.specs.Telling.{inside}
+use Rattle.papers.specs.Paper.{BRANCH, Claim, named, branchRoom}
+use Rattle.reasons.specs.inner.Telling.{inside}
 use Rattle.reasons.proofs.Names.{Named, inside-iff, named-grow, named-last, named-cases}
 
-pub data Distinct : List Edge → Type 0 where
+pub data Distinct : List Claim → Type 0 where
   none-yet : Distinct []
-  further : {E : List Edge} {x y : ℕ} → Distinct E → (Named E x y → ⊥) → Distinct (named E x y)
+  further : {E : List Claim} {x y : ℕ} → Distinct E → (Named E x y → ⊥) → Distinct (named E x y)
 
-pub record Fair (n : ℕ) (E : List Edge) : Type 0 where
+pub record Fair (n : ℕ) (E : List Claim) : Type 0 where
   pub once : Distinct E
   pub below : (x y : ℕ) → Named E x y → (x < n) × (y < n)
 
 module _ (n : ℕ) where
-  counted : {E : List Edge} → Distinct E → ((x y : ℕ) → Named E x y → (x < n) × (y < n)) → length E ≤ pairs n (inside E)
+  counted : {E : List Claim} → Distinct E → ((x y : ℕ) → Named E x y → (x < n) × (y < n)) → length E ≤ pairs n (inside E)
   counted none-yet b = omega arith
   counted (further {E} {x} {y} d out) b =
       let r = counted d (λ u v m. b u v (named-grow E (record { from = x; to = y } ∷ []) u v m)) in
@@ -42,10 +42,10 @@ module _ (n : ℕ) where
             (inside-iff (named E x y) x y .1 (named-last E x y)) (λ i. out (inside-iff E x y .0 i)),
       )
 
-  pub distinct-short : {E : List Edge} → Distinct E → ((x y : ℕ) → Named E x y → (x < n) × (y < n)) → length E ≤ n * n
+  pub distinct-short : {E : List Claim} → Distinct E → ((x y : ℕ) → Named E x y → (x < n) × (y < n)) → length E ≤ n * n
   distinct-short {E} d b = omega (arith, counted d b, pairs-bound n (inside E))
 
-  module _ (E : List Edge) (fair : Fair n E) (x y : ℕ) (out : Named E x y → ⊥) (here : (x < n) × (y < n)) where
+  module _ (E : List Claim) (fair : Fair n E) (x y : ℕ) (out : Named E x y → ⊥) (here : (x < n) × (y < n)) where
     pub fair-one : Fair n (named E x y)
     fair-one = record {
       once = further (fair .once) out;
@@ -55,7 +55,7 @@ module _ (n : ℕ) where
       ];
     }
 
-    pub roomy-new : n ≤ RECORDS → So (roomy E)
+    pub roomy-new : n ≤ RECORDS → So (branchRoom E)
     roomy-new small =
         let s : length (named E x y) ≤ n * n = distinct-short (fair-one .once) (fair-one .below) in
         let l : n * n ≤ RECORDS * RECORDS = mul-le-mul small small in

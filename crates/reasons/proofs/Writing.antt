@@ -17,32 +17,32 @@ use native.Mathlib.Omega.{arith}
 use Rattle.laws.specs.Tests.{any}
 use Rattle.laws.specs.Relation.{Table, _⊆_}
 use Rattle.laws.specs.Lowest.{Lowest, lowest}
-use Rattle.laws.specs.Sorted.{On, sorted}
-use Rattle.laws.specs.Growth.{pairs}
+use Rattle.laws.specs.inner.Sorted.{On, sorted}
+use Rattle.laws.proofs.GrowingTables.{pairs}
 use Rattle.laws.proofs.Tests.{any-iff, test}
 use Rattle.laws.proofs.Lowest.{lowest-iff}
 use Rattle.laws.proofs.Growth.{pairs-bound, pairs-more}
 use Rattle.trace.specs.Bounds.{RECORDS}
-use Rattle.trace.specs.Frame.{Frame, Good}
-use Rattle.trace.specs.Order.{Keeps, Valid}
-use Rattle.rules.specs.Rules.{Contradicted, Joins, Within, Chains, Edge as Forced, rule7, rule8}
+use Rattle.rules.specs.Frame.{Frame, Good}
+use Rattle.rules.specs.Order.{Keeps, Valid}
+use Rattle.rules.specs.Rules.{Contradicted, Joins, InRecords, Chains, Edge as Forced, rule7, rule8}
 use Rattle.rules.specs.Circle.{Shown}
-use Rattle.rules.specs.Clear.{Settles}
+use Rattle.rules.proofs.ClearOrders.{SettlesLoads}
 use Rattle.rules.specs.Missing.{Sourced}
 use Rattle.rules.specs.Closing.{Closing}
-use Rattle.rules.specs.Tests.{chains?, edge?}
-use Rattle.rules.specs.Walk.{shown?}
+use Rattle.rules.specs.inner.ComputedRounds.{chains?, edge?}
+use Rattle.rules.specs.inner.ComputedWalks.{shown?}
 use Rattle.rules.proofs.Rounds.{more-pairs, held-closed}
 use Rattle.rules.proofs.Ends.{joins-within, step-within, chains-within}
-use Rattle.rules.proofs.Tests.{chains-iff, edge-iff}
+use Rattle.rules.proofs.RuleTests.{chains-iff, edge-iff}
 use Rattle.rules.proofs.Circle.{circle-none}
 use Rattle.rules.proofs.Closing.{contradicted?, held?, closing-computed}
 use Rattle.rules.proofs.Shown.{shown-computed}
 use Rattle.rules.proofs.Sorted.{held-valid, held-step}
-use Rattle.papers.specs.Paper.{Edge, Entry, named, roomy, accepted}
+use Rattle.papers.specs.Paper.{Claim, Entry, named, branchRoom, accepted}
 use Rattle.papers.proofs.Sound.{accepted-sound}
-use Rattle.reasons.specs.Telling.{edgesOf, inside, numbers, along, tell}
-use Rattle.reasons.specs.Writing.{splitEntry, fallen, heldIn, open?, choose, circleRound, closing, leafOf, paperOf, paper}
+use Rattle.reasons.specs.inner.Telling.{edgesOf, inside, numbers, along, tell}
+use Rattle.reasons.specs.inner.Writing.{splitEntry, fallen, heldIn, open?, choose, circleRound, closing, leafOf, paperOf, paper}
 use Rattle.reasons.proofs.Names.{Named, inside-iff, named-grow, named-last, named-cases}
 use Rattle.reasons.proofs.Short.{Distinct, none-yet, Fair, fair-one, roomy-new}
 use Rattle.reasons.proofs.Written.{Written, circle, split, written-accepted}
@@ -50,15 +50,15 @@ use Rattle.reasons.proofs.Telling.{numbers-chained, along-says, tell-sa
 use Rattle.reasons.proofs.Choosing.{Found, choose-found, open-iff, read-from}
 
 module _ (f : Frame) (g : Good f) (K : Table) (jK : Joins f K) where
-  abbrev None : List Edge → Type 0
+  abbrev None : List Claim → Type 0
   None E = (xs : List ℕ) → Valid f K xs → Keeps (inside E) xs → ⊥
 
-  branch-closing : (E : List Edge) → Joins f (inside E) → Closing f K (inside E) (fallen f K E) (heldIn f K E)
+  branch-closing : (E : List Claim) → Joins f (inside E) → Closing f K (inside E) (fallen f K E) (heldIn f K E)
   unfolding fallen heldIn contradicted? held?
   branch-closing E j = closing-computed f K (inside E) g (joins-within f g K jK) (joins-within f g (inside E) j)
 
   -- a branch with one edge more
-  module _ (E : List Edge) (x y : ℕ) where
+  module _ (E : List Claim) (x y : ℕ) where
     more : On (inside E) ⊆ On (inside (named E x y))
     more a b u = inside-iff (named E x y) a b .1 (named-grow E (record { from = x; to = y } ∷ []) a b (inside-iff E a b .0 u))
 
@@ -86,10 +86,10 @@ module _ (f : Frame) (g : Good f) (K : Table) (jK : Joins f K) where
 
 module _ (f : Frame) (g : Good f) (small : f .records ≤ RECORDS) (K : Table) (jK : Joins f K) where
   -- the first round with a circle has one, and none before it does
-  abbrev Circling : List Edge → ℕ → Type 0
+  abbrev Circling : List Claim → ℕ → Type 0
   Circling E k = So (any (f .records) (λ x. chains? f K (inside E) (suc k) x x)) × ((j : ℕ) → j < k → So (any (f .records) (λ x. chains? f K (inside E) (suc j) x x)) → ⊥)
 
-  round-circle : (E : List Edge) → So (fallen f K E) → Circling E (circleRound f K (inside E))
+  round-circle : (E : List Claim) → So (fallen f K E) → Circling E (circleRound f K (inside E))
   unfolding circleRound fallen
   round-circle E c = go (lowest (λ k. any (f .records) (λ x. chains? f K (inside E) (suc k) x x)) (suc (f .records * f .records)) 0)
       (lowest-iff _ At (suc (f .records * f .records)) (λ k h. (λ s. (h, s), λ r. r .1)) (λ k r. r .0) (suc (f .records * f .records)) 0 (omega arith) (λ k r. omega arith))
@@ -101,7 +101,7 @@ module _ (f : Frame) (g : Good f) (small : f .records ≤ RECORDS) (K : Table) (
       go (some k) l = (l .0 .1, λ j h s. omega (arith, l .1 j (omega (arith, l .0 .0), s)))
       go none l = absurd (l (f .records * f .records) (omega arith, c))
 
-  pub leaf-written : (E : List Edge) → Fair (f .records) E → Joins f (inside E) → So (fallen f K E) → Written f K E (leafOf f K E)
+  pub leaf-written : (E : List Claim) → Fair (f .records) E → Joins f (inside E) → So (fallen f K E) → Written f K E (leafOf f K E)
   unfolding leafOf closing
   leaf-written E d j c = go (shown? (f .records) (edge? f K P r)) (shown-computed (Forced f K P r) (f .records) (within r) (edge? f K P r) (edge-iff f g K P inK inP r))
     where
@@ -111,10 +111,10 @@ module _ (f : Frame) (g : Good f) (small : f .records ≤ RECORDS) (K : Table) (
       r : ℕ
       r = circleRound f K (inside E)
 
-      inK : Within f K
+      inK : InRecords f K
       inK = joins-within f g K jK
 
-      inP : Within f (inside E)
+      inP : InRecords f (inside E)
       inP = joins-within f g (inside E) j
 
       within : (k x y : ℕ) → Forced f K (inside E) k x y → (x < f .records) × (y < f .records)
@@ -142,17 +142,17 @@ module _ (f : Frame) (g : Good f) (small : f .records ≤ RECORDS) (K : Table) (
           circle es x (numbers (E ++ edgesOf es) x zs x) (u .runs) (u .once) (numbers-chained (E ++ edgesOf es) x zs x (u .told))
 
   module _ (m : Sourced f) where
-    abbrev Below : ℕ → List Edge → Type 0
+    abbrev Below : ℕ → List Claim → Type 0
     Below k E = So (fallen f K E) ⊎ (f .records * f .records < k + pairs (f .records) (heldIn f K E))
 
-    pub paper-written : (k : ℕ) (E : List Edge) → Fair (f .records) E → Joins f (inside E) → None f g K jK E → Below k E → Written f K E (paperOf f K k E)
+    pub paper-written : (k : ℕ) (E : List Claim) → Fair (f .records) E → Joins f (inside E) → None f g K jK E → Below k E → Written f K E (paperOf f K k E)
     unfolding paperOf
     paper-written zero E d j n (inl c) = leaf-written E d j c
     paper-written zero E d j n (inr h) = absurd (omega (arith, pairs-bound (f .records) (heldIn f K E)))
     paper-written (suc k) E d j n h = go (fallen f K E) refl (paper-written k)
       where
         Rest : Type 0
-        Rest = (E : List Edge) → Fair (f .records) E → Joins f (inside E) → None f g K jK E → Below k E → Written f K E (paperOf f K k E)
+        Rest = (E : List Claim) → Fair (f .records) E → Joins f (inside E) → None f g K jK E → Below k E → Written f K E (paperOf f K k E)
 
         shuts : Closing f K (inside E) (fallen f K E) (heldIn f K E)
         shuts = branch-closing f g K jK E j
@@ -181,7 +181,7 @@ module _ (f : Frame) (g : Good f) (small : f .records ≤ RECORDS) (K : Table) (
             let a = g .writes x (o .0 .0 .0 .0) in
             let b = g .writes y (o .0 .0 .0 .1 .writes) in
             let free : Contradicted f K (inside E) → ⊥ = λ z. false≢true (sym q ∙ shuts .contradicted .1 z) in
-            let l : So (roomy E) = roomy-new (f .records) E d x y (unnamed q x y (o .0 .1)) (g .below x a, g .below y b) small in
+            let l : So (branchRoom E) = roomy-new (f .records) E d x y (unnamed q x y (o .0 .1)) (g .below x a, g .below y b) small in
             split x y l a b (λ e. o .0 .0 .0 .1 .other (sym e)) free (λ t. o .0 .1 (shuts .held x y .1 (t, free))) (λ t. o .1 (shuts .held y x .1 (t, free)))
             (side rest q x y a b (o .0 .1)) (side rest q y x b a (o .1))
         parts rest q none s = absurd (n (sorted (f .operation) (heldIn f K E) (f .records)) (v .0) (v .1))
@@ -189,7 +189,7 @@ module _ (f : Frame) (g : Good f) (small : f .records ≤ RECORDS) (K : Table) (
             shut : Closing f K (inside E) false (heldIn f K E)
             shut = subst (λ (b : Bool). Closing f K (inside E) b (heldIn f K E)) q shuts
 
-            settles : Settles f (On (heldIn f K E))
+            settles : SettlesLoads f (On (heldIn f K E))
             settles S S′ L u w o = elim (test (heldIn f K E S′ S)) [
               | inl t ↦ inl t
               | inr t ↦ elim (test (heldIn f K E S S′)) [

@@ -15,7 +15,7 @@ use lib.ListN.{length, take}
 use Rattle.trace.specs.Meaning.{frameOf}
 use Rattle.trace.specs.declared.Trace.{Trace}
 use Rattle.pairs.specs.Kept.{MODELS, modelled, keptOf}
-use Rattle.orders.specs.Verdict as said
+use Rattle.rules.specs.Verdict as said
 use Rattle.text.specs.Room.{putAt, behind}
 use Rattle.text.proofs.Put.{put-front, put-none, behind-room, behind-none}
 use Rattle.reader.specs.Answer.{numberOf}
@@ -25,21 +25,21 @@ use Rattle.reader.specs.declared.Answer.the-variants.{Good, Refused, Lost}
 use Rattle.reader.specs.declared.Reading.{Reading}
 use Rattle.reader.specs.declared.Reason.{Reason}
 use Rattle.reader.proofs.Whole.{whole-well}
-use Rattle.verdict.specs.Told.{laid, Told}
-use Rattle.verdict.proofs.One.{told-one}
+use Rattle.verdict.specs.VerdictOf.{laid, Told}
+use Rattle.verdict.proofs.Unique.{told-one}
 use Rattle.verdict.specs.declared.Verdict.{Verdict}
-use Rattle.report.specs.Bounds.{LINE}
+use Rattle.report.specs.Bounds.{VERDICT-LINE}
 use Rattle.report.specs.Report.{lineOf, refusalOf, Lines, Answers, Prints}
-use Rattle.report.specs.Wrote.{Wrote, Listed, Written, Reported}
+use Rattle.report.specs.Wrote.{Wrote, WroteLines, Written, Reported}
 use Rattle.report.proofs.Wrote.{wrote-none, wrote-then, wrote-front}
 
 module _ (t : Trace) (before : List ℕ) where
-  pub listed-none : Listed t 0 before before 0
+  pub listed-none : WroteLines t 0 before before 0
   listed-none = record { out = []; lines = refl; wrote = wrote-none before 0; within = omega arith }
 
   pub listed-more :
-      (m : ℕ) (mid after : List ℕ) (r s : ℕ) (v : Verdict) → Listed t m before mid r → Told t (suc m) v → Wrote mid r (lineOf (suc m) v) after s → s ≤ r + LINE
-      → Listed t (suc m) before after s
+      (m : ℕ) (mid after : List ℕ) (r s : ℕ) (v : Verdict) → WroteLines t m before mid r → Told t (suc m) v → Wrote mid r (lineOf (suc m) v) after s → s ≤ r + VERDICT-LINE
+      → WroteLines t (suc m) before after s
   listed-more m mid after r s v l p w b = record {
     out = l .out ++ lineOf (suc m) v;
     lines = (l .out, v, l .lines, p, refl);

@@ -14,15 +14,15 @@ use Rattle.reader.specs.Whole.{readWhole}
 use Rattle.reader.specs.declared.Answer.the-variants.{Good}
 use Rattle.reader.specs.declared.Reading.{Reading}
 use Rattle.pairs.specs.Kept.{SC, MODELS}
-use Rattle.orders.specs.Verdict as said
-use Rattle.orders.specs.Starred.{places, traceOf, Case, cases}
-use Rattle.verdict.specs.Told.{laid, Told}
+use Rattle.rules.specs.Verdict as said
+use Rattle.pairs.specs.Starred.{places, traceOf, StarredCase, cases}
+use Rattle.verdict.specs.VerdictOf.{laid, Told}
 use Rattle.verdict.specs.declared.Verdict.{Verdict}
-use Rattle.verdict.proofs.Owed.{starred-told}
+use Rattle.verdict.proofs.Guarantees.{starred-told}
 use Rattle.report.specs.Report.{spaced, sayingAs, lineOf, Lines, Answers, Prints}
 
 -- the first of the table
-abbrev nothing : Case
+abbrev nothing : StarredCase
 nothing = record { ops = []; verdicts = said.order [] ∷ said.order [] ∷ said.order [] ∷ said.order [] ∷ [] }
 
 listed : List·Memᴰ nothing cases

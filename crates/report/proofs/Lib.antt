@@ -4,4 +4,4 @@ pub mod Digits
 pub mod Rendering
 pub mod Answered
 pub mod Empty
-pub mod One
+pub mod Unique

@@ -21,10 +21,10 @@ use Rattle.text.specs.Bounds.{FEED}
 use Rattle.text.specs.Number.{decimal}
 use Rattle.text.specs.Template.{HOLE, fill}
 use Rattle.text.proofs.Decimal.{decimal-length}
-use Rattle.reader.specs.Form.{renderOp}
+use Rattle.reader.specs.LineForms.{renderOp}
 use Rattle.trace.specs.Trace.{first}
 use Rattle.trace.specs.declared.Trace.{Trace}
-use Rattle.reader.specs.Form.{renderInit}
+use Rattle.reader.specs.LineForms.{renderInit}
 use Rattle.reader.specs.TextOf.{Begin, renderRecords, renderInits, initsFrom}
 use Rattle.report.specs.Bounds.{VALUE}
 

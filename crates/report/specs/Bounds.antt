@@ -5,11 +5,11 @@
 --   LONG   == any number that the code holds
 --   SAID   == what is said of one model
 --   NAME   == the model's name
---   LINE   == the line of one model
+--   VERDICT-LINE == the line of one model
 --   REPORT == the whole answer
 --   VALUE  == a value, or any other number of a record
 --   FORM   == the form of a line
---   RECORD == a line of a trace with its feed
+--   RECORD-LINE == a line of a trace with its feed
 --   RENDER == the text of a trace
 use Prim.Native.Nat.{ℕ, _+_, _*_}
 use Rattle.trace.specs.Bounds.{RECORDS, ADDRESSES}
@@ -32,11 +32,11 @@ abbrev pub SAID : ℕ
 SAID = 40 + 2 * (NUMBER * RECORDS)
 
 -- with a colon, a space and the line feed
-abbrev pub LINE : ℕ
-LINE = NAME + 3 + SAID
+abbrev pub VERDICT-LINE : ℕ
+VERDICT-LINE = NAME + 3 + SAID
 
 abbrev pub REPORT : ℕ
-REPORT = MODELS * LINE
+REPORT = MODELS * VERDICT-LINE
 
 abbrev pub VALUE : ℕ
 VALUE = 5
@@ -45,8 +45,8 @@ abbrev pub FORM : ℕ
 FORM = 27
 
 -- no byte of a form gives more than a value's digits
-abbrev pub RECORD : ℕ
-RECORD = 1 + VALUE * FORM
+abbrev pub RECORD-LINE : ℕ
+RECORD-LINE = 1 + VALUE * FORM
 
 abbrev pub RENDER : ℕ
-RENDER = RECORD * (ADDRESSES + RECORDS)
+RENDER = RECORD-LINE * (ADDRESSES + RECORDS)

@@ -21,7 +21,7 @@ use Rattle.reader.specs.Whole.{LOST, readWhole}
 use Rattle.reader.specs.declared.Answer.{Answer}
 use Rattle.reader.specs.declared.Answer.the-variants.{Good, Refused, Lost}
 use Rattle.pairs.specs.Kept.{MODELS}
-use Rattle.verdict.specs.Told.{refusedBy, Told}
+use Rattle.verdict.specs.VerdictOf.{refusedBy, Told}
 use Rattle.verdict.specs.declared.Outcome.{Outcome}
 use Rattle.verdict.specs.declared.Outcome.the-variants.{NoSource, Circle, Order, NoneLeft, NoModel, NotWellFormed}
 use Rattle.verdict.specs.declared.Verdict.{Verdict}

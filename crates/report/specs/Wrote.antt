@@ -1,7 +1,7 @@
 -- What is written into a lent buffer at a place.
 --
 --   Wrote before at bytes after end == up to the new end stand the bytes before the place, and then these
---   Listed t m before after end     == at the front stand the lines of a trace under the models up to m
+--   WroteLines t m before after end == at the front stand the lines of a trace under the models up to m
 --   Written text before after end   == at the front stands the output for a text
 --   Reported text before after r    == what `report` promises: the output stands at the front and the rest is as before; where it does not fit, nothing is written
 use mathlib.Core.Path.{_≡_}
@@ -9,7 +9,7 @@ use mathlib.Core.List.{List, _++_}
 use Prim.Native.Nat.{ℕ, _+_, _*_, _≤_, _<_}
 use lib.ListN.{length, take, drop}
 use Rattle.trace.specs.declared.Trace.{Trace}
-use Rattle.report.specs.Bounds.{LINE, REPORT}
+use Rattle.report.specs.Bounds.{VERDICT-LINE, REPORT}
 use Rattle.report.specs.Report.{Lines, Prints}
 
 pub record Wrote (before : List ℕ) (at : ℕ) (bytes after : List ℕ) (end : ℕ) : Type 0 where
@@ -17,11 +17,11 @@ pub record Wrote (before : List ℕ) (at : ℕ) (bytes after : List ℕ) (end : 
   pub ends : end ≡ at + length bytes
   pub said : take end after ≡ take at before ++ bytes
 
-pub record Listed (t : Trace) (m : ℕ) (before after : List ℕ) (end : ℕ) : Type 0 where
+pub record WroteLines (t : Trace) (m : ℕ) (before after : List ℕ) (end : ℕ) : Type 0 where
   pub out : List ℕ
   pub lines : Lines t m out
   pub wrote : Wrote before 0 out after end
-  pub within : end ≤ m * LINE
+  pub within : end ≤ m * VERDICT-LINE
 
 pub record Written (text before after : List ℕ) (end : ℕ) : Type 0 where
   pub out : List ℕ

@@ -3,7 +3,7 @@ ghost use mathlib.Core.Path.{_≡_};
 ghost use lib.ListN.{length};
 ghost use Rattle.report.specs.Bounds.{REPORT};
 ghost use Rattle.pairs.specs.Kept.{MODELS};
-ghost use Rattle.report.specs.Wrote.{Listed, Written, Reported};
+ghost use Rattle.report.specs.Wrote.{WroteLines, Written, Reported};
 
 mod lines;
 mod pieces;
@@ -31,7 +31,7 @@ pub const REPORT: usize = (MODELS as usize) * (46 + 2 * (1 + DIGITS) * RECORDS);
 // The lines of a trace, one for each model, in a buffer that has room for them.
 fn put_models(t: Trace, out: &mut [u8]) -> usize
     requires { ⌜ length (now out) ≡ REPORT ⌝ }
-    ensures { λ r. ⌜ Listed t MODELS (now (out .entry)) (now (out .exit)) r ⌝ }
+    ensures { λ r. ⌜ WroteLines t MODELS (now (out .entry)) (now (out .exit)) r ⌝ }
 {
     let mut model: u8 = 0;
     let mut at: usize = 0;

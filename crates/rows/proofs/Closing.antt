@@ -27,7 +27,7 @@ use Rattle.laws.proofs.Via.{Via, last, thru, via-zero, via-more, chain-iff-via,
 use Rattle.trace.specs.Bounds.{RECORDS}
 use Rattle.rows.specs.Bounds.{WIDTH, WORDS, CELLS}
 use Rattle.rows.specs.Rows.{place, bit, Edges, Words}
-use Rattle.rows.specs.Added.{Added, Row, Through, Below}
+use Rattle.rows.specs.inner.AddedPairs.{Added, Row, Through, RowsBelow}
 use Rattle.rows.specs.Empty.{emptyOf}
 use Rattle.rows.specs.Chained.{Chained}
 use Rattle.rows.proofs.Rows.{row-full, bit-at, bit-bounds}
@@ -166,16 +166,16 @@ module _ (e t : List ℕ) (k x : ℕ) (now : Passing e k x t) where
       adding-same e (Through e k) (λ i j. i) x t now
       (λ i j p q. false≢true (sym off ∙ pass-next k .1 (subst (λ (n : ℕ). Edges e n k) p (q .0))))
 
-  pub passed : (n : ℕ) → Below e n → n ≤ x → Added e (Through e k) t
+  pub passed : (n : ℕ) → RowsBelow e n → n ≤ x → Added e (Through e k) t
   passed n low h = added e (Through e k) (λ i j. i) x t now (λ i j q. omega (arith, low i k (q .0)))
 
 pub pass-bare : (e : List ℕ) (k : ℕ) → ((j : ℕ) → Edges e k j → ⊥) → Added e (Through e k) e
 pass-bare e k bare = record { long = refl; words = λ w. w; pairs = λ i j. (inl, λ s. elim s [ inl r ↦ r | inr q ↦ absurd (bare j (q .1)) ]) }
 
-pub height-all : (e : List ℕ) → Below e RECORDS
+pub height-all : (e : List ℕ) → RowsBelow e RECORDS
 height-all e x y t = bit-bounds e x y t .0
 
-pub height-less : (e : List ℕ) (n : ℕ) → Below e n → Within e (n - 1) (emptyOf WORDS) 0 → Below e (n - 1)
+pub height-less : (e : List ℕ) (n : ℕ) → RowsBelow e n → Within e (n - 1) (emptyOf WORDS) 0 → RowsBelow e (n - 1)
 height-less e n low w x y t = elim (eq? x (n - 1)) [
   | inl q ↦ absurd (false≢true (sym (empty-bit WORDS 0 y) ∙ w y (subst (λ (x : ℕ). Edges e x y) q t)))
   | inr d ↦ omega (arith, low x y t)
@@ -202,7 +202,7 @@ stage-more e k t u s p = rw add-one record {
 }
 
 -- a chain begins where an edge does
-pub stage-below : (e : List ℕ) (k : ℕ) (t : List ℕ) (n : ℕ) → Stage e k t → Below e n → Below t n
+pub stage-below : (e : List ℕ) (k : ℕ) (t : List ℕ) (n : ℕ) → Stage e k t → RowsBelow e n → RowsBelow t n
 stage-below e k t n s low x y h = from (s .via x y .0 h)
   where
     from : Via (Edges e) k x y → x < n

@@ -3,7 +3,7 @@ pub mod Or
 pub mod Pair
 pub mod Whole
 pub mod Closing
-pub mod One
+pub mod Unique
 pub mod Against
 pub mod Nexts
 pub mod Dropping

@@ -20,7 +20,7 @@ use Rattle.trace.specs.Bounds.{RECORDS}
 use Rattle.rows.specs.Bounds.{WIDTH}
 use Rattle.rows.specs.Rows.{bit, Words}
 use Rattle.rows.specs.Within.{wordOf}
-use Rattle.rows.specs.Next.{Next}
+use Rattle.rows.specs.Next.{NextInRow}
 use Rattle.rows.proofs.Rows.{row-full, bit-bounds}
 use Rattle.rows.proofs.Against.{bit-word, word-small}
 
@@ -69,7 +69,7 @@ module _ (rows : List ℕ) (words : Words rows) (x from z : ℕ) (begun : from �
   small : w < 2 ^ WIDTH
   small = omega (arith, is, word-small rows words x (z / WIDTH), shr-le (wordOf rows x (z / WIDTH)) (z % WIDTH))
 
-  pub next-here : w ≢ 0 → Next rows x from (z + trailingZeros WIDTH w)
+  pub next-here : w ≢ 0 → NextInRow rows x from (z + trailingZeros WIDTH w)
   next-here d =
       let t : ℕ = trailingZeros WIDTH w in
       let set = low-set WIDTH w (low-some WIDTH w small d) in
@@ -91,17 +91,17 @@ module _ (rows : List ℕ) (words : Words rows) (x from z : ℕ) (begun : from �
     | no m ↦ let e : y ≡ z + (y - z) = omega arith in false≢true (sym (ap (bit rows x) e ∙ in-word (y - z) (omega arith) ∙ ap (λ (n : ℕ). bitOf n (y - z)) q ∙ bitOf-zero (y - z)) ∙ b)
   ]
 
-pub next-end : (rows : List ℕ) (x from z : ℕ) → ((y : ℕ) → from ≤ y → y < z → So (bit rows x y) → ⊥) → RECORDS ≤ z → Next rows x from RECORDS
+pub next-end : (rows : List ℕ) (x from z : ℕ) → ((y : ℕ) → from ≤ y → y < z → So (bit rows x y) → ⊥) → RECORDS ≤ z → NextInRow rows x from RECORDS
 next-end rows x from z none h = record { skips = λ y p l. none y p (omega arith); there = inr refl }
 
 -- the lower of two would be skipped by the other
-lower : (rows : List ℕ) (x from a b : ℕ) → Next rows x from a → Next rows x from b → a < b → ⊥
+lower : (rows : List ℕ) (x from a b : ℕ) → NextInRow rows x from a → NextInRow rows x from b → a < b → ⊥
 lower rows x from a b p q l = elim (p .there) [
   | inl u ↦ q .skips a (u .0) l (u .1)
   | inr e ↦ elim (q .there) [ inl u ↦ omega (arith, bit-bounds rows x b (u .1) .1) | inr e₂ ↦ omega arith ]
 ]
 
-pub next-one : (rows : List ℕ) (x from a b : ℕ) → Next rows x from a → Next rows x from b → a ≡ b
+pub next-one : (rows : List ℕ) (x from a b : ℕ) → NextInRow rows x from a → NextInRow rows x from b → a ≡ b
 next-one rows x from a b p q = elim (three a b) [
   | inl l ↦ absurd (lower rows x from a b p q l)
   | inr r ↦ elim r [ inl e ↦ e | inr l ↦ absurd (lower rows x from b a q p l) ]

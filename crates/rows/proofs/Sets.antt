@@ -22,7 +22,7 @@ use Rattle.rows.specs.Put.{putOf}
 use Rattle.rows.proofs.Rows.{row-full}
 use Rattle.rows.proofs.Pair.{put-in, put-long, mark-iff}
 use Rattle.rows.proofs.Whole.{empty-bit}
-use Rattle.rows.specs.Sets.{Holds, More}
+use Rattle.rows.specs.inner.Sets.{Holds, More}
 
 pub put-more : (set : List ℕ) (y : ℕ) → length set ≡ WORDS → y < RECORDS → More set y (putOf set 0 y)
 put-more set y l h = record {

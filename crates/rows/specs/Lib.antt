@@ -4,10 +4,9 @@ pub mod Rows
 pub mod Empty
 pub mod Put
 pub mod Copy
-pub mod Added
 pub mod Chained
 pub mod Within
 pub mod Next
 pub mod AddRow
 pub mod DropRow
-pub mod Sets
+pub mod inner

@@ -10,11 +10,11 @@ ghost use Rattle.trace.specs.Bounds.{RECORDS};
 ghost use Rattle.rows.specs.Bounds.{CELLS, WORDS};
 ghost use Rattle.rows.specs.Rows.{bit, place};
 ghost use Rattle.rows.specs.Within.{wordOf, Within, Meets};
-ghost use Rattle.rows.specs.Next.{Next};
+ghost use Rattle.rows.specs.Next.{NextInRow};
 ghost use Rattle.rows.specs.Empty.{emptyOf};
 ghost use Rattle.rows.specs.Put.{markOf, putOf, putIf};
 ghost use Rattle.rows.specs.Copy.{copyOf};
-ghost use Rattle.rows.specs.Added.{Added, Row, Through, Below};
+ghost use Rattle.rows.specs.inner.AddedPairs.{Added, Row, Through, RowsBelow};
 ghost use Rattle.rows.specs.Chained.{Chained};
 ghost use Rattle.rows.specs.AddRow.{addRowOf};
 ghost use Rattle.rows.specs.DropRow.{dropRowOf};
@@ -179,7 +179,7 @@ pub fn meets(a: &[u64], x: usize, b: &[u64], y: usize) -> bool
 
 // The lowest number from `from` on that is in a pair with x, a word at a time; RECORDS where there is none.
 pub fn next(rows: &[u64], x: usize, from: usize) -> usize
-    ensures { λ r. ⌜ Next (now (rows .entry)) x from r ⌝ }
+    ensures { λ r. ⌜ NextInRow (now (rows .entry)) x from r ⌝ }
 {
     let mut z = from;
     while z < trace::RECORDS {
@@ -224,7 +224,7 @@ fn join(rows: &mut [u64], x: usize, k: usize)
 
 // How many rows there are up to the last one that has a pair.
 fn height(rows: &[u64]) -> usize
-    ensures { λ r. ⌜ (r ≤ RECORDS) × Below (now (rows .entry)) r ⌝ }
+    ensures { λ r. ⌜ (r ≤ RECORDS) × RowsBelow (now (rows .entry)) r ⌝ }
 {
     let mut n: usize = trace::RECORDS;
     while 0 < n {
@@ -239,7 +239,7 @@ fn height(rows: &[u64]) -> usize
 
 // Adds every pair that leads through k, told that only the first n rows have pairs; through a number that is before none leads nothing.
 fn pass(rows: &mut [u64], k: usize, n: usize)
-    requires { ⌜ (k < RECORDS) × (n ≤ RECORDS) × (length (now rows) ≡ CELLS) × Below (now rows) n ⌝ }
+    requires { ⌜ (k < RECORDS) × (n ≤ RECORDS) × (length (now rows) ≡ CELLS) × RowsBelow (now rows) n ⌝ }
     ensures { λ r. ⌜ Added (now (rows .entry)) (Through (now (rows .entry)) k) (now (rows .exit)) ⌝ }
 {
     if within(rows, k, &[0u64; WORDS], 0) {

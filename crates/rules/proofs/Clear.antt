@@ -13,11 +13,11 @@ use native.Mathlib.Omega.{arith}
 use Rattle.laws.specs.Places.{pos, Before}
 use Rattle.laws.specs.Relation.{Rel, Table, _⊆_}
 use Rattle.laws.proofs.Tests.{test, eq?}
-use Rattle.trace.specs.Frame.{Frame, Good, Source, First}
-use Rattle.trace.specs.Order.{Visible, Sees, nobody, latest, Once, Valid}
+use Rattle.rules.specs.Frame.{Frame, Good, Source, First}
+use Rattle.rules.specs.Order.{Visible, Sees, nobody, latest, Once, Valid}
 use Rattle.rules.specs.Rules.{rule1, rule2, rule3, rule4, rule5, rule7, Step, Edge, nothing}
 use Rattle.rules.specs.Missing.{Sourced}
-use Rattle.rules.specs.Clear.{Clear, Settles, Total}
+use Rattle.rules.proofs.ClearOrders.{Clear, SettlesLoads, Total}
 use Rattle.rules.proofs.Rounds.{gives-mono}
 use Rattle.rules.proofs.Sound.{before-source, edge-sound}
 use Rattle.rules.proofs.Missing.{source-of}
@@ -57,13 +57,13 @@ module _ (f : Frame) (g : Good f) (K : Table) (H : Rel) where
   closed-base P h x y e = h x y (e .0, gives-mono f K nothing P (λ x y t. absurd (false≢true t)) (λ x y b. absurd b) (e .1))
 
   -- neither rules 6 and 7 nor transitivity are asked for
-  pub settled-valid : Sourced f → Edge f K nothing 0 ⊆ H → Settles f H → (xs : List ℕ) → Once f xs → H ⊆ Before xs → Valid f K xs
+  pub settled-valid : Sourced f → Edge f K nothing 0 ⊆ H → SettlesLoads f H → (xs : List ℕ) → Once f xs → H ⊆ Before xs → Valid f K xs
   settled-valid m base t xs o k = clear-valid f g K xs m o (λ x y e. k x y (base x y e)) clear
     where
       clear : Clear f xs
       clear S S′ L s w d b = elim (t S S′ L s w d) [ inl h ↦ k S′ S h | inr h ↦ let after : Before xs L S′ = k L S′ h in absurd (omega arith) ]
 
   -- by rule 7
-  pub total-settles : (P : Table) → Step f K P H ⊆ H → Total f H → Settles f H
+  pub total-settles : (P : Table) → Step f K P H ⊆ H → Total f H → SettlesLoads f H
   total-settles P h t S S′ L s w d =
       elim (t S′ S (g .writes S′ (w .writes)) (g .writes S (s .writer .writes)) d) [ inl b ↦ inl b | inr b ↦ inr (h L S′ (7, rule7 S s w d b)) ]

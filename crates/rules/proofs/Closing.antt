@@ -18,14 +18,14 @@ use Rattle.laws.specs.Tests.{any}
 use Rattle.laws.specs.Relation.{Table}
 use Rattle.laws.proofs.Tests.{and-iff, not-iff, any-iff}
 use Rattle.laws.proofs.Lowest.{test-one}
-use Rattle.trace.specs.Frame.{Frame, Good}
-use Rattle.trace.specs.Order.{Keeps, Valid}
-use Rattle.rules.specs.Rules.{Gives, Chains, Edge, Last, Held, Contradicted, Within}
-use Rattle.rules.specs.Tests.{chains?}
+use Rattle.rules.specs.Frame.{Frame, Good}
+use Rattle.rules.specs.Order.{Keeps, Valid}
+use Rattle.rules.specs.Rules.{Gives, Chains, Edge, Last, Held, Contradicted, InRecords}
+use Rattle.rules.specs.inner.ComputedRounds.{chains?}
 use Rattle.rules.specs.Closing.{Closing}
 use Rattle.rules.proofs.Rounds.{chains-later, last-held, edge-next}
 use Rattle.rules.proofs.Ends.{step-within, chains-within}
-use Rattle.rules.proofs.Tests.{chains-iff, last-round}
+use Rattle.rules.proofs.RuleTests.{chains-iff, last-round}
 use Rattle.rules.proofs.Sound.{held-sound}
 
 -- a chain leads from an operation to itself, by a round by which some round has added nothing
@@ -68,7 +68,7 @@ module _ (f : Frame) (K P : Table) where
   pub closing-sound : Good f → (bad : Bool) (t : Table) → Closing f K P bad t → (x y : ℕ) → So (t x y) → (xs : List ℕ) → Valid f K xs → Keeps P xs → Before xs x y
   closing-sound g bad t h x y u xs v p = held-sound f g K xs v P p x y (h .held x y .0 u .0)
 
-  module _ (g : Good f) (inK : Within f K) (inP : Within f P) where
+  module _ (g : Good f) (inK : InRecords f K) (inP : InRecords f P) where
     pub last-by : (k : ℕ) → ((x y : ℕ) → x < f .records → y < f .records → Edge f K P (suc k) x y → Edge f K P k x y) → Last f K P k
     unfolding Last
     last-by k h x y e = let b = step-within f g K P inK inP (Chains f K P (suc k)) x y e in h x y (b .0) (b .1) e

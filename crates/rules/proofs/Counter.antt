@@ -12,11 +12,11 @@ use Rattle.laws.specs.Places.{pos, count}
 use Rattle.laws.specs.Relation.{Table, _⊆_, Transitive}
 use Rattle.laws.proofs.Tests.{and-iff, so-eq}
 use Rattle.laws.proofs.Places.{pos-le, count-at}
-use Rattle.trace.specs.Frame.{Frame, Good}
-use Rattle.trace.specs.Order.{Once, Valid}
+use Rattle.rules.specs.Frame.{Frame, Good}
+use Rattle.rules.specs.Order.{Once, Valid}
 use Rattle.rules.specs.Rules.{Gives, rule1, rule2, rule3, rule4, rule5, rule6, rule7, rule8, Step, Held, Contradicted, nothing}
 use Rattle.rules.specs.Missing.{Sourced}
-use Rattle.rules.specs.Clear.{Total}
+use Rattle.rules.proofs.ClearOrders.{Total}
 use Rattle.rules.proofs.Rounds.{held-least}
 
 abbrev fences : Frame

@@ -7,8 +7,8 @@
 use mathlib.Core.Bool.{So}
 use Prim.Native.Nat.{ℕ, zero, suc, _<_}
 use Rattle.laws.specs.Relation.{Rel, Table, one, more}
-use Rattle.trace.specs.Frame.{Frame, Good, Writer}
-use Rattle.rules.specs.Rules.{Gives, rule1, rule2, rule3, rule4, rule5, rule6, rule7, rule8, Step, Chains, Held, Within, Joins}
+use Rattle.rules.specs.Frame.{Frame, Good, Writer}
+use Rattle.rules.specs.Rules.{Gives, rule1, rule2, rule3, rule4, rule5, rule6, rule7, rule8, Step, Chains, Held, InRecords, Joins}
 
 module _ (f : Frame) (g : Good f) (K P : Table) where
   -- A of where an edge begins, B of where it ends
@@ -41,7 +41,7 @@ module _ (f : Frame) (g : Good f) (K P : Table) where
     chains-ends (suc k) x y (one e) = step-ends (Chains f K P k) x y e
     chains-ends (suc k) x y (more {y = z} e c) = (step-ends (Chains f K P k) x z e .0, chains-ends (suc k) z y c .1)
 
-  module _ (inK : Within f K) (inP : Within f P) where
+  module _ (inK : InRecords f K) (inP : InRecords f P) where
     pub step-within : (C : Rel) (x y : ℕ) → Step f K P C x y → (x < f .records) × (y < f .records)
     step-within = step-ends (λ x. x < f .records) (λ x. x < f .records) (g .below) (g .below) inK inP
 
@@ -55,5 +55,5 @@ module _ (f : Frame) (g : Good f) (K P : Table) where
     pub held-joins : (x y : ℕ) → Held f K P x y → So (f .operation x) × So (f .operation y)
     held-joins x y h = chains-ends (λ x. So (f .operation x)) (λ x. So (f .operation x)) (λ x t. t) (λ x t. t) onK onP (h .0) x y (h .1)
 
-pub joins-within : (f : Frame) → Good f → (K : Table) → Joins f K → Within f K
+pub joins-within : (f : Frame) → Good f → (K : Table) → Joins f K → InRecords f K
 joins-within f g K j x y t = (g .below x (j x y t .0), g .below y (j x y t .1))

@@ -20,15 +20,15 @@ use mathlib.Core.Logic.{_≢_, _⊎_, inl, inr, _↔_}
 use mathlib.Core.Bool.{Bool, true, false, So, false≢true}
 use Prim.Native.Nat.{ℕ, _<_}
 use Rattle.laws.specs.Relation.{Rel, Table, _⊆_, Transitive, Chain}
-use Rattle.laws.specs.Sorted.{On}
-use Rattle.laws.specs.Joined.{Joined, Circled}
+use Rattle.laws.specs.inner.Sorted.{On}
+use Rattle.laws.specs.inner.Joined.{Joined, SelfLed}
 use Rattle.laws.proofs.Tests.{eq?}
 use Rattle.laws.proofs.Relation.{chain-join, chain-least}
 use Rattle.laws.proofs.Joined.{joined-keeps, joined-least, joined-join, joined-clear}
-use Rattle.trace.specs.Frame.{Frame, Good, Writer, Source}
+use Rattle.rules.specs.Frame.{Frame, Good, Writer, Source}
 use Rattle.rules.specs.Rules.{Gives, rule6, rule7, Step, Edge, Held, Contradicted}
 use Rattle.rules.specs.Closing.{Closing}
-use Rattle.rules.specs.Growing.{SettledAt, Complete, Growing, Grown, Reaches}
+use Rattle.rules.specs.inner.Growing.{SettledAt, Complete, Growing, GrownTo, GrownOrStopped}
 use Rattle.rules.proofs.Rounds.{more-pairs, step-mono, held-join, held-closed, held-least, edge-first}
 
 module _ (f : Frame) (K P : Table) where
@@ -70,11 +70,11 @@ module _ (f : Frame) (K P : Table) where
     pub complete-is : (x y : ℕ) → C x y ↔ Held f K P x y
     complete-is x y = (h x y, complete-held C t c x y)
 
-    pub complete-circle : Circled C ↔ Contradicted f K P
+    pub complete-circle : SelfLed C ↔ Contradicted f K P
     complete-circle = (λ u. (u .0, h (u .0) (u .0) (u .1)), λ u. (u .0, complete-held C t c (u .0) (u .0) (u .1)))
 
     -- a loop that does not stop at a circle
-    pub closing-complete : (bad : Bool) (table : Table) → So bad ↔ Circled C → ((x y : ℕ) → So (table x y) ↔ (C x y × (Circled C → ⊥))) → Closing f K P bad table
+    pub closing-complete : (bad : Bool) (table : Table) → So bad ↔ SelfLed C → ((x y : ℕ) → So (table x y) ↔ (C x y × (SelfLed C → ⊥))) → Closing f K P bad table
     closing-complete bad table b q = record {
       contradicted = (λ u. complete-circle .0 (b .0 u), λ u. b .1 (complete-circle .1 u));
       held = λ x y. (
@@ -116,10 +116,10 @@ module _ (f : Frame) (K P : Table) where
     growing-closes (inr c) = (a, held-join f K P a b a h (g .forced b a c))
 
   -- end
-  pub growing-circle : (C : Rel) → Growing f K P C → Circled C → Contradicted f K P
+  pub growing-circle : (C : Rel) → Growing f K P C → SelfLed C → Contradicted f K P
   growing-circle C g c = (c .0, g .forced (c .0) (c .0) (c .1))
 
-  pub growing-end : (C : Rel) → Growing f K P C → Complete f K P C → (Circled C → ⊥) → (table : Table) → ((x y : ℕ) → So (table x y) ↔ C x y) → Closing f K P false table
+  pub growing-end : (C : Rel) → Growing f K P C → Complete f K P C → (SelfLed C → ⊥) → (table : Table) → ((x y : ℕ) → So (table x y) ↔ C x y) → Closing f K P false table
   growing-end C g c n table q =
       closing-complete C (g .joins) (g .forced) c false table (λ u. absurd (false≢true u), λ u. absurd (n u)) (λ x y. (λ u. (q x y .0 u, n), λ u. q x y .1 (u .0)))
 
@@ -130,43 +130,43 @@ module _ (f : Frame) (K P : Table) where
   }
 
   -- loops that add
-  pub grown-none : (C R : Rel) → Growing f K P C → ((x y : ℕ) → R x y → ⊥) → Grown f K P C R C
+  pub grown-none : (C R : Rel) → Growing f K P C → ((x y : ℕ) → R x y → ⊥) → GrownTo f K P C R C
   grown-none C R g n = record { growing = g; keeps = λ x y c. c; has = λ x y r. absurd (n x y r) }
 
-  pub grown-old : (C R : Rel) → Growing f K P C → R ⊆ C → Grown f K P C R C
+  pub grown-old : (C R : Rel) → Growing f K P C → R ⊆ C → GrownTo f K P C R C
   grown-old C R g h = record { growing = g; keeps = λ x y c. c; has = h }
 
-  pub grown-one : (C D : Rel) (a b : ℕ) → Growing f K P C → Held f K P a b → ((x y : ℕ) → D x y ↔ Joined C a b x y) → Grown f K P C (λ x y. (x ≡ a) × (y ≡ b)) D
+  pub grown-one : (C D : Rel) (a b : ℕ) → Growing f K P C → Held f K P a b → ((x y : ℕ) → D x y ↔ Joined C a b x y) → GrownTo f K P C (λ x y. (x ≡ a) × (y ≡ b)) D
   grown-one C D a b g h q = record {
     growing = growing-same (Joined C a b) D (growing-one C g a b h) q;
     keeps = λ x y c. q x y .1 (joined-keeps C a b x y c);
     has = λ x y r. q x y .1 (inr (inl (r .0), inl (r .1)));
   }
 
-  pub grown-then : (C R D S E : Rel) → Grown f K P C R D → Grown f K P D S E → Grown f K P C (λ x y. R x y ⊎ S x y) E
+  pub grown-then : (C R D S E : Rel) → GrownTo f K P C R D → GrownTo f K P D S E → GrownTo f K P C (λ x y. R x y ⊎ S x y) E
   grown-then C R D S E p q = record {
     growing = q .growing;
     keeps = λ x y c. q .keeps x y (p .keeps x y c);
     has = λ x y u. elim u [ inl r ↦ q .keeps x y (p .has x y r) | inr s ↦ q .has x y s ];
   }
 
-  pub grown-less : (C R Q D : Rel) → Q ⊆ R → Grown f K P C R D → Grown f K P C Q D
+  pub grown-less : (C R Q D : Rel) → Q ⊆ R → GrownTo f K P C R D → GrownTo f K P C Q D
   grown-less C R Q D h p = record { growing = p .growing; keeps = p .keeps; has = λ x y u. p .has x y (h x y u) }
 
-  pub reaches-none : (C R : Rel) → Growing f K P C → R ⊆ C → Reaches f K P C R C true
+  pub reaches-none : (C R : Rel) → Growing f K P C → R ⊆ C → GrownOrStopped f K P C R C true
   reaches-none C R g h = record { grown = λ _. grown-old C R g h; clear = λ _ n. n; stopped = λ e. absurd (false≢true (sym e)) }
 
-  pub reaches-one : (C D : Rel) (a b : ℕ) → Growing f K P C → Held f K P a b → (a ≡ b → ⊥) → (C b a → ⊥) → ((x y : ℕ) → D x y ↔ Joined C a b x y) → Reaches f K P C (λ x y. (x ≡ a) × (y ≡ b)) D true
+  pub reaches-one : (C D : Rel) (a b : ℕ) → Growing f K P C → Held f K P a b → (a ≡ b → ⊥) → (C b a → ⊥) → ((x y : ℕ) → D x y ↔ Joined C a b x y) → GrownOrStopped f K P C (λ x y. (x ≡ a) × (y ≡ b)) D true
   reaches-one C D a b g h d n q = record {
     grown = λ _. grown-one C D a b g h q;
     clear = λ _ m c. joined-clear C a b (g .joins) m d n (c .0, q (c .0) (c .0) .0 (c .1));
     stopped = λ e. absurd (false≢true (sym e));
   }
 
-  pub reaches-stop : (C R D : Rel) → Contradicted f K P → Reaches f K P C R D false
+  pub reaches-stop : (C R D : Rel) → Contradicted f K P → GrownOrStopped f K P C R D false
   reaches-stop C R D u = record { grown = λ e. absurd (false≢true e); clear = λ e. absurd (false≢true e); stopped = λ _. u }
 
-  pub reaches-then : (C R D S E : Rel) (ok : Bool) → Reaches f K P C R D true → Reaches f K P D S E ok → Reaches f K P C (λ x y. R x y ⊎ S x y) E ok
+  pub reaches-then : (C R D S E : Rel) (ok : Bool) → GrownOrStopped f K P C R D true → GrownOrStopped f K P D S E ok → GrownOrStopped f K P C (λ x y. R x y ⊎ S x y) E ok
   reaches-then C R D S E ok p q = record {
     grown = λ u. grown-then C R D S E (p .grown refl) (q .grown u);
     clear = λ u n. q .clear u (p .clear refl n);

@@ -1,13 +1,12 @@
 -- Laws of the rules, for the crates above.
-pub mod SourceOf
 pub mod Orders
 pub mod Sound
 pub mod Rounds
 pub mod Ends
-pub mod Tests
+pub mod RuleTests
 pub mod Closing
 pub mod Circle
-pub mod Walk
+pub mod ExactWalks
 pub mod Shown
 pub mod ShownCircle
 pub mod Missing
@@ -15,3 +14,13 @@ pub mod Clear
 pub mod Sorted
 pub mod Counter
 pub mod Growing
+pub mod ClearOrders
+pub mod Weaker
+pub mod Ready
+pub mod Seen
+pub mod EarlyStop
+pub mod Says
+pub mod SearchScheme
+pub mod SearchRight
+pub mod ComputedVerdict
+pub mod VerdictComputed

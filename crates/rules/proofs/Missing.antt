@@ -10,10 +10,10 @@ use Prim.Native.Nat.{ℕ, _<_}
 use lib.Dec.{eqb}
 use Rattle.laws.specs.Tests.{any}
 use Rattle.laws.proofs.Tests.{test, and-iff, not-iff, any-iff, same-iff, so-eq}
-use Rattle.trace.specs.Frame.{Frame, Good, Source}
-use Rattle.rules.specs.Tests.{source?}
+use Rattle.rules.specs.Frame.{Frame, Good, Source}
+use Rattle.rules.specs.RuleTests.{source?}
 use Rattle.rules.specs.Missing.{Missing, Sourced, missing?}
-use Rattle.rules.proofs.Tests.{source-iff}
+use Rattle.rules.proofs.RuleTests.{source-iff}
 
 module _ (f : Frame) (g : Good f) where
   pub source-one : (S S′ L : ℕ) → Source f S L → Source f S′ L → S ≡ S′

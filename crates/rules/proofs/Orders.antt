@@ -13,8 +13,8 @@ use native.Mathlib.Omega.{arith}
 use lib.ListN.{length}
 use Rattle.laws.specs.Places.{pos, Before}
 use Rattle.laws.proofs.Places.{pos-lt, pos-inj}
-use Rattle.trace.specs.Frame.{Frame}
-use Rattle.trace.specs.Order.{Once}
+use Rattle.rules.specs.Frame.{Frame}
+use Rattle.rules.specs.Order.{Once}
 
 module _ (f : Frame) (xs : List ℕ) (o : Once f xs) where
   pub placed : (x : ℕ) → So (f .operation x) → pos xs x < length xs

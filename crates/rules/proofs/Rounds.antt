@@ -13,9 +13,9 @@ use Prim.Native.Nat.{ℕ, zero, suc, _+_, _-_, _≤_}
 use native.Mathlib.Nat.{zero-add, suc-add, sub-add-cancel}
 use native.Mathlib.Omega.{arith}
 use Rattle.laws.specs.Relation.{Rel, Table, _⊆_, Transitive, Chain, one}
-use Rattle.laws.specs.Sorted.{On}
+use Rattle.laws.specs.inner.Sorted.{On}
 use Rattle.laws.proofs.Relation.{chain-mono, chain-join, chain-least}
-use Rattle.trace.specs.Frame.{Frame}
+use Rattle.rules.specs.Frame.{Frame}
 use Rattle.rules.specs.Rules.{Gives, rule1, rule2, rule3, rule4, rule5, rule6, rule7, rule8, Step, Chains, Edge, Last, Held}
 
 pub gives-mono : (f : Frame) (K P Q : Table) {A B : Rel} → On P ⊆ On Q → A ⊆ B → {x y r : ℕ} → Gives f K P A x y r → Gives f K Q B x y r

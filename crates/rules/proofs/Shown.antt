@@ -20,8 +20,9 @@ use Rattle.laws.specs.Lowest.{Lowest, lowest}
 use Rattle.laws.proofs.Tests.{and-iff, so-any, three, eq?}
 use Rattle.laws.proofs.Lowest.{lowest-iff}
 use Rattle.rules.specs.Circle.{Run, Circle, _⊑_, Shown}
-use Rattle.rules.specs.Walk.{Walk, NoShorter, Way, Traced, walk?, follow, shown?}
-use Rattle.rules.proofs.Walk.{run-walk, walk-within, walk-iff, no-shorter-none}
+use Rattle.rules.specs.inner.ExactWalks.{Walk, NoShorter, Way, Traced}
+use Rattle.rules.specs.inner.ComputedWalks.{walk?, follow, shown?}
+use Rattle.rules.proofs.ExactWalks.{run-walk, walk-within, walk-iff, no-shorter-none}
 
 module _ (E : Rel) where
   pub way-run : (s x : ℕ) (xs : List ℕ) → Way E s x xs → Run E x xs s

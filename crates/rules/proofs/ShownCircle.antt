@@ -18,21 +18,23 @@ use lib.ListN.{length, getD}
 use lib.Seq.{ext-getD}
 use Rattle.laws.specs.Tests.{_⇒_, all, any}
 use Rattle.laws.specs.Relation.{Table}
-use Rattle.laws.specs.Warshall.{memo, chains}
+use Rattle.laws.specs.inner.Warshall.{memo, chains}
 use Rattle.laws.specs.Lowest.{Lowest, lowest}
 use Rattle.laws.proofs.Tests.{all-iff, any-iff, imp-iff, three, last?}
 use Rattle.laws.proofs.Relation.{chain-mono}
 use Rattle.laws.proofs.Warshall.{memo-iff, chains-iff as warshall}
 use Rattle.laws.proofs.Lowest.{lowest-one, lowest-iff}
-use Rattle.trace.specs.Frame.{Frame, Good}
-use Rattle.rules.specs.Rules.{Gives, Chains, Edge, Last, Contradicted, nothing, Within}
-use Rattle.rules.specs.Tests.{gives?, step?}
+use Rattle.rules.specs.Frame.{Frame, Good}
+use Rattle.rules.specs.Rules.{Gives, Chains, Edge, Last, Contradicted, nothing, InRecords}
+use Rattle.rules.specs.RuleTests.{gives?}
+use Rattle.rules.specs.inner.ComputedRounds.{step?}
 use Rattle.rules.specs.Circle.{Circle, Shown, after}
-use Rattle.rules.specs.Walk.{shown?}
-use Rattle.rules.specs.ShownCircle.{LowestRule, Ruled, ShownCircle, Circled, rule?, rulesOf, rounds, circled?}
+use Rattle.rules.specs.inner.ComputedWalks.{shown?}
+use Rattle.rules.specs.ShownCircle.{LowestRule, Ruled, ShownCircle, Circled, rule?}
+use Rattle.rules.specs.inner.ComputedCircle.{rulesOf, rounds, circled?}
 use Rattle.rules.proofs.Rounds.{edge-later}
 use Rattle.rules.proofs.Ends.{step-within, chains-within}
-use Rattle.rules.proofs.Tests.{gives-small, gives-iff, step-iff, last-round}
+use Rattle.rules.proofs.RuleTests.{gives-small, gives-iff, step-iff, last-round}
 use Rattle.rules.proofs.Circle.{shown-one, circle-chain, circle-none, circle-iff}
 use Rattle.rules.proofs.Closing.{last-by, last-clear}
 use Rattle.rules.proofs.Shown.{shown-computed}
@@ -95,8 +97,8 @@ module _ (f : Frame) (g : Good f) (K P C : Table) (k : ℕ) (q : (x y : ℕ) →
       at z (x ∷ xs) zero l = refl
       at z (x ∷ xs) (suc i) l = at z xs i (omega arith)
 
-module _ (f : Frame) (g : Good f) (K : Table) (w : Within f K) where
-  nothing-within : Within f nothing
+module _ (f : Frame) (g : Good f) (K : Table) (w : InRecords f K) where
+  nothing-within : InRecords f nothing
   nothing-within x y t = absurd (false≢true t)
 
   -- From round k on: no round before it has a circle or is the last

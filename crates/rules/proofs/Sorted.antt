@@ -11,23 +11,23 @@ use Prim.Native.Nat.{ℕ, _<_}
 use lib.Dec.{eqb}
 use Rattle.laws.specs.Tests.{any}
 use Rattle.laws.specs.Relation.{Table, _⊆_, Transitive}
-use Rattle.laws.specs.Sorted.{On, sorted}
+use Rattle.laws.specs.inner.Sorted.{On, sorted}
 use Rattle.laws.proofs.Tests.{test, and-iff, not-iff, any-iff, same-iff, so-eq}
 use Rattle.laws.proofs.Sorted.{sorted-once, sorted-keeps}
-use Rattle.trace.specs.Frame.{Frame, Good, Writer, Source}
-use Rattle.trace.specs.Order.{Keeps, Valid}
+use Rattle.rules.specs.Frame.{Frame, Good, Writer, Source}
+use Rattle.rules.specs.Order.{Keeps, Valid}
 use Rattle.rules.specs.Rules.{rule7, rule8, Step, Chains, Edge, Contradicted, nothing}
-use Rattle.rules.specs.Tests.{source?, writer?}
+use Rattle.rules.specs.RuleTests.{source?, writer?}
 use Rattle.rules.specs.Closing.{Closing}
 use Rattle.rules.specs.Missing.{Sourced}
-use Rattle.rules.specs.Clear.{Settles, Total, Strict}
+use Rattle.rules.proofs.ClearOrders.{SettlesLoads, Total, Strict}
 use Rattle.rules.proofs.Rounds.{step-mono, held-join, held-closed}
 use Rattle.rules.proofs.Ends.{chains-ends}
-use Rattle.rules.proofs.Tests.{source-iff, writer-iff}
+use Rattle.rules.proofs.RuleTests.{source-iff, writer-iff}
 use Rattle.rules.proofs.Clear.{settled-valid, total-settles, closed-base}
 
 module _ (f : Frame) (g : Good f) (K H : Table) (m : Sourced f) (o : Strict f H) where
-  pub settled-sorted : Edge f K nothing 0 ⊆ On H → Settles f (On H) → Valid f K (sorted (f .operation) H (f .records))
+  pub settled-sorted : Edge f K nothing 0 ⊆ On H → SettlesLoads f (On H) → Valid f K (sorted (f .operation) H (f .records))
   settled-sorted base t = settled-valid f g K (On H) m base t (sorted (f .operation) H (f .records)) (sorted-once (f .operation) H (f .records) (g .below))
       (λ x y h. sorted-keeps (f .operation) H (o .join) (o .never) (f .records) (g .below) x y (o .starts x y h) h)
 
@@ -55,7 +55,7 @@ module _ (f : Frame) (g : Good f) (K P : Table) (kept : (x y : ℕ) → So (K x 
     pub held-step : Step f K P (On t) ⊆ On t
     held-step x y s = h .held x y .1 (held-closed f K P x y (step-mono f K P (λ x y a. h .held x y .0 a .0) x y s), clear)
 
-    pub held-valid : Sourced f → Settles f (On t) → Valid f K (sorted (f .operation) t (f .records)) × Keeps P (sorted (f .operation) t (f .records))
+    pub held-valid : Sourced f → SettlesLoads f (On t) → Valid f K (sorted (f .operation) t (f .records)) × Keeps P (sorted (f .operation) t (f .records))
     held-valid m u = (
       settled-sorted f g K t m held-strict (closed-base f g K (On t) P held-step) u,
       λ x y k. sorted-keeps (f .operation) t (held-strict .join) (held-strict .never) (f .records) (g .below) x y (supposed x y k) (held-step x y (8, rule8 k)),
@@ -65,7 +65,7 @@ module _ (f : Frame) (g : Good f) (K P : Table) (kept : (x y : ℕ) → So (K x 
     held-total m u = held-valid m (total-settles f g K (On t) P held-step u)
 
     -- whoever splits cases has a pair to split on
-    pub settled? : Settles f (On t) ⊎ ((S : ℕ) × (S′ : ℕ) × So (f .writes S) × Writer f S′ S × (So (t S S′) → ⊥) × (So (t S′ S) → ⊥))
+    pub settled? : SettlesLoads f (On t) ⊎ ((S : ℕ) × (S′ : ℕ) × So (f .writes S) × Writer f S′ S × (So (t S S′) → ⊥) × (So (t S′ S) → ⊥))
     settled? = elim (test open?) [ inl u ↦ inr (split (is .0 u)) | inr u ↦ inl (λ S S′ L s w d. settle S S′ L s w d u) ]
       where
         open? : Bool

@@ -14,8 +14,8 @@ use Prim.Native.Nat.{ℕ, zero, suc, _≤_}
 use native.Mathlib.Omega.{arith}
 use Rattle.laws.specs.Places.{pos, Before}
 use Rattle.laws.specs.Relation.{Rel, Table, _⊆_, Chain, one, more}
-use Rattle.trace.specs.Frame.{Frame, Good, Writer, Source, First}
-use Rattle.trace.specs.Order.{Visible, Sees, nobody, latest, Keeps, Valid}
+use Rattle.rules.specs.Frame.{Frame, Good, Writer, Source, First}
+use Rattle.rules.specs.Order.{Visible, Sees, nobody, latest, Keeps, Valid}
 use Rattle.rules.specs.Rules.{Gives, rule1, rule2, rule3, rule4, rule5, rule6, rule7, rule8, Chains, Edge, Held, Contradicted}
 use Rattle.rules.proofs.Orders.{apart, either}
 

@@ -5,7 +5,7 @@ use mathlib.Core.Bool.{Bool, So}
 use mathlib.Core.Logic.{_↔_}
 use Prim.Native.Nat.{ℕ}
 use Rattle.laws.specs.Relation.{Table}
-use Rattle.trace.specs.Frame.{Frame}
+use Rattle.rules.specs.Frame.{Frame}
 use Rattle.rules.specs.Rules.{Held, Contradicted}
 
 pub record Closing (f : Frame) (K P : Table) (bad : Bool) (t : Table) : Type 0 where

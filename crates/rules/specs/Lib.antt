@@ -1,11 +1,13 @@
--- The rules that force an order, over any table of kept pairs: edges, rounds, circles, missing sources.
+-- What is right, over any frame and any table of kept pairs: Frame and Order have valid orders, Rules to Circle what is forced, Verdict what is said.
 pub mod Rules
-pub mod Tests
+pub mod RuleTests
 pub mod Closing
 pub mod Circle
-pub mod Walk
 pub mod ShownCircle
-pub mod SourceOf
 pub mod Missing
-pub mod Clear
-pub mod Growing
+pub mod inner
+pub mod Frame
+pub mod Order
+pub mod Verdict
+pub mod Ready
+pub mod Seen

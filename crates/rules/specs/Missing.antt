@@ -10,8 +10,8 @@ use Prim.Native.Nat.{ℕ}
 use lib.Dec.{eqb}
 use Rattle.laws.specs.Tests.{any}
 use Rattle.laws.specs.Lowest.{Lowest}
-use Rattle.trace.specs.Frame.{Frame, Source}
-use Rattle.rules.specs.Tests.{source?}
+use Rattle.rules.specs.Frame.{Frame, Source}
+use Rattle.rules.specs.RuleTests.{source?}
 
 pub record Missing (f : Frame) (L : ℕ) : Type 0 where
   pub reads : So (f .reads L)

@@ -8,13 +8,13 @@
 --   Held f K P x y       == the rules force x before y
 --   Contradicted f K P   == a chain leads from an operation to itself
 --   nothing              == no supposed pairs
---   Within f K           == the pairs of K join records of the trace
+--   InRecords f K        == the pairs of K join records of the trace
 --   Joins f K            == the pairs of K join operations
 use mathlib.Core.Bool.{false, So}
 use mathlib.Core.Logic.{_≢_}
 use Prim.Native.Nat.{ℕ, zero, suc, _<_}
 use Rattle.laws.specs.Relation.{Rel, Table, _⊆_, Chain}
-use Rattle.trace.specs.Frame.{Frame, Writer, Source, First}
+use Rattle.rules.specs.Frame.{Frame, Writer, Source, First}
 
 -- S and S′ of document 01 differ, and both differ from L: the latter is what Writer says
 pub data Gives (f : Frame) (K P : Table) (C : Rel) (x y : ℕ) : ℕ → Type 0 where
@@ -59,8 +59,8 @@ module _ (f : Frame) (K P : Table) where
 abbrev pub nothing : Table
 nothing x y = false
 
-abbrev pub Within : Frame → Table → Type 0
-Within f K = (x y : ℕ) → So (K x y) → (x < f .records) × (y < f .records)
+abbrev pub InRecords : Frame → Table → Type 0
+InRecords f K = (x y : ℕ) → So (K x y) → (x < f .records) × (y < f .records)
 
 abbrev pub Joins : Frame → Table → Type 0
 Joins f K = (x y : ℕ) → So (K x y) → So (f .operation x) × So (f .operation y)

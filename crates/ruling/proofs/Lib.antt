@@ -1,3 +1,3 @@
 -- Laws of the rule that gives an edge.
 pub mod Picked
-pub mod One
+pub mod Unique

@@ -10,8 +10,8 @@ use mathlib.Core.Option.{Option, none, some}
 use Prim.Native.Nat.{ℕ, suc}
 use Rattle.laws.specs.Lowest.{lowest}
 use Rattle.laws.specs.Relation.{Table}
-use Rattle.trace.specs.Frame.{Frame}
-use Rattle.rules.specs.Tests.{rules, gives?}
+use Rattle.rules.specs.Frame.{Frame}
+use Rattle.rules.specs.RuleTests.{rules, gives?}
 use Rattle.rules.specs.ShownCircle.{rule?}
 
 pub known-cond : (b p q : Bool) → ((b && p) || (not b && q)) ≡ cond b p q

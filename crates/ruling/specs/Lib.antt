@@ -1,2 +1,2 @@
 -- Which rule gives an edge of a trace.
-pub mod Third
+pub mod inner

@@ -20,26 +20,26 @@ use Rattle.laws.proofs.Dict.{answer-one}
 use Rattle.laws.proofs.Sums.{sum-bound}
 use Rattle.trace.specs.Bounds.{RECORDS}
 use Rattle.trace.specs.Meaning.{frameOf}
-use Rattle.trace.specs.Order.{Valid}
+use Rattle.rules.specs.Order.{Valid}
 use Rattle.trace.specs.declared.Trace.{Trace}
 use Rattle.trace.specs.WellFormed.{wellFormed}
 use Rattle.rows.specs.Bounds.{WORDS}
 use Rattle.rows.specs.Empty.{emptyOf}
 use Rattle.rows.specs.Rows.{bit}
-use Rattle.rules.specs.Tests.{writer?}
+use Rattle.rules.specs.RuleTests.{writer?}
 use Rattle.pairs.specs.Kept.{keptOf}
-use Rattle.edges.specs.Answers.{answered}
-use Rattle.orders.specs.Ready.{operations}
-use Rattle.orders.proofs.Accepted.{well-fits}
-use Rattle.search.specs.Bounds.{SLOTS}
-use Rattle.search.specs.Laid.{tables}
-use Rattle.search.specs.Laying.{Filled, leads, Counted, Sources}
-use Rattle.search.specs.Seeking.{follows, Sought}
-use Rattle.search.specs.Looked.{Looked}
+use Rattle.edges.specs.ForcedPairs.{answered}
+use Rattle.rules.specs.Ready.{operations}
+use Rattle.pairs.proofs.ValidOrders.{well-fits}
+use Rattle.search.specs.inner.Bounds.{SLOTS}
+use Rattle.search.specs.inner.SearchTables.{tables}
+use Rattle.search.specs.inner.TablesLaid.{Filled, heldWriters, Counted, Sources}
+use Rattle.search.specs.inner.SearchBelow.{followsAs, Sought}
+use Rattle.search.specs.inner.SearchAnswer.{Looked}
 use Rattle.search.specs.FirstOrder.{found?, orderOf, FirstOrder}
 use Rattle.search.specs.declared.Order.{Order}
 use Rattle.rows.proofs.Sets.{empty-holds}
-use Rattle.search.proofs.Memory.{dead-none}
+use Rattle.search.proofs.DeadSets.{dead-none}
 use Rattle.search.proofs.Guiding.{laid}
 
 -- every place of an empty list is 0
@@ -80,7 +80,7 @@ counted-fits t w ops m c = omega (arith, c .total, sum-bound (t .len) 1 (λ x. c
 -- the search in the first m places of a list: they are lent, and the others stand
 module _ (t : Trace) (w : So (wellFormed t)) (held ops list : List ℕ) (m : ℕ) (before writers leaders sources part dead : List ℕ) (r : Bool)
     (fits : m ≤ length list) (c : Counted (frameOf t) ops m) (b : Filled (t .len) (bit held) before) (ws : Filled (t .len) (writer? (frameOf t)) writers)
-    (ls : Filled (t .len) (leads (frameOf t) held) leaders) (ss : Sources (frameOf t) (t .len) sources)
+    (ls : Filled (t .len) (heldWriters (frameOf t) held) leaders) (ss : Sources (frameOf t) (t .len) sources)
     (k : ℕ) (e : k ≡ m) (s : Sought (tables (t .len) m ops before writers leaders sources) (take k list) 0 (emptyOf WORDS) (emptyOf (SLOTS * WORDS)) part dead r)
     (long : length part ≡ length (take k list)) where
   part-long : length part ≡ m
@@ -100,7 +100,7 @@ module _ (t : Trace) (w : So (wellFormed t)) (held ops list : List ℕ) (m : ℕ
         subst (Answer (Valid (frameOf t) K) []) (sym (same r)) a;
   }
     where
-      same : (r : Bool) → follows r 0 m (part ++ drop m list) ≡ follows r 0 m part
+      same : (r : Bool) → followsAs r 0 m (part ++ drop m list) ≡ followsAs r 0 m part
       same true = ap (λ (l : List ℕ). some (drop 0 l)) first-places
       same false = refl
 

@@ -11,8 +11,8 @@ use Prim.Native.Nat.{ℕ, _<_}
 use native.Mathlib.Omega.{arith}
 use Rattle.laws.specs.Relation.{Table}
 use Rattle.laws.proofs.Tests.{and-iff, same-iff}
-use Rattle.trace.specs.Frame.{Frame, Writer}
-use Rattle.trace.specs.Order.{Valid}
+use Rattle.rules.specs.Frame.{Frame, Writer}
+use Rattle.rules.specs.Order.{Valid}
 use Rattle.trace.specs.Meaning.{frameOf}
 use Rattle.trace.specs.WellFormed.{wellFormed}
 use Rattle.trace.specs.declared.Trace.{Trace}
@@ -22,21 +22,21 @@ use Rattle.rows.specs.Rows.{bit}
 use Rattle.rows.specs.Empty.{emptyOf}
 use Rattle.rows.proofs.Whole.{empty-bit}
 use Rattle.rules.specs.Rules.{Held, nothing}
-use Rattle.rules.specs.Tests.{writer?}
+use Rattle.rules.specs.RuleTests.{writer?}
 use Rattle.pairs.specs.Kept.{modelled, keptOf}
 use Rattle.edges.specs.Supposed.{supposedOf}
 use Rattle.rules.specs.Missing.{Sourced}
-use Rattle.edges.specs.Answers.{answered, Forces}
+use Rattle.edges.specs.ForcedPairs.{answered, Forces}
 use Rattle.edges.specs.declared.Forced.{Forced}
-use Rattle.rules.proofs.Tests.{writer-iff}
+use Rattle.rules.proofs.RuleTests.{writer-iff}
 use Rattle.pairs.proofs.KeptPairs.{kept-joins}
 use Rattle.edges.proofs.Supposed.{supposed-iff}
 use Rattle.rules.proofs.Rounds.{more-pairs}
 use Rattle.rules.proofs.Ends.{held-joins}
 use Rattle.rules.proofs.Sound.{contradicted-none}
-use Rattle.orders.proofs.Ready.{held-guide}
-use Rattle.search.specs.Laid.{tables, Led, Laid}
-use Rattle.search.specs.Laying.{Filled, leads, Counted, Sources, Guided}
+use Rattle.rules.proofs.Ready.{held-guide}
+use Rattle.search.specs.inner.SearchTables.{tables, Led, Laid}
+use Rattle.search.specs.inner.TablesLaid.{Filled, heldWriters, Counted, Sources, Guided}
 
 module _ (t : Trace) (m : ℕ) (s : So (answered m t)) (r : Forced) (forces : Forces t m (emptyOf CELLS) r) where
   well : So (wellFormed t)
@@ -86,7 +86,7 @@ module _ (t : Trace) (w : So (wellFormed t)) (K : Table) (held : List ℕ) (guid
   records-are = refl
 
   pub laid : (m : ℕ) (ops before writers leaders sources : List ℕ) → Counted (frameOf t) ops m → Filled (t .len) (bit held) before → Filled (t .len) (writer? (frameOf t)) writers
-      → Filled (t .len) (leads (frameOf t) held) leaders → Sources (frameOf t) (t .len) sources → Laid (frameOf t) K (tables (t .len) m ops before writers leaders sources)
+      → Filled (t .len) (heldWriters (frameOf t) held) leaders → Sources (frameOf t) (t .len) sources → Laid (frameOf t) K (tables (t .len) m ops before writers leaders sources)
   laid m ops before writers leaders sources c b ws ls ss = record {
     good = good t w;
     sourced = sourced;

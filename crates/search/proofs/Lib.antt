@@ -1,10 +1,10 @@
 -- Laws of the search, for the proofs of its functions.
-pub mod Chances
-pub mod Refuting
-pub mod Memory
-pub mod Seeking
-pub mod Laying
+pub mod Candidates
+pub mod Refutation
+pub mod DeadSets
+pub mod SearchBelow
+pub mod TablesLaid
 pub mod Rowing
 pub mod Guiding
 pub mod FirstOrder
-pub mod One
+pub mod Unique

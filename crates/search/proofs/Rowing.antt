@@ -24,17 +24,17 @@ use Rattle.rows.specs.Bounds.{WORDS, CELLS}
 use Rattle.rows.specs.Rows.{bit, Edges, Words}
 use Rattle.rows.specs.Empty.{emptyOf}
 use Rattle.rows.specs.Put.{putOf}
-use Rattle.rows.specs.Added.{Added}
+use Rattle.rows.specs.inner.AddedPairs.{Added}
 use Rattle.rows.specs.AddRow.{addRowOf}
 use Rattle.rows.specs.DropRow.{dropRowOf}
 use Rattle.rows.proofs.Closing.{row-added}
 use Rattle.rows.proofs.Dropping.{drop-long, row-dropped}
 use Rattle.rows.proofs.Sets.{put-more}
 use Rattle.rows.proofs.Whole.{empty-bit, empty-long}
-use Rattle.edges.specs.Adds.{Adds, Only}
-use Rattle.edges.proofs.Drawn.{writer-at}
-use Rattle.rules.specs.Tests.{writer?}
-use Rattle.search.specs.Laying.{Filled, leads, Addressed, Rowed, Filling}
+use Rattle.edges.specs.inner.PairSets.{Only}
+use Rattle.edges.proofs.DrawnEdges.{writer-at}
+use Rattle.rules.specs.RuleTests.{writer?}
+use Rattle.search.specs.inner.TablesLaid.{Filled, heldWriters, Addressed, Rowed, Filling}
 
 pub addressed-none : (t : Trace) (by : List ℕ) → by ≡ emptyOf CELLS → Addressed t 0 by
 addressed-none t by e = rw e (record {
@@ -42,7 +42,7 @@ addressed-none t by e = rw e (record {
   pairs = λ a x. (λ u. absurd (false≢true (sym (empty-bit CELLS a x) ∙ u)), λ h. absurd (omega (arith, h .0)));
 })
 
-module _ (t : Trace) (k : ℕ) (by next : List ℕ) (now : Addressed t k by) (b : Bool) (a : ℕ) (p : b ≡ writes (at t k)) (q : a ≡ address (at t k)) (adds : Adds by (Only b a k) next) where
+module _ (t : Trace) (k : ℕ) (by next : List ℕ) (now : Addressed t k by) (b : Bool) (a : ℕ) (p : b ≡ writes (at t k)) (q : a ≡ address (at t k)) (adds : Added by (Only b a k) next) where
   pub addressed-more : Addressed t (k + 1) next
   addressed-more = record { long = adds .long ∙ now .long; pairs = λ i x. (forth i x, back i x) }
     where
@@ -159,7 +159,7 @@ both-row n before writers below y x =
     )
 
 pub both-led : (n : ℕ) (t : Trace) (held before writers leaders : List ℕ) → Filled n (bit held) before → Filled n (writer? (frameOf t)) writers
-    → Filling n n (λ x y. bit writers y x && bit before y x) leaders → Filled n (leads (frameOf t) held) leaders
+    → Filling n n (λ x y. bit writers y x && bit before y x) leaders → Filled n (heldWriters (frameOf t) held) leaders
 both-led n t held before writers leaders b w l = record {
   pairs = λ x y.
       let i = and-iff (same-iff {a = bit writers y x}) (same-iff {a = bit before y x}) in

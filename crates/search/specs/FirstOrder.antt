@@ -12,10 +12,10 @@ use lib.ListN.{length, take, getD}
 use Rattle.laws.specs.Dict.{Least}
 use Rattle.trace.specs.Bounds.{RECORDS}
 use Rattle.trace.specs.Meaning.{frameOf}
-use Rattle.trace.specs.Order.{Valid}
+use Rattle.rules.specs.Order.{Valid}
 use Rattle.trace.specs.declared.Trace.{Trace}
 use Rattle.pairs.specs.Kept.{keptOf}
-use Rattle.edges.specs.Answers.{answered}
+use Rattle.edges.specs.ForcedPairs.{answered}
 use Rattle.search.specs.declared.Order.{Order}
 
 abbrev pub found? : Bool → List ℕ → Option (List ℕ)

@@ -24,7 +24,7 @@ use Rattle.trace.specs.Meaning.{frameOf}
 use Rattle.trace.specs.declared.Op.{Op}
 use Rattle.trace.specs.declared.Trace.{Trace}
 use Rattle.rows.specs.Rows.{bit}
-use Rattle.orders.specs.MissingOf.{missingOf}
+use Rattle.pairs.specs.MissingOf.{missingOf}
 use Rattle.session.specs.Bounds.{PAIRS}
 use Rattle.session.specs.Stack.{supposable, standing, stands}
 use Rattle.session.specs.Opening.{openingOf, isDone, openable}

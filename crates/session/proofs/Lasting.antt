@@ -19,7 +19,7 @@ use Rattle.session.specs.Closings.{Closings}
 use Rattle.session.specs.Session.{afresh, Intact, blank}
 use Rattle.session.specs.Entries.{openOf, afreshOf}
 use Rattle.session.specs.Numbers.{Act, replyOf}
-use Rattle.session.specs.Calls.{kept, recorded}
+use Rattle.session.specs.Calls.{pairsAfter, recorded}
 use Rattle.session.specs.declared.Stack.{Stack}
 use Rattle.session.specs.declared.Session.{Session}
 use Rattle.session.specs.declared.Reply.{Reply}
@@ -57,12 +57,12 @@ module _ (C : Closings) where
 
   module _ (s : Session) (i : Intact C s) (a : Act) where
     -- the session after the call, made afresh
-    act-again : replyOf C s a .session ≡ afresh C (recorded (s .trace) a) (s .model) (kept (s .trace) (standing (s .stack)) a)
+    act-again : replyOf C s a .session ≡ afresh C (recorded (s .trace) a) (s .model) (pairsAfter (s .trace) (standing (s .stack)) a)
     act-again = ap (λ x. replyOf C x a .session) (i .same) ∙ act-kept C (s .trace) (s .model) (i .opens) (standing (s .stack)) (i .allowed) a
 
     pub act-intact : Intact C (replyOf C s a .session)
     act-intact =
-        let ps = kept (s .trace) (standing (s .stack)) a in
+        let ps = pairsAfter (s .trace) (standing (s .stack)) a in
         subst (λ (x : Session). Intact C x) (sym act-again)
         (intact-iff C (afresh C (recorded (s .trace) a) (s .model) ps) .0
         (afresh-intact C (recorded (s .trace) a) (s .model) ps (recorded-opens (s .trace) (s .model) (i .opens) a) (kept-allowed (s .trace) (standing (s .stack)) (i .allowed) a)))

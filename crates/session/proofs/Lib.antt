@@ -10,4 +10,4 @@ pub mod Standing
 pub mod Lasting
 pub mod Promises
 pub mod Numbering
-pub mod One
+pub mod Unique

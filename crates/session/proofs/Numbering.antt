@@ -11,7 +11,7 @@ use native.Mathlib.Omega.{arith}
 use Rattle.laws.specs.Lowest.{Lowest}
 use Rattle.laws.proofs.Tests.{test, and-iff, same-iff, eq?}
 use Rattle.trace.specs.WellFormed.{wellFormed}
-use Rattle.trace.specs.Fault.{numberOf, Wrong, Lower, Earns, faultOf}
+use Rattle.trace.specs.Fault.{faultNumber, Wrong, Lower, Earns, faultOf}
 use Rattle.trace.specs.Meaning.{frameOf}
 use Rattle.trace.specs.declared.Op.{Op}
 use Rattle.trace.specs.declared.Fault.{Fault}
@@ -20,16 +20,16 @@ use Rattle.trace.specs.declared.Trace.{Trace}
 use Rattle.trace.proofs.Faults.{fault-exactly}
 use Rattle.rows.specs.Rows.{bit}
 use Rattle.pairs.specs.Kept.{modelled}
-use Rattle.orders.specs.MissingOf.{missingOf}
-use Rattle.orders.specs.declared.sources.Found.{Found}
-use Rattle.orders.specs.declared.sources.Found.the-variants.{At, Nothing}
+use Rattle.pairs.specs.MissingOf.{missingOf}
+use Rattle.pairs.specs.declared.sources.Found.{Found}
+use Rattle.pairs.specs.declared.sources.Found.the-variants.{At, Nothing}
 use Rattle.session.specs.Bounds.{PAIRS}
 use Rattle.session.specs.Stack.{standing, stands, Stands}
 use Rattle.session.specs.Opening.{openingOf, isDone, openable}
 use Rattle.session.specs.Closings.{Closings}
 use Rattle.session.specs.Session.{afresh, intact, Intact, blank}
 use Rattle.session.specs.Entries.{pairTurn, supposeTurn, takeBackTurn, toldOf, faultAnswer, addTurn, waitsOf, openOf, afreshOf, supposeOf, takeBackOf, askOf, addOf, waitingOf}
-use Rattle.session.specs.Numbers.{refusal, Act, supposes, takesBack, asks, adds, awaits, Call, opens, makes, does, Names, supposed, asked, Applies, nine, ten, twelve, unmade, thirteen, fourteen, fifteen, sixteen, faulty, answerOf}
+use Rattle.session.specs.Numbers.{refusalNumber, Act, supposes, takesBack, asks, adds, awaits, Call, opens, makes, does, Names, supposed, asked, Applies, nine, ten, twelve, unmade, thirteen, fourteen, fifteen, sixteen, faulty, answerOf}
 use Rattle.session.specs.declared.Reason.the-variants.{Unlike}
 use Rattle.session.specs.declared.Answer.{Answer}
 use Rattle.session.specs.declared.Answer.the-variants.{Held, NotHeld, Contradicted, Refused}
@@ -43,7 +43,7 @@ use Rattle.session.proofs.Answering.{afresh-done, afresh-unlike, pair-u
 
 -- an answer is right for a call
 abbrev Right : Closings → Call → Answer → Type 0
-Right C c a = Lowest (Applies C c) (refusal a)
+Right C c a = Lowest (Applies C c) (refusalNumber a)
 
 module _ (C : Closings) (t : Trace) (m : ℕ) where
   from-nine : (n : ℕ) → Applies C (opens t m) n → 9 ≤ n
@@ -187,7 +187,7 @@ module _ (C : Closings) (s : Session) where
         refused {a} e n r = subst (Right C (does s (supposes x y))) (sym (suppose-pair C s x y (ap isDone e ∙ n) ∙ e)) r
 
     -- what the table says is no refusal
-    told-none : (b c : Bool) → refusal (cond b Contradicted (cond c Held NotHeld)) ≡ none
+    told-none : (b c : Bool) → refusalNumber (cond b Contradicted (cond c Held NotHeld)) ≡ none
     told-none true c = refl
     told-none false true = refl
     told-none false false = refl
@@ -206,7 +206,7 @@ module _ (C : Closings) (s : Session) where
               (fourteen (subst (λ (z : ℕ). Names (asks x z) x x) e asked), from-fourteen i (both o) (asks x y) asks-only tt)
           | inr d ↦
               subst (Lowest (Applies C (does s (asks x y))))
-              (sym (ap (λ a. refusal (cond (isDone a) (toldOf s x y) a)) (pair-done C s x y i o d) ∙ told-none (s .contradicted) (bit (s .held) x y)))
+              (sym (ap (λ a. refusalNumber (cond (isDone a) (toldOf s x y) a)) (pair-done C s x y i o d) ∙ told-none (s .contradicted) (bit (s .held) x y)))
               (none-asks i o d)
         ]
       ]
@@ -235,9 +235,9 @@ module _ (C : Closings) (s : Session) where
 
   module _ (o : Op) (i : So (intact C s)) where
     -- no number below that of a fault, where no lower one's case holds
-    from-fault : (f : Fault) → Lower f (s .trace) o → (n : ℕ) → Applies C (does s (adds o)) n → numberOf f ≤ n
+    from-fault : (f : Fault) → Lower f (s .trace) o → (n : ℕ) → Applies C (does s (adds o)) n → faultNumber f ≤ n
     from-fault f l n (twelve h) = absurd (h (intact-iff C s .0 i))
-    from-fault f l n (faulty g _ w) = elim (decLt (numberOf g) (numberOf f)) [ yes h ↦ absurd (l g h w) | no h ↦ omega arith ]
+    from-fault f l n (faulty g _ w) = elim (decLt (faultNumber g) (faultNumber f)) [ yes h ↦ absurd (l g h w) | no h ↦ omega arith ]
 
     none-adds : ((f : Fault) → Wrong f (s .trace) o → ⊥) → (n : ℕ) → Applies C (does s (adds o)) n → ⊥
     none-adds e n (twelve h) = h (intact-iff C s .0 i)
@@ -271,7 +271,7 @@ module _ (C : Closings) (s : Session) where
       waited (At x) i = none-awaits i
       waited Nothing i = none-awaits i
 
-pub number-lowest : (C : Closings) (c : Call) → Lowest (Applies C c) (refusal (answerOf C c))
+pub number-lowest : (C : Closings) (c : Call) → Lowest (Applies C c) (refusalNumber (answerOf C c))
 unfolding openOf supposeOf takeBackOf addOf
 number-lowest C (opens t m) = opening-right C t m
 number-lowest C (makes t m k) = made-right C t m k

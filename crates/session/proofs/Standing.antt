@@ -30,13 +30,14 @@ use Rattle.trace.specs.declared.Op.{Op}
 use Rattle.trace.specs.declared.Trace.{Trace}
 use Rattle.pairs.specs.Kept.{SC}
 use Rattle.session.specs.Bounds.{PAIRS}
-use Rattle.session.specs.Stack.{unused, supposable, Allowed, stacked, standing, pushed, popped}
+use Rattle.session.specs.Stack.{unused, supposable, Allowed, stacked, standing}
+use Rattle.session.specs.inner.StackSteps.{pairPushed, pairPopped}
 use Rattle.session.specs.Opening.{openingOf, isDone, openable}
 use Rattle.session.specs.Closings.{Closings}
 use Rattle.session.specs.Session.{afresh, intact, blank}
 use Rattle.session.specs.Entries.{supposeTurn, takeBackTurn, faultAnswer, joins, addTurn, openOf, supposeOf, takeBackOf, askOf, addOf, waitingOf}
-use Rattle.session.specs.Numbers.{refusal, Act, supposes, takesBack, asks, adds, awaits, replyOf}
-use Rattle.session.specs.Calls.{after, kept, recorded, recordedAfter, standingAfter, supposeAll}
+use Rattle.session.specs.Numbers.{refusalNumber, Act, supposes, takesBack, asks, adds, awaits, replyOf}
+use Rattle.session.specs.Calls.{sessionAfter, pairsAfter, recorded, recordedAfter, standingAfter, supposeAll}
 use Rattle.session.specs.declared.Pair.{Pair}
 use Rattle.session.specs.declared.Answer.{Answer}
 use Rattle.session.specs.declared.Answer.the-variants.{Done, Held, NotHeld, Contradicted, Waits, Refused}
@@ -68,15 +69,15 @@ module _ (t : Trace) where
   more-allowed ps a p g h =
       let k = allowed-stands t ps a in
       subst (λ (qs : List Pair). Allowed t qs) (standing-pushed t (stacked ps) k p h ∙ ap (λ qs. qs ++ p ∷ []) (standing-stacked t ps))
-      (stands-allowed t (pushed (stacked ps) p) (pushed-stands t (stacked ps) k p h g))
+      (stands-allowed t (pairPushed (stacked ps) p) (pushed-stands t (stacked ps) k p h g))
 
   fewer-allowed : (ps : List Pair) → Allowed t ps → Allowed t (take (length ps - 1) ps)
   fewer-allowed ps a =
       let k = allowed-stands t ps a in
       subst (λ (qs : List Pair). Allowed t qs) (standing-popped t (stacked ps) k ∙ ap (λ qs. take (length qs - 1) qs) (standing-stacked t ps))
-      (stands-allowed t (popped (stacked ps)) (popped-stands t (stacked ps) k))
+      (stands-allowed t (pairPopped (stacked ps)) (popped-stands t (stacked ps) k))
 
-  pub kept-allowed : (ps : List Pair) → Allowed t ps → (a : Act) → Allowed (recorded t a) (kept t ps a)
+  pub kept-allowed : (ps : List Pair) → Allowed t ps → (a : Act) → Allowed (recorded t a) (pairsAfter t ps a)
   kept-allowed ps al (supposes x y) = go (takes ps p) refl
     where
       p : Pair
@@ -130,7 +131,7 @@ module _ (C : Closings) (t : Trace) where
       whole : So (intact C here)
       whole = afresh-intact C t m ps o al
 
-      suppose-kept : (x y : ℕ) → left (supposeOf C here x y) ≡ afresh C t m (kept t ps (supposes x y))
+      suppose-kept : (x y : ℕ) → left (supposeOf C here x y) ≡ afresh C t m (pairsAfter t ps (supposes x y))
       unfolding afresh
       suppose-kept x y = go (takes t ps p) refl
         where
@@ -173,7 +174,7 @@ module _ (C : Closings) (t : Trace) where
               ∙ ap (afresh C (trace.pushed t p) m) (afresh-standing C t m ps)
           go false e = sym (ap left (add-refused C here p (addTurn C here p) refl (turns ∙ e)))
 
-      pub act-kept : (a : Act) → left (replyOf C here a) ≡ afresh C (recorded t a) m (kept t ps a)
+      pub act-kept : (a : Act) → left (replyOf C here a) ≡ afresh C (recorded t a) m (pairsAfter t ps a)
       unfolding askOf waitingOf
       act-kept (supposes x y) = suppose-kept x y
       act-kept takesBack = back-kept
@@ -187,16 +188,16 @@ module _ (C : Closings) (t : Trace) where
 
 -- ---- any list of calls, over a trace that may grow
 pub after-afresh : (C : Closings) (m : ℕ) (cs : List Act) (t : Trace) → So (openable t m) → (ps : List Pair) → Allowed t ps
-    → after C (afresh C t m ps) cs ≡ afresh C (recordedAfter t cs) m (standingAfter t ps cs)
-unfolding after standingAfter recordedAfter
+    → sessionAfter C (afresh C t m ps) cs ≡ afresh C (recordedAfter t cs) m (standingAfter t ps cs)
+unfolding sessionAfter standingAfter recordedAfter
 after-afresh C m [] t o ps al = refl
 after-afresh C m (a ∷ cs) t o ps al =
-    ap (λ s. after C s cs) (act-kept C t m o ps al a) ∙ after-afresh C m cs (recorded t a) (recorded-opens t m o a) (kept t ps a) (kept-allowed t ps al a)
+    ap (λ s. sessionAfter C s cs) (act-kept C t m o ps al a) ∙ after-afresh C m cs (recorded t a) (recorded-opens t m o a) (pairsAfter t ps a) (kept-allowed t ps al a)
 
 pub standing-allowed : (cs : List Act) (t : Trace) (ps : List Pair) → Allowed t ps → Allowed (recordedAfter t cs) (standingAfter t ps cs)
 unfolding standingAfter recordedAfter
 standing-allowed [] t ps al = al
-standing-allowed (a ∷ cs) t ps al = standing-allowed cs (recorded t a) (kept t ps a) (kept-allowed t ps al a)
+standing-allowed (a ∷ cs) t ps al = standing-allowed cs (recorded t a) (pairsAfter t ps a) (kept-allowed t ps al a)
 
 pub after-opens : (m : ℕ) (cs : List Act) (t : Trace) → So (openable t m) → So (openable (recordedAfter t cs) m)
 unfolding recordedAfter
@@ -210,16 +211,16 @@ supposing-records [] t = refl
 supposing-records (q ∷ qs) t = supposing-records qs t
 
 module _ (C : Closings) (t : Trace) (m : ℕ) (o : So (openable t m)) (cs : List Act) where
-  pub after-opened : after C (left (openOf C t m)) cs ≡ afresh C (recordedAfter t cs) m (standingAfter t [] cs)
-  after-opened = ap (λ s. after C s cs) (opened C t m o) ∙ after-afresh C m cs t o [] (none-allowed t)
+  pub after-opened : sessionAfter C (left (openOf C t m)) cs ≡ afresh C (recordedAfter t cs) m (standingAfter t [] cs)
+  after-opened = ap (λ s. sessionAfter C s cs) (opened C t m o) ∙ after-afresh C m cs t o [] (none-allowed t)
 
-  pub after-intact : So (intact C (after C (left (openOf C t m)) cs))
+  pub after-intact : So (intact C (sessionAfter C (left (openOf C t m)) cs))
   after-intact =
       subst (λ (s : Session). So (intact C s)) (sym after-opened)
       (afresh-intact C (recordedAfter t cs) m (standingAfter t [] cs) (after-opens m cs t o) (standing-allowed cs t [] (none-allowed t)))
 
 pub after-again : (C : Closings) (t : Trace) (m : ℕ) → So (openable t m) → (cs : List Act)
-    → after C (left (openOf C t m)) cs ≡ after C (left (openOf C (recordedAfter t cs) m)) (supposeAll (standingAfter t [] cs))
+    → sessionAfter C (left (openOf C t m)) cs ≡ sessionAfter C (left (openOf C (recordedAfter t cs) m)) (supposeAll (standingAfter t [] cs))
 after-again C t m o cs =
     let u = recordedAfter t cs in
     let ps = standingAfter t [] cs in
@@ -230,7 +231,7 @@ after-again C t m o cs =
     ∙ ap (afresh C u m) (supposed-all u ps [] (standing-allowed cs t [] (none-allowed t))))
 
 -- an answer with a number is not done
-not-done : (a : Answer) (n : ℕ) → refusal a ≡ some n → isDone a ≡ false
+not-done : (a : Answer) (n : ℕ) → refusalNumber a ≡ some n → isDone a ≡ false
 not-done Done n e = let z : _≡_ {A = ℕ} 0 1 = cc in absurd (omega arith)
 not-done Held n e = refl
 not-done NotHeld n e = refl
@@ -243,8 +244,8 @@ module _ (C : Closings) where
   unfolding openable
   open-blank t m n = sym (ap left (open-refused C t m (openingOf t m) refl n (blank C) refl))
 
-  pub after-refused : (t : Trace) (m : ℕ) → openable t m ≡ false → (cs : List Act) → after C (left (openOf C t m)) cs ≡ afresh C (recordedAfter empty cs) SC (standingAfter empty [] cs)
-  after-refused t m n cs = ap (λ s. after C s cs) (open-blank t m n) ∙ after-afresh C SC cs empty empty-opens [] (none-allowed empty)
+  pub after-refused : (t : Trace) (m : ℕ) → openable t m ≡ false → (cs : List Act) → sessionAfter C (left (openOf C t m)) cs ≡ afresh C (recordedAfter empty cs) SC (standingAfter empty [] cs)
+  after-refused t m n cs = ap (λ s. sessionAfter C s cs) (open-blank t m n) ∙ after-afresh C SC cs empty empty-opens [] (none-allowed empty)
 
   pub act-stays : (s : Session) (a : Act) → isDone (replyOf C s a .answer) ≡ false → left (replyOf C s a) ≡ s
   unfolding supposeOf takeBackOf askOf addOf waitingOf
@@ -254,7 +255,7 @@ module _ (C : Closings) where
   act-stays s (adds p) e = sym (ap left (add-refused C s p (addTurn C s p) refl e))
   act-stays s awaits e = refl
 
-  pub act-given : (s : Session) (a : Act) (n : ℕ) → refusal (replyOf C s a .answer) ≡ some n → left (replyOf C s a) ≡ s
+  pub act-given : (s : Session) (a : Act) (n : ℕ) → refusalNumber (replyOf C s a .answer) ≡ some n → left (replyOf C s a) ≡ s
   act-given s a n e = act-stays s a (not-done (replyOf C s a .answer) n e)
 
   pub act-unlike : (s : Session) → intact C s ≡ false → (a : Act) → left (replyOf C s a) ≡ s

@@ -1,7 +1,7 @@
 -- What any list of calls comes to.
 --
---   after C s cs         == the session after the calls, turned back or not
---   kept t ps a          == the pairs that stand after a call, where ps stood before it
+--   sessionAfter C s cs  == the session after the calls, turned back or not
+--   pairsAfter t ps a    == the pairs that stand after a call, where ps stood before it
 --   recorded t a         == the trace after a call: none takes a record back
 --   recordedAfter t cs, standingAfter t ps cs == the same for any calls
 --   supposeAll ps        == the calls that suppose the pairs of a list in turn
@@ -20,16 +20,16 @@ use Rattle.session.specs.Numbers.{Act, supposes, takesBack, asks, adds, 
 use Rattle.session.specs.declared.Pair.{Pair}
 use Rattle.session.specs.declared.Session.{Session}
 
-unfoldable pub after : Closings → Session → List Act → Session
-after C s [] = s
-after C s (a ∷ cs) = after C (replyOf C s a .session) cs
+unfoldable pub sessionAfter : Closings → Session → List Act → Session
+sessionAfter C s [] = s
+sessionAfter C s (a ∷ cs) = sessionAfter C (replyOf C s a .session) cs
 
-abbrev pub kept : Trace → List Pair → Act → List Pair
-kept t ps (supposes x y) = cond (supposable t (record { first = x; second = y }) && ltb (length ps) PAIRS) (ps ++ record { first = x; second = y } ∷ []) ps
-kept t ps takesBack = take (length ps - 1) ps
-kept t ps (asks x y) = ps
-kept t ps (adds o) = ps
-kept t ps awaits = ps
+abbrev pub pairsAfter : Trace → List Pair → Act → List Pair
+pairsAfter t ps (supposes x y) = cond (supposable t (record { first = x; second = y }) && ltb (length ps) PAIRS) (ps ++ record { first = x; second = y } ∷ []) ps
+pairsAfter t ps takesBack = take (length ps - 1) ps
+pairsAfter t ps (asks x y) = ps
+pairsAfter t ps (adds o) = ps
+pairsAfter t ps awaits = ps
 
 abbrev pub recorded : Trace → Act → Trace
 recorded t (supposes x y) = t
@@ -44,7 +44,7 @@ recordedAfter t (a ∷ cs) = recordedAfter (recorded t a) cs
 
 unfoldable pub standingAfter : Trace → List Pair → List Act → List Pair
 standingAfter t ps [] = ps
-standingAfter t ps (a ∷ cs) = standingAfter (recorded t a) (kept t ps a) cs
+standingAfter t ps (a ∷ cs) = standingAfter (recorded t a) (pairsAfter t ps a) cs
 
 unfoldable pub supposeAll : List Pair → List Act
 supposeAll [] = []

@@ -12,7 +12,7 @@ use Rattle.trace.specs.declared.Trace.{Trace}
 use Rattle.rows.specs.Rows.{bit}
 use Rattle.pairs.specs.Kept.{keptOf}
 use Rattle.rules.specs.Closing.{Closing}
-use Rattle.edges.specs.Ended.{Full}
+use Rattle.edges.specs.LastRound.{Full}
 use Rattle.session.specs.Stack.{Allowed, among}
 use Rattle.session.specs.Opening.{openable}
 use Rattle.session.specs.declared.Pair.{Pair}

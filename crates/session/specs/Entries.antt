@@ -24,9 +24,9 @@ use Rattle.trace.specs.declared.Fault.{Fault}
 use Rattle.trace.specs.declared.Fault.the-variants as fault
 use Rattle.trace.specs.declared.Trace.{Trace}
 use Rattle.rows.specs.Rows.{bit}
-use Rattle.orders.specs.MissingOf.{missingOf}
-use Rattle.orders.specs.declared.sources.Found.{Found}
-use Rattle.orders.specs.declared.sources.Found.the-variants.{At, Nothing}
+use Rattle.pairs.specs.MissingOf.{missingOf}
+use Rattle.pairs.specs.declared.sources.Found.{Found}
+use Rattle.pairs.specs.declared.sources.Found.the-variants.{At, Nothing}
 use Rattle.session.specs.Bounds.{PAIRS}
 use Rattle.session.specs.Stack.{standing, stands}
 use Rattle.session.specs.Opening.{openingOf, isDone, openable}

@@ -1,8 +1,8 @@
 -- The numbers under which a call is turned back, and when each applies. The number given is the lowest that applies; 4, 6, 7 and 8 of a record to be
 -- added are ranked after 12, so they apply to sessions that are one.
 --
---   refusal a    == document 01's number of an answer, or nothing where nothing is turned back
---   numberOf a   == the same with 0 for nothing
+--   refusalNumber a == document 01's number of an answer, or nothing where nothing is turned back
+--   callNumber a == the same with 0 for nothing
 --   waits? a     == the record that an answer says to wait, if any
 --   Act          == a call on a session: suppose a pair, take the latest back, ask about a pair, add a record, look for one that waits
 --   Call         == an opening, a session asked for from its parts, or an act on any session value whatever
@@ -48,16 +48,16 @@ reasonNumber FirstValue = 6
 reasonNumber TooMany = 7
 reasonNumber Twice = 8
 
-abbrev pub refusal : Answer → Option ℕ
-refusal Done = none
-refusal Held = none
-refusal NotHeld = none
-refusal Contradicted = none
-refusal (Waits x) = none
-refusal (Refused r) = some (reasonNumber r)
+abbrev pub refusalNumber : Answer → Option ℕ
+refusalNumber Done = none
+refusalNumber Held = none
+refusalNumber NotHeld = none
+refusalNumber Contradicted = none
+refusalNumber (Waits x) = none
+refusalNumber (Refused r) = some (reasonNumber r)
 
-abbrev pub numberOf : Answer → ℕ
-numberOf a = elim (refusal a) [ some n ↦ n | none ↦ 0 ]
+abbrev pub callNumber : Answer → ℕ
+callNumber a = elim (refusalNumber a) [ some n ↦ n | none ↦ 0 ]
 
 abbrev pub waits? : Answer → Option ℕ
 waits? Done = none
@@ -92,7 +92,7 @@ pub data Applies (C : Closings) : Call → ℕ → Type 0 where
   fourteen : {s : Session} {a : Act} {x : ℕ} → Names a x x → Applies C (does s a) 14
   fifteen : {s : Session} {x y : ℕ} → PAIRS ≤ s .stack .count → Applies C (does s (supposes x y)) 15
   sixteen : {s : Session} → s .stack .count ≡ 0 → Applies C (does s takesBack) 16
-  faulty : {s : Session} {o : Op} (f : Fault) → Intact C s → fault.Wrong f (s .trace) o → Applies C (does s (adds o)) (fault.numberOf f)
+  faulty : {s : Session} {o : Op} (f : Fault) → Intact C s → fault.Wrong f (s .trace) o → Applies C (does s (adds o)) (fault.faultNumber f)
 
 abbrev pub replyOf : Closings → Session → Act → Reply
 replyOf C s (supposes x y) = supposeOf C s x y

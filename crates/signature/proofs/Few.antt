@@ -17,7 +17,7 @@ use Rattle.trace.specs.Bounds.{THREADS}
 use Rattle.trace.specs.Op.{thread, reads, written}
 use Rattle.trace.specs.Trace.{at}
 use Rattle.trace.specs.declared.Trace.{Trace}
-use Rattle.signature.specs.Words.{LIMIT, wordsFrom, wordsOf, packed}
+use Rattle.signature.specs.DigitWords.{LIMIT, wordsFrom, wordsOf, packed}
 use Rattle.signature.specs.Reads.{other, picks, each, values, rangeOf, reader, readers}
 use Rattle.signature.specs.Signature.{threadWords, wordsUpTo, wordsBy}
 use Rattle.signature.proofs.Lists.{each-long}

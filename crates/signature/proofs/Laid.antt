@@ -27,15 +27,15 @@ use Rattle.trace.specs.Bounds.{RECORDS, THREADS}
 use Rattle.trace.specs.Op.{reads, read}
 use Rattle.trace.specs.Trace.{at}
 use Rattle.trace.specs.declared.Trace.{Trace}
-use Rattle.signature.specs.Words.{LIMIT, onto, packFrom, packed}
+use Rattle.signature.specs.DigitWords.{LIMIT, onto, packFrom, packed}
 use Rattle.signature.specs.Reads.{picks, each, values, rangeOf, digitOf, reader, readers}
 use Rattle.signature.specs.Signature.{threadWords, wordsUpTo, wordsBy, signature, tops}
-use Rattle.signature.specs.Unpack.{sizeOf}
-use Rattle.signature.specs.Answers.{readIn}
-use Rattle.signature.specs.Laying.{choice, after, closedOf, joinedOf, steppedOf, ranFrom, threadOf, allFrom, begun, laid}
-use Rattle.signature.specs.Found.{Below}
+use Rattle.signature.specs.Unpack.{wordCount}
+use Rattle.signature.specs.SignatureAnswers.{readIn}
+use Rattle.signature.specs.inner.WordsLaid.{choice, stepOn, closedOf, joinedOf, steppedOf, ranFrom, threadOf, allFrom, noneLaid, laidWords}
+use Rattle.signature.specs.inner.LoadLists.{DigitsBelow}
 use Rattle.signature.specs.declared.Open.{Open}
-use Rattle.signature.proofs.Words.{Digits, none, one, pack-some}
+use Rattle.signature.proofs.DigitWords.{Digits, none, one, pack-some}
 use Rattle.signature.proofs.Lists.{pick-all, pick-in, each-long}
 use Rattle.signature.proofs.Signature.{Chosen, digits, reader-iff, up-like, top-chosen, thread-long}
 use Rattle.signature.proofs.Few.{pick-short, pick-none, of-few, range-small, words-few}
@@ -47,14 +47,14 @@ pub record Sound (o : Open) : Type 0 where
   pub low : o .word ≤ o .q
 
 abbrev pub goal : Open → List ℕ → List ℕ → List ℕ
-goal o rs ds = laid o ++ lift (o .word) (suc (o .q)) (packFrom (suc (o .q)) rs ds)
+goal o rs ds = laidWords o ++ lift (o .word) (suc (o .q)) (packFrom (suc (o .q)) rs ds)
 
-pub after-in : (i : ℕ) → i < RECORDS → after i ≡ suc i
-unfolding after
+pub after-in : (i : ℕ) → i < RECORDS → stepOn i ≡ suc i
+unfolding stepOn
 after-in i h = ap (λ (b : Bool). cond b (i + 1) i) (lt-ltb i RECORDS h) ∙ add-one i
 
-pub after-low : (i : ℕ) → i ≤ RECORDS → after i ≤ RECORDS
-unfolding after
+pub after-low : (i : ℕ) → i ≤ RECORDS → stepOn i ≤ RECORDS
+unfolding stepOn
 after-low i h = go (ltb i RECORDS) refl
   where
     go : (b : Bool) → ltb i RECORDS ≡ b → cond b (i + 1) i ≤ RECORDS
@@ -63,12 +63,12 @@ after-low i h = go (ltb i RECORDS) refl
 
 -- the open word laid down
 module _ (o : Open) (f : length (o .of) ≡ RECORDS) (h : o .count < RECORDS) where
-  pub down : take (after (o .count)) (set (o .of) (o .count) (o .word)) ≡ laid o ++ (o .word ∷ [])
-  unfolding laid
+  pub down : take (stepOn (o .count)) (set (o .of) (o .count) (o .word)) ≡ laidWords o ++ (o .word ∷ [])
+  unfolding laidWords
   down = ap (λ (n : ℕ). take n (set (o .of) (o .count) (o .word))) (after-in (o .count) h) ∙ take-suc-set (o .of) (o .count) (o .word) (omega (arith, f))
 
-  pub closed-laid : laid (closedOf o) ≡ laid o ++ (o .word ∷ [])
-  unfolding laid closedOf
+  pub closed-laid : laidWords (closedOf o) ≡ laidWords o ++ (o .word ∷ [])
+  unfolding laidWords closedOf
   closed-laid = down
 
 pub closed-sound : (o : Open) → Sound o → Sound (closedOf o)
@@ -80,11 +80,11 @@ wide q r h = omega (arith, product-less q r h)
 
 -- both ways of a digit more
 abbrev branch : Open → ℕ → ℕ → Bool → Open
-branch o r d b = cond b (record { of = o .of; count = o .count; q = suc (o .q) * r - 1; word = o .word + suc (o .q) * d }) (record { of = set (o .of) (o .count) (o .word); count = after (o .count); q = r - 1; word = d })
+branch o r d b = cond b (record { of = o .of; count = o .count; q = suc (o .q) * r - 1; word = o .word + suc (o .q) * d }) (record { of = set (o .of) (o .count) (o .word); count = stepOn (o .count); q = r - 1; word = d })
 
 module _ (o : Open) (r d : ℕ) (h : d < r) where
   pub joined-goal : length (o .of) ≡ RECORDS → o .count < RECORDS → (rs ds : List ℕ) → goal (joinedOf o r d) rs ds ≡ goal o (r ∷ rs) (d ∷ ds)
-  unfolding joinedOf packFrom laid
+  unfolding joinedOf packFrom laidWords
   joined-goal f c rs ds = go (leb (suc (o .q) * r) LIMIT)
     where
       go : (b : Bool) → goal (branch o r d b) rs ds
@@ -116,13 +116,13 @@ module _ (o : Open) (r d : ℕ) (h : d < r) where
 
 -- a place is left while a word is open
 goal-room : (o : Open) → Sound o → {rs ds : List ℕ} → Digits rs ds → length (goal o rs ds) ≤ RECORDS → o .count < RECORDS
-unfolding laid
+unfolding laidWords
 goal-room o s {rs} {ds} g l =
     let (w, vs, e) = pack-some g (suc (o .q)) in
     let m : length (lift (o .word) (suc (o .q)) (packFrom (suc (o .q)) rs ds)) ≡ suc (length vs) = ap (λ (us : List ℕ). length (lift (o .word) (suc (o .q)) us)) e in
     omega (arith, length-append (take (o .count) (o .of)) (lift (o .word) (suc (o .q)) (packFrom (suc (o .q)) rs ds)), m, length-take-le (o .count) (o .of) (omega (arith, s .full, s .fits)))
 
-module _ (t : Trace) (last : Bool) (ch : Below t last) where
+module _ (t : Trace) (last : Bool) (ch : DigitsBelow t last) where
   module _ (τ : ℕ) where
     abbrev rsFrom : ℕ → ℕ → List ℕ
     rsFrom i k = each (rangeOf t) (picks (reader t τ) i k)
@@ -179,109 +179,109 @@ module _ (t : Trace) (last : Bool) (ch : Below t last) where
     some-long g [] x h = h
     some-long g (y ∷ ys) x h = omega arith
 
-    pub thread-laid : t .len ≤ RECORDS → (o : Open) → Sound o → o .q ≡ 0 → o .word ≡ 0 → length (laid o ++ threadWords t (choice t last) τ) ≤ RECORDS
-        → (laid (threadOf t τ last o) ≡ laid o ++ threadWords t (choice t last) τ) × Sound (threadOf t τ last o) × (threadOf t τ last o .q ≡ 0) × (threadOf t τ last o .word ≡ 0)
+    pub thread-laid : t .len ≤ RECORDS → (o : Open) → Sound o → o .q ≡ 0 → o .word ≡ 0 → length (laidWords o ++ threadWords t (choice t last) τ) ≤ RECORDS
+        → (laidWords (threadOf t τ last o) ≡ laidWords o ++ threadWords t (choice t last) τ) × Sound (threadOf t τ last o) × (threadOf t τ last o .q ≡ 0) × (threadOf t τ last o .word ≡ 0)
     unfolding threadOf readers closedOf packFrom each
     thread-laid few o s q0 w0 l = go (any (t .len) (reader t τ)) refl
       where
         go : (b : Bool) → any (t .len) (reader t τ) ≡ b
-            → (laid (cond b (closedOf (ranFrom t τ last o 0 (t .len))) o) ≡ laid o ++ threadWords t (choice t last) τ) × Sound (cond b (closedOf (ranFrom t τ last o 0 (t .len))) o)
+            → (laidWords (cond b (closedOf (ranFrom t τ last o 0 (t .len))) o) ≡ laidWords o ++ threadWords t (choice t last) τ) × Sound (cond b (closedOf (ranFrom t τ last o 0 (t .len))) o)
             × (cond b (closedOf (ranFrom t τ last o 0 (t .len))) o .q ≡ 0) × (cond b (closedOf (ranFrom t τ last o 0 (t .len))) o .word ≡ 0)
         go true e =
             let g = some-digits 0 (t .len) (omega arith) in
             let (x, b, u) = so-any (t .len) (reader t τ) .0 e in
             let p : packFrom 1 (rsFrom 0 (t .len)) (dsFrom 0 (t .len)) ≡ packed (rsFrom 0 (t .len)) (dsFrom 0 (t .len))
             = open-packed g (some-long (rangeOf t) (picks (reader t τ) 0 (t .len)) x (pick-in (reader t τ) 0 (t .len) x (omega arith) (omega arith) u)) (λ r us z. omega (arith, first-range (picks (reader t τ) 0 (t .len)) r us z)) in
-            let start : goal o (rsFrom 0 (t .len)) (dsFrom 0 (t .len)) ≡ laid o ++ packed (rsFrom 0 (t .len)) (dsFrom 0 (t .len))
-            = ap₂ (λ (w q : ℕ). laid o ++ lift w (suc q) (packFrom (suc q) (rsFrom 0 (t .len)) (dsFrom 0 (t .len)))) w0 q0 ∙ ap (λ (ws : List ℕ). laid o ++ ws) (lift-one (packFrom 1 (rsFrom 0 (t .len)) (dsFrom 0 (t .len))) ∙ p) in
+            let start : goal o (rsFrom 0 (t .len)) (dsFrom 0 (t .len)) ≡ laidWords o ++ packed (rsFrom 0 (t .len)) (dsFrom 0 (t .len))
+            = ap₂ (λ (w q : ℕ). laidWords o ++ lift w (suc q) (packFrom (suc q) (rsFrom 0 (t .len)) (dsFrom 0 (t .len)))) w0 q0 ∙ ap (λ (ws : List ℕ). laidWords o ++ ws) (lift-one (packFrom 1 (rsFrom 0 (t .len)) (dsFrom 0 (t .len))) ∙ p) in
             let m = ran-goal (t .len) 0 o s (omega arith) (omega (arith, l, ap length start)) in
             let R = ranFrom t τ last o 0 (t .len) in
-            let end : goal R [] [] ≡ laid R ++ (R .word ∷ []) = finish R in
+            let end : goal R [] [] ≡ laidWords R ++ (R .word ∷ []) = finish R in
             let c : R .count < RECORDS = goal-room R (m .1) none (omega (arith, l, ap length (m .0 ∙ start))) in
             (closed-laid R (m .1 .full) c ∙ sym end ∙ m .0 ∙ start, closed-sound R (m .1), refl, refl)
           where
-            finish : (R : Open) → goal R [] [] ≡ laid R ++ (R .word ∷ [])
-            finish R = ap (λ (ws : List ℕ). laid R ++ ws) (lift-end (R .word) (suc (R .q)))
+            finish : (R : Open) → goal R [] [] ≡ laidWords R ++ (R .word ∷ [])
+            finish R = ap (λ (ws : List ℕ). laidWords R ++ ws) (lift-end (R .word) (suc (R .q)))
         go false e =
             let n : picks (reader t τ) 0 (t .len) ≡ [] = pick-none (reader t τ) 0 (t .len) (λ j b. off (λ u. false≢true (sym e ∙ any-stops (reader t τ) (t .len) j (omega arith) u))) in
             (nil (picks (reader t τ) 0 (t .len)) n, s, q0, w0)
           where
-            nil : (xs : List ℕ) → xs ≡ [] → laid o ≡ laid o ++ packed (each (rangeOf t) xs) (each (choice t last) xs)
-            nil xs z = sym (ap (λ (xs : List ℕ). laid o ++ packed (each (rangeOf t) xs) (each (choice t last) xs)) z ∙ append-nil (laid o))
+            nil : (xs : List ℕ) → xs ≡ [] → laidWords o ≡ laidWords o ++ packed (each (rangeOf t) xs) (each (choice t last) xs)
+            nil xs z = sym (ap (λ (xs : List ℕ). laidWords o ++ packed (each (rangeOf t) xs) (each (choice t last) xs)) z ∙ append-nil (laidWords o))
 
-  pub all-laid : t .len ≤ RECORDS → (k τ : ℕ) (o : Open) → Sound o → o .q ≡ 0 → o .word ≡ 0 → length (laid o ++ wordsUpTo t (choice t last) τ k) ≤ RECORDS
-      → (laid (allFrom t last o τ k) ≡ laid o ++ wordsUpTo t (choice t last) τ k) × Sound (allFrom t last o τ k)
+  pub all-laid : t .len ≤ RECORDS → (k τ : ℕ) (o : Open) → Sound o → o .q ≡ 0 → o .word ≡ 0 → length (laidWords o ++ wordsUpTo t (choice t last) τ k) ≤ RECORDS
+      → (laidWords (allFrom t last o τ k) ≡ laidWords o ++ wordsUpTo t (choice t last) τ k) × Sound (allFrom t last o τ k)
   unfolding allFrom wordsUpTo
-  all-laid few zero τ o s q0 w0 l = (sym (append-nil (laid o)), s)
+  all-laid few zero τ o s q0 w0 l = (sym (append-nil (laidWords o)), s)
   all-laid few (suc k) τ o s q0 w0 l =
       let here = threadWords t (choice t last) τ in
       let later = wordsUpTo t (choice t last) (suc τ) k in
-      let m = thread-laid τ few o s q0 w0 (omega (arith, l, length-append (laid o) (here ++ later), length-append here later, length-append (laid o) here)) in
-      let join : laid (threadOf t τ last o) ++ later ≡ laid o ++ (here ++ later) = ap (λ (ws : List ℕ). ws ++ later) (m .0) ∙ append-assoc (laid o) here later in
+      let m = thread-laid τ few o s q0 w0 (omega (arith, l, length-append (laidWords o) (here ++ later), length-append here later, length-append (laidWords o) here)) in
+      let join : laidWords (threadOf t τ last o) ++ later ≡ laidWords o ++ (here ++ later) = ap (λ (ws : List ℕ). ws ++ later) (m .0) ∙ append-assoc (laidWords o) here later in
       let r = all-laid few k (suc τ) (threadOf t τ last o) (m .1) (m .2) (m .3) (omega (arith, l, ap length join)) in
       (r .0 ∙ join, r .1)
 
-  begun-sound : Sound begun
+  begun-sound : Sound noneLaid
   begun-sound = record { full = length-replicate {A = ℕ} RECORDS 0; fits = omega arith; low = omega arith }
 
-  nothing : laid begun ++ wordsBy t (choice t last) ≡ wordsBy t (choice t last)
-  unfolding laid
+  nothing : laidWords noneLaid ++ wordsBy t (choice t last) ≡ wordsBy t (choice t last)
+  unfolding laidWords
   nothing = refl
 
-  pub words-laid : t .len ≤ RECORDS → (laid (allFrom t last begun 0 THREADS) ≡ wordsBy t (choice t last)) × Sound (allFrom t last begun 0 THREADS)
+  pub words-laid : t .len ≤ RECORDS → (laidWords (allFrom t last noneLaid 0 THREADS) ≡ wordsBy t (choice t last)) × Sound (allFrom t last noneLaid 0 THREADS)
   words-laid few =
-      let r = all-laid few THREADS 0 begun begun-sound refl refl (subst (λ (us : List ℕ). length us ≤ RECORDS) (sym nothing) (omega (arith, words-few t (choice t last) ch))) in
+      let r = all-laid few THREADS 0 noneLaid begun-sound refl refl (subst (λ (us : List ℕ). length us ≤ RECORDS) (sym nothing) (omega (arith, words-few t (choice t last) ch))) in
       (r .0 ∙ nothing, r .1)
 
 -- nothing stands before the first word
-none-laid : (ws : List ℕ) → laid begun ++ ws ≡ ws
-unfolding laid
+none-laid : (ws : List ℕ) → laidWords noneLaid ++ ws ≡ ws
+unfolding laidWords
 none-laid ws = refl
 
-pub top-below : (t : Trace) → Below t true
+pub top-below : (t : Trace) → DigitsBelow t true
 unfolding choice
 top-below t L b s = top-chosen t L b s
 
 module _ (t : Trace) (few : t .len ≤ RECORDS) where
-  pub tops-laid : laid (allFrom t true begun 0 THREADS) ≡ tops t
+  pub tops-laid : laidWords (allFrom t true noneLaid 0 THREADS) ≡ tops t
   unfolding choice
   tops-laid = words-laid t true (top-below t) few .0 ∙ up-like t (choice t true) (λ L. rangeOf t L - 1) (λ L b s. refl) THREADS 0
 
-  laid-long : (o : Open) → Sound o → length (laid o) ≡ o .count
-  unfolding laid
+  laid-long : (o : Open) → Sound o → length (laidWords o) ≡ o .count
+  unfolding laidWords
   laid-long o s = length-take-le (o .count) (o .of) (omega (arith, s .full, s .fits))
 
-  pub tops-count : allFrom t true begun 0 THREADS .count ≡ length (tops t)
-  tops-count = sym (laid-long (allFrom t true begun 0 THREADS) (words-laid t true (top-below t) few .1)) ∙ ap length tops-laid
+  pub tops-count : allFrom t true noneLaid 0 THREADS .count ≡ length (tops t)
+  tops-count = sym (laid-long (allFrom t true noneLaid 0 THREADS) (words-laid t true (top-below t) few .1)) ∙ ap length tops-laid
 
-  pub tops-fit : allFrom t true begun 0 THREADS .count ≤ RECORDS
+  pub tops-fit : allFrom t true noneLaid 0 THREADS .count ≤ RECORDS
   tops-fit = words-laid t true (top-below t) few .1 .fits
 
-  pub thread-count : (τ : ℕ) → threadOf t τ true begun .count ≡ sizeOf t τ
+  pub thread-count : (τ : ℕ) → threadOf t τ true noneLaid .count ≡ wordCount t τ
   unfolding readers
   thread-count τ =
       let own = threadWords t (choice t true) τ in
-      let long : length own ≡ sizeOf t τ = thread-long t τ (choice t true) (top-below t) in
+      let long : length own ≡ wordCount t τ = thread-long t τ (choice t true) (top-below t) in
       let fits : length own ≤ RECORDS = omega (arith, long, of-few (each (rangeOf t) (readers t τ)), each-long (rangeOf t) (readers t τ), pick-short (reader t τ) 0 (t .len)) in
-      let m = thread-laid t true (top-below t) τ few begun (begun-sound t true (top-below t)) refl refl (alone own fits) in
-      sym (laid-long (threadOf t τ true begun) (m .1)) ∙ ap length (m .0 ∙ bare own) ∙ long
+      let m = thread-laid t true (top-below t) τ few noneLaid (begun-sound t true (top-below t)) refl refl (alone own fits) in
+      sym (laid-long (threadOf t τ true noneLaid) (m .1)) ∙ ap length (m .0 ∙ bare own) ∙ long
     where
-      bare : (ws : List ℕ) → laid begun ++ ws ≡ ws
+      bare : (ws : List ℕ) → laidWords noneLaid ++ ws ≡ ws
       bare ws = none-laid ws
 
-      alone : (ws : List ℕ) → length ws ≤ RECORDS → length (laid begun ++ ws) ≤ RECORDS
+      alone : (ws : List ℕ) → length ws ≤ RECORDS → length (laidWords noneLaid ++ ws) ≤ RECORDS
       alone ws h = omega (arith, ap length (none-laid ws))
 
-  module _ (b : Below t false) where
-    pub signature-laid : laid (allFrom t false begun 0 THREADS) ≡ signature t (readIn t)
+  module _ (b : DigitsBelow t false) where
+    pub signature-laid : laidWords (allFrom t false noneLaid 0 THREADS) ≡ signature t (readIn t)
     unfolding choice
     signature-laid = words-laid t false b few .0 ∙ up-like t (choice t false) (λ L. digitOf t L (readIn t L)) (λ L c s. refl) THREADS 0
 
-    pub signature-fit : allFrom t false begun 0 THREADS .count ≤ RECORDS
+    pub signature-fit : allFrom t false noneLaid 0 THREADS .count ≤ RECORDS
     signature-fit = words-laid t false b few .1 .fits
 
-    pub signature-count : allFrom t false begun 0 THREADS .count ≡ length (signature t (readIn t))
-    signature-count = sym (laid-long (allFrom t false begun 0 THREADS) (words-laid t false b few .1)) ∙ ap length signature-laid
+    pub signature-count : allFrom t false noneLaid 0 THREADS .count ≡ length (signature t (readIn t))
+    signature-count = sym (laid-long (allFrom t false noneLaid 0 THREADS) (words-laid t false b few .1)) ∙ ap length signature-laid
 
 -- ---- what each function of the code comes to, by the tests that lead there
 module _ (t : Trace) (last : Bool) (L : ℕ) where
@@ -297,15 +297,15 @@ pub range-some : (t : Trace) (L : ℕ) → 0 < rangeOf t L
 unfolding values
 range-some t L = omega arith
 
-pub after-yes : (i : ℕ) → i < RECORDS → i + 1 ≡ after i
+pub after-yes : (i : ℕ) → i < RECORDS → i + 1 ≡ stepOn i
 after-yes i h = sym (after-in i h ∙ sym (add-one i))
 
-pub after-no : (i : ℕ) → RECORDS ≤ i → i ≡ after i
-unfolding after
+pub after-no : (i : ℕ) → RECORDS ≤ i → i ≡ stepOn i
+unfolding stepOn
 after-no i h = ap (λ (b : Bool). cond b (i + 1) i) (sym (le-ltb i RECORDS h))
 
 module _ (o : Open) where
-  pub closed-told : (l : List ℕ) (n : ℕ) → l ≡ set (o .of) (o .count) (o .word) → n ≡ after (o .count) → record { of = l; count = n; q = 0; word = 0 } ≡ closedOf o
+  pub closed-told : (l : List ℕ) (n : ℕ) → l ≡ set (o .of) (o .count) (o .word) → n ≡ stepOn (o .count) → record { of = l; count = n; q = 0; word = 0 } ≡ closedOf o
   unfolding closedOf
   closed-told l n e f = ap₂ (λ (l : List ℕ) (n : ℕ). record { of = l; count = n; q = 0; word = 0 }) e f
 
@@ -315,13 +315,13 @@ module _ (o : Open) where
     joined-in b p w e f =
         let g : p ≡ suc (o .q) * r - 1 = omega (arith, e) in
         ap₂ (λ (p w : ℕ). record { of = o .of; count = o .count; q = p; word = w }) g f
-        ∙ ap (λ (b : Bool). cond b (record { of = o .of; count = o .count; q = suc (o .q) * r - 1; word = o .word + suc (o .q) * d }) (record { of = set (o .of) (o .count) (o .word); count = after (o .count); q = r - 1; word = d })) (sym b)
+        ∙ ap (λ (b : Bool). cond b (record { of = o .of; count = o .count; q = suc (o .q) * r - 1; word = o .word + suc (o .q) * d }) (record { of = set (o .of) (o .count) (o .word); count = stepOn (o .count); q = r - 1; word = d })) (sym b)
 
     pub joined-out : leb (suc (o .q) * r) LIMIT ≡ false → (n : Open) → n ≡ closedOf o → record { of = n .of; count = n .count; q = r - 1; word = d } ≡ joinedOf o r d
     unfolding joinedOf closedOf
     joined-out b n e =
         ap (λ (n : Open). record { of = n .of; count = n .count; q = r - 1; word = d }) e
-        ∙ ap (λ (b : Bool). cond b (record { of = o .of; count = o .count; q = suc (o .q) * r - 1; word = o .word + suc (o .q) * d }) (record { of = set (o .of) (o .count) (o .word); count = after (o .count); q = r - 1; word = d })) (sym b)
+        ∙ ap (λ (b : Bool). cond b (record { of = o .of; count = o .count; q = suc (o .q) * r - 1; word = o .word + suc (o .q) * d }) (record { of = set (o .of) (o .count) (o .word); count = stepOn (o .count); q = r - 1; word = d })) (sym b)
 
   module _ (t : Trace) (τ : ℕ) (last : Bool) where
     pub stepped-yes : (i : ℕ) → So (reader t τ i) → joinedOf o (rangeOf t i) (choice t last i) ≡ steppedOf t τ last o i

@@ -1,5 +1,5 @@
 -- Laws of signatures.
-pub mod Words
+pub mod DigitWords
 pub mod Lists
 pub mod Signature
 pub mod Unpack
@@ -9,7 +9,7 @@ pub mod Passing
 pub mod Few
 pub mod Laid
 pub mod Putting
-pub mod Answers
+pub mod SignatureAnswers
 pub mod Taken
-pub mod Cases
-pub mod One
+pub mod SignatureCases
+pub mod Unique

@@ -21,7 +21,7 @@ use Rattle.laws.specs.Places.{pos, count}
 use Rattle.laws.proofs.Tests.{eq?}
 use Rattle.laws.proofs.Places.{pos-here, pos-later, count-here, count-later, count-le}
 use Rattle.signature.specs.Reads.{picks, each}
-use Rattle.signature.proofs.Words.{Digits, none, one}
+use Rattle.signature.proofs.DigitWords.{Digits, none, one}
 
 module _ (q : ℕ → Bool) (g : ℕ → ℕ) where
   pub each-none : (v i k : ℕ) → ((j : ℕ) → i ≤ j → j < i + k → So (q j) → g j ≢ v) → count v (each g (picks q i k)) ≡ 0

@@ -14,7 +14,7 @@ use native.Mathlib.Nat.{le-div-iff-mul-le, mul-suc, mul-add, mul-comm, mul-assoc
 use native.Mathlib.Omega.{arith}
 use lib.Dec.{leb}
 use Rattle.laws.proofs.Tests.{so-le, test-one}
-use Rattle.signature.specs.Words.{LIMIT, onto}
+use Rattle.signature.specs.DigitWords.{LIMIT, onto}
 
 -- LIMIT - r is MAX - (r - 1) in 64 bits
 pub room-test : (q r : ℕ) → 0 < r → r ≤ LIMIT → (q ≤ (LIMIT - r) / r) ↔ (suc q * r ≤ LIMIT)

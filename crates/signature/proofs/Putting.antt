@@ -15,8 +15,8 @@ use Rattle.trace.specs.Op.{reads}
 use Rattle.trace.specs.Trace.{at}
 use Rattle.trace.specs.declared.Trace.{Trace}
 use Rattle.signature.specs.Reads.{each, valueOf, loads}
-use Rattle.signature.specs.Found.{placeAfter, readPut}
-use Rattle.signature.specs.Laying.{laid}
+use Rattle.signature.specs.inner.LoadLists.{placeAfter, readPut}
+use Rattle.signature.specs.inner.WordsLaid.{laidWords}
 use Rattle.signature.specs.declared.Open.{Open}
 use Rattle.signature.proofs.Passing.{loadsFrom, loads-whole, loads-one, loads-none, loads-end}
 
@@ -30,8 +30,8 @@ put-one ws us i h k e =
     ∙ ap (λ (l : List ℕ). l ++ (getD us i 0 ∷ [])) e
     ∙ sym (ap (λ (n : ℕ). take n us) (add-one i) ∙ take-suc us i 0 k)
 
-pub put-end : (ws : List ℕ) (o : Open) (i : ℕ) → length ws ≤ i → i ≡ o .count → take i ws ≡ take i (o .of) → ws ≡ laid o
-unfolding laid
+pub put-end : (ws : List ℕ) (o : Open) (i : ℕ) → length ws ≤ i → i ≡ o .count → take i ws ≡ take i (o .of) → ws ≡ laidWords o
+unfolding laidWords
 put-end ws o i h k e = sym (take-all i ws h) ∙ e ∙ ap (λ (n : ℕ). take n (o .of)) k
 
 -- the reads put by record number

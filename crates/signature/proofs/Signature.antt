@@ -20,15 +20,15 @@ use Rattle.laws.proofs.Places.{at-pos, pos-at, count-here, count-later, pos-inj
 use Rattle.trace.specs.Bounds.{THREADS}
 use Rattle.trace.specs.Op.{thread, address, written, reads, writes}
 use Rattle.trace.specs.Trace.{at, first}
-use Rattle.trace.specs.Form.{Form}
+use Rattle.trace.specs.FormFacts.{Form}
 use Rattle.trace.specs.Meaning.{frameOf}
 use Rattle.trace.specs.declared.Trace.{Trace}
 use Rattle.trace.proofs.Meaning.{writes-iff}
 use Rattle.trace.proofs.Good.{form-good}
-use Rattle.signature.specs.Words.{packed, wordsOf}
+use Rattle.signature.specs.DigitWords.{packed, wordsOf}
 use Rattle.signature.specs.Reads.{other, picks, each, values, rangeOf, digitOf, valueOf, reader, readers, Listed}
 use Rattle.signature.specs.Signature.{threadWords, wordsUpTo, wordsBy, signature, tops}
-use Rattle.signature.proofs.Words.{Digits, packed-one, packed-long}
+use Rattle.signature.proofs.DigitWords.{Digits, packed-one, packed-long}
 use Rattle.signature.proofs.Lists.{each-none, each-once, pick-all, pick-same, pick-like, append-parts}
 
 module _ (t : Trace) (form : Form t) (L : ℕ) where

@@ -26,15 +26,15 @@ use Rattle.laws.proofs.Loops.{any-stops}
 use Rattle.trace.specs.Bounds.{RECORDS, THREADS}
 use Rattle.trace.specs.Op.{thread, reads}
 use Rattle.trace.specs.Trace.{at}
-use Rattle.trace.specs.Form.{Form}
+use Rattle.trace.specs.FormFacts.{Form}
 use Rattle.trace.specs.declared.Trace.{Trace}
-use Rattle.signature.specs.Words.{LIMIT, least, rest, next, wordsFrom, takeFrom, wordsOf, taken}
+use Rattle.signature.specs.DigitWords.{LIMIT, least, rest, nextWords, wordsFrom, takeFrom, wordsOf, taken}
 use Rattle.signature.specs.Reads.{picks, each, values, rangeOf, valueOf, reader, readers, loads}
 use Rattle.signature.specs.Signature.{wordsUpTo, tops, threadWords}
-use Rattle.signature.specs.Unpack.{sizeOf, partFrom, partOf, digitIn, readOf, readsOf}
-use Rattle.signature.specs.Laying.{after, tookOf, lookedOf, tookFrom, openedOf, shutOf, tookThread, tookAll, fresh}
+use Rattle.signature.specs.Unpack.{wordCount, partFrom, partOf, digitIn, readOf, readsOf}
+use Rattle.signature.specs.inner.WordsLaid.{stepOn, tookOf, lookedOf, tookFrom, openedOf, shutOf, tookThread, tookAll, noneTaken}
 use Rattle.signature.specs.declared.Taking.{Taking}
-use Rattle.signature.proofs.Words.{take-more, words-some}
+use Rattle.signature.proofs.DigitWords.{take-more, words-some}
 use Rattle.signature.proofs.Lists.{each-at, each-on, each-append, pick-snoc, pick-facts, pick-low, pick-in}
 use Rattle.signature.proofs.Signature.{Chosen, reader-iff, thread-long, top-chosen}
 use Rattle.signature.proofs.Unpack.{is-reader}
@@ -48,7 +48,7 @@ lefts x ws = x .left ∷ drop (suc (x .at)) ws
 -- both ways of a digit's turn
 abbrev turn : Taking → List ℕ → ℕ → ℕ → Bool → Taking
 turn x ws r i b = cond b (record { of = set (x .of) i (x .left % r); at = x .at; q = suc (x .q) * r - 1; left = x .left / r })
-    (record { of = set (x .of) i (getD ws (after (x .at)) 0 % r); at = after (x .at); q = r - 1; left = getD ws (after (x .at)) 0 / r })
+    (record { of = set (x .of) i (getD ws (stepOn (x .at)) 0 % r); at = stepOn (x .at); q = r - 1; left = getD ws (stepOn (x .at)) 0 / r })
 
 -- what it gives
 module _ (x : Taking) (ws : List ℕ) (r i : ℕ) (rp : 0 < r) (full : length (x .of) ≡ RECORDS) (b : i < RECORDS) where
@@ -81,9 +81,9 @@ module _ (x : Taking) (ws : List ℕ) (r i : ℕ) (rp : 0 < r) (full : length (x
       )
       go false l =
           let s = words-some r rs in
-          let a : after (x .at) ≡ suc (x .at) = after-in (x .at) (omega arith) in
+          let a : stepOn (x .at) ≡ suc (x .at) = after-in (x .at) (omega arith) in
           let d : drop (suc (x .at)) ws ≡ getD ws (suc (x .at)) 0 ∷ drop (suc (suc (x .at))) ws = drop-cons ws (suc (x .at)) 0 (omega arith) in (
-            ap₂ (λ (d p : ℕ). d ∷ takeFrom p rs (getD ws (after (x .at)) 0 / r ∷ drop (suc (after (x .at))) ws)) (getD-set-same (x .of) i (getD ws (after (x .at)) 0 % r) 0 (omega (arith, full))) back
+            ap₂ (λ (d p : ℕ). d ∷ takeFrom p rs (getD ws (stepOn (x .at)) 0 / r ∷ drop (suc (stepOn (x .at))) ws)) (getD-set-same (x .of) i (getD ws (stepOn (x .at)) 0 % r) 0 (omega (arith, full))) back
                 ∙ ap (λ (n : ℕ). getD ws n 0 % r ∷ takeFrom r rs (getD ws n 0 / r ∷ drop (suc n) ws)) a
                 ∙ ap (λ (us : List ℕ). least r us ∷ takeFrom r rs (rest r us)) (sym d),
             ap₂ (λ (n p : ℕ). n + wordsFrom p rs) a back ∙ omega arith,
@@ -95,7 +95,7 @@ module _ (x : Taking) (ws : List ℕ) (r i : ℕ) (rp : 0 < r) (full : length (x
     where
       go : (c : Bool) → length (turn x ws r i c .of) ≡ RECORDS
       go true = length-set (x .of) i (x .left % r) ∙ full
-      go false = length-set (x .of) i (getD ws (after (x .at)) 0 % r) ∙ full
+      go false = length-set (x .of) i (getD ws (stepOn (x .at)) 0 % r) ∙ full
 
   pub took-other : (j : ℕ) → j ≢ i → getD (tookOf x ws r i .of) j 0 ≡ getD (x .of) j 0
   unfolding tookOf
@@ -103,7 +103,7 @@ module _ (x : Taking) (ws : List ℕ) (r i : ℕ) (rp : 0 < r) (full : length (x
     where
       go : (c : Bool) → getD (turn x ws r i c .of) j 0 ≡ getD (x .of) j 0
       go true = getD-set-other (x .of) i j (x .left % r) 0 d
-      go false = getD-set-other (x .of) i j (getD ws (after (x .at)) 0 % r) 0 d
+      go false = getD-set-other (x .of) i j (getD ws (stepOn (x .at)) 0 % r) 0 d
 
 module _ (t : Trace) (ws : List ℕ) (few : t .len ≤ RECORDS) (short : length ws ≤ RECORDS) where
   module _ (τ : ℕ) where
@@ -198,7 +198,7 @@ module _ (t : Trace) (ws : List ℕ) (few : t .len ≤ RECORDS) (short : length 
       unfolding takeFrom
       open-taken vs =
           let e : 1 * r ≡ r = omega arith in
-          ap₂ (λ (c : Bool) (n : ℕ). cond c (least r vs ∷ takeFrom n us (rest r vs)) (least r (next vs) ∷ takeFrom r us (rest r (next vs)))) one-fits e
+          ap₂ (λ (c : Bool) (n : ℕ). cond c (least r vs ∷ takeFrom n us (rest r vs)) (least r (nextWords vs) ∷ takeFrom r us (rest r (nextWords vs)))) one-fits e
 
       open-words : wordsFrom 1 (r ∷ us) ≡ wordsOf (r ∷ us)
       unfolding wordsFrom
@@ -213,27 +213,27 @@ module _ (t : Trace) (ws : List ℕ) (few : t .len ≤ RECORDS) (short : length 
     ranged (y ∷ ys) x h = (rangeOf t y, each (rangeOf t) ys, refl, omega (arith, range-small t y))
 
     pub record Had (x y : Taking) : Type 0 where
-      pub digits : each (λ j. getD (y .of) j 0) (readers t τ) ≡ taken (each (rangeOf t) (readers t τ)) (take (sizeOf t τ) (drop (x .at) ws))
+      pub digits : each (λ j. getD (y .of) j 0) (readers t τ) ≡ taken (each (rangeOf t) (readers t τ)) (take (wordCount t τ) (drop (x .at) ws))
       pub stays : (j : ℕ) → reader t τ j ≡ false → getD (y .of) j 0 ≡ getD (x .of) j 0
       pub full : length (y .of) ≡ RECORDS
-      pub place : y .at ≡ x .at + sizeOf t τ
+      pub place : y .at ≡ x .at + wordCount t τ
 
-    with-loads : (x : Taking) → length (x .of) ≡ RECORDS → x .at + sizeOf t τ ≤ length ws → So (any (t .len) (reader t τ)) → Had x (shutOf (tookFrom t τ ws (openedOf ws x) 0 (t .len)))
+    with-loads : (x : Taking) → length (x .of) ≡ RECORDS → x .at + wordCount t τ ≤ length ws → So (any (t .len) (reader t τ)) → Had x (shutOf (tookFrom t τ ws (openedOf ws x) 0 (t .len)))
     unfolding shutOf openedOf readers
     with-loads x f l e =
         let (j, b, u) = so-any (t .len) (reader t τ) .0 e in
         let (r, us, g, h) = ranged (picks (reader t τ) 0 (t .len)) j (pick-in (reader t τ) 0 (t .len) j (omega arith) (omega arith) u) in
-        let n : wordsFrom 1 (rs 0 (t .len)) ≡ sizeOf t τ = ap (wordsFrom 1) g ∙ open-words r us h ∙ ap wordsOf (sym g) in
+        let n : wordsFrom 1 (rs 0 (t .len)) ≡ wordCount t τ = ap (wordsFrom 1) g ∙ open-words r us h ∙ ap wordsOf (sym g) in
         let s : 0 < wordsFrom 1 (rs 0 (t .len)) = words-some 1 (rs 0 (t .len)) in
         let X : Taking = openedOf ws x in
         let m = took-ran (t .len) 0 X (omega arith) f (omega (arith, n, l)) in
         let Y = tookFrom t τ ws X 0 (t .len) in
         let d : getD ws (x .at) 0 ∷ drop (suc (x .at)) ws ≡ drop (x .at) ws = sym (drop-cons ws (x .at) 0 (omega (arith, n, l, s))) in
-        let A = take (sizeOf t τ) (drop (x .at) ws) in
-        let B = drop (sizeOf t τ) (drop (x .at) ws) in
-        let long : wordsFrom 1 (rs 0 (t .len)) ≤ length A = omega (arith, n, length-take-le (sizeOf t τ) (drop (x .at) ws) (omega (arith, l, length-drop (x .at) ws))) in
+        let A = take (wordCount t τ) (drop (x .at) ws) in
+        let B = drop (wordCount t τ) (drop (x .at) ws) in
+        let long : wordsFrom 1 (rs 0 (t .len)) ≤ length A = omega (arith, n, length-take-le (wordCount t τ) (drop (x .at) ws) (omega (arith, l, length-drop (x .at) ws))) in
         let away : takeFrom 1 (rs 0 (t .len)) (drop (x .at) ws) ≡ takeFrom 1 (rs 0 (t .len)) A
-        = ap (takeFrom 1 (rs 0 (t .len))) (sym (take-append-drop (sizeOf t τ) (drop (x .at) ws))) ∙ take-more 1 (rs 0 (t .len)) A B long in
+        = ap (takeFrom 1 (rs 0 (t .len))) (sym (take-append-drop (wordCount t τ) (drop (x .at) ws))) ∙ take-more 1 (rs 0 (t .len)) A B long in
         let opened : takeFrom 1 (rs 0 (t .len)) A ≡ taken (rs 0 (t .len)) A = ap (λ (q : List ℕ). takeFrom 1 q A) g ∙ open-taken r us h A ∙ ap (λ (q : List ℕ). taken q A) (sym g) in
         record {
           digits = m .digits ∙ ap (takeFrom 1 (rs 0 (t .len))) d ∙ away ∙ opened;
@@ -259,7 +259,7 @@ module _ (t : Trace) (ws : List ℕ) (few : t .len ≤ RECORDS) (short : length 
         size : (xs : List ℕ) → xs ≡ [] → x .at ≡ x .at + wordsOf (each (rangeOf t) xs)
         size xs z = subst (λ (xs : List ℕ). x .at ≡ x .at + wordsOf (each (rangeOf t) xs)) (sym z) (omega arith)
 
-    pub took-thread : (x : Taking) → length (x .of) ≡ RECORDS → x .at + sizeOf t τ ≤ length ws → Had x (tookThread t τ ws x)
+    pub took-thread : (x : Taking) → length (x .of) ≡ RECORDS → x .at + wordCount t τ ≤ length ws → Had x (tookThread t τ ws x)
     unfolding tookThread
     took-thread x f l = elim (test (any (t .len) (reader t τ))) [
       | inl e ↦ subst (λ (b : Bool). Had x (cond b (shutOf (tookFrom t τ ws (openedOf ws x) 0 (t .len))) x)) (sym e) (with-loads x f l e)
@@ -299,35 +299,35 @@ module _ (t : Trace) (ws : List ℕ) (few : t .len ≤ RECORDS) (short : length 
         stays = λ j h. r .stays j (λ τ a. h τ (omega arith)) ∙ m .stays j (h σ (omega arith));
       }
     where
-      later : Had σ x (tookThread t σ ws x) → (τ : ℕ) → τ ≢ σ → partFrom t (drop (tookThread t σ ws x .at) ws) (suc σ) k τ ≡ cond (eqb τ σ) (take (sizeOf t σ) (drop (x .at) ws)) (partFrom t (drop (sizeOf t σ) (drop (x .at) ws)) (suc σ) k τ)
+      later : Had σ x (tookThread t σ ws x) → (τ : ℕ) → τ ≢ σ → partFrom t (drop (tookThread t σ ws x .at) ws) (suc σ) k τ ≡ cond (eqb τ σ) (take (wordCount t σ) (drop (x .at) ws)) (partFrom t (drop (wordCount t σ) (drop (x .at) ws)) (suc σ) k τ)
       later m τ d =
           ap (λ (n : ℕ). partFrom t (drop n ws) (suc σ) k τ) (m .place)
-          ∙ ap (λ (us : List ℕ). partFrom t us (suc σ) k τ) (sym (drop-drop (sizeOf t σ) (x .at) ws))
-          ∙ ap (λ (c : Bool). cond c (take (sizeOf t σ) (drop (x .at) ws)) (partFrom t (drop (sizeOf t σ) (drop (x .at) ws)) (suc σ) k τ)) (sym (off (λ s. d (so-eq .0 s))))
+          ∙ ap (λ (us : List ℕ). partFrom t us (suc σ) k τ) (sym (drop-drop (wordCount t σ) (x .at) ws))
+          ∙ ap (λ (c : Bool). cond c (take (wordCount t σ) (drop (x .at) ws)) (partFrom t (drop (wordCount t σ) (drop (x .at) ws)) (suc σ) k τ)) (sym (off (λ s. d (so-eq .0 s))))
 
       here : Had σ x (tookThread t σ ws x) → Have (tookThread t σ ws x) (tookAll t ws (tookThread t σ ws x) (suc σ) k) (suc σ) k → (τ : ℕ) → τ ≡ σ
           → each (λ j. getD (tookAll t ws (tookThread t σ ws x) (suc σ) k .of) j 0) (readers t τ)
-          ≡ taken (each (rangeOf t) (readers t τ)) (cond (eqb τ σ) (take (sizeOf t σ) (drop (x .at) ws)) (partFrom t (drop (sizeOf t σ) (drop (x .at) ws)) (suc σ) k τ))
+          ≡ taken (each (rangeOf t) (readers t τ)) (cond (eqb τ σ) (take (wordCount t σ) (drop (x .at) ws)) (partFrom t (drop (wordCount t σ) (drop (x .at) ws)) (suc σ) k τ))
       here m r τ e =
           ap (λ (τ : ℕ). each (λ j. getD (tookAll t ws (tookThread t σ ws x) (suc σ) k .of) j 0) (readers t τ)) e
           ∙ each-on (λ j. getD (tookAll t ws (tookThread t σ ws x) (suc σ) k .of) j 0) (λ j. getD (tookThread t σ ws x .of) j 0) (readers t σ) (λ j h. r .stays j (λ τ a. alone σ τ j (own σ j h) (omega arith)))
           ∙ m .digits
-          ∙ ap₂ (λ (τ : ℕ) (c : Bool). taken (each (rangeOf t) (readers t τ)) (cond c (take (sizeOf t σ) (drop (x .at) ws)) (partFrom t (drop (sizeOf t σ) (drop (x .at) ws)) (suc σ) k τ))) (sym e) (sym (so-eq {m = τ} {n = σ} .1 e))
+          ∙ ap₂ (λ (τ : ℕ) (c : Bool). taken (each (rangeOf t) (readers t τ)) (cond c (take (wordCount t σ) (drop (x .at) ws)) (partFrom t (drop (wordCount t σ) (drop (x .at) ws)) (suc σ) k τ))) (sym e) (sym (so-eq {m = τ} {n = σ} .1 e))
 
   -- each load has its digit
-  pub digit-taken : Form t → length ws ≡ length (tops t) → (L : ℕ) → L < t .len → So (reads (at t L)) → getD (tookAll t ws fresh 0 THREADS .of) L 0 ≡ digitIn t ws L
+  pub digit-taken : Form t → length ws ≡ length (tops t) → (L : ℕ) → L < t .len → So (reads (at t L)) → getD (tookAll t ws noneTaken 0 THREADS .of) L 0 ≡ digitIn t ws L
   unfolding digitIn
   digit-taken form l L b s =
       let τ = thread (at t L) in
-      let h = took-all THREADS 0 fresh (length-replicate {A = ℕ} RECORDS 0) (omega (arith, l)) in
-      sym (each-at (λ j. getD (tookAll t ws fresh 0 THREADS .of) j 0) (readers t τ) L (is-reader t L b s))
+      let h = took-all THREADS 0 noneTaken (length-replicate {A = ℕ} RECORDS 0) (omega (arith, l)) in
+      sym (each-at (λ j. getD (tookAll t ws noneTaken 0 THREADS .of) j 0) (readers t τ) L (is-reader t L b s))
       ∙ ap (λ (ds : List ℕ). getD ds (pos (readers t τ) L) 0) (h .digits τ (omega arith) (omega (arith, form .used L b .keeps .thread-below)))
 
   -- and so its value
-  pub reads-taken : Form t → length ws ≡ length (tops t) → each (λ L. valueOf t L (getD (tookAll t ws fresh 0 THREADS .of) L 0)) (loads t) ≡ readsOf t ws
+  pub reads-taken : Form t → length ws ≡ length (tops t) → each (λ L. valueOf t L (getD (tookAll t ws noneTaken 0 THREADS .of) L 0)) (loads t) ≡ readsOf t ws
   unfolding loads
   reads-taken form l =
-      each-on (λ L. valueOf t L (getD (tookAll t ws fresh 0 THREADS .of) L 0)) (readOf t ws) (picks (λ L. reads (at t L)) 0 (t .len))
+      each-on (λ L. valueOf t L (getD (tookAll t ws noneTaken 0 THREADS .of) L 0)) (readOf t ws) (picks (λ L. reads (at t L)) 0 (t .len))
       (λ L h. let u = pick-facts (λ L. reads (at t L)) 0 (t .len) L h in ap (valueOf t L) (digit-taken form l L (omega (arith, u .0)) (u .1)))
 
 -- ---- what each function of the code comes to, by the tests that lead there
@@ -339,14 +339,14 @@ module _ (x : Taking) (ws : List ℕ) where
         let g : p ≡ suc (x .q) * r - 1 = omega (arith, f) in
         ap₂ (λ (l : List ℕ) (p : ℕ). record { of = l; at = x .at; q = p; left = x .left / r }) e g
         ∙ ap (λ (b : Bool). cond b (record { of = set (x .of) i (x .left % r); at = x .at; q = suc (x .q) * r - 1; left = x .left / r })
-        (record { of = set (x .of) i (getD ws (after (x .at)) 0 % r); at = after (x .at); q = r - 1; left = getD ws (after (x .at)) 0 / r })) (sym b)
+        (record { of = set (x .of) i (getD ws (stepOn (x .at)) 0 % r); at = stepOn (x .at); q = r - 1; left = getD ws (stepOn (x .at)) 0 / r })) (sym b)
 
-    pub took-out : leb (suc (x .q) * r) LIMIT ≡ false → (n w : ℕ) → n ≡ after (x .at) → w ≡ getD ws n 0 → record { of = set (x .of) i (w % r); at = n; q = r - 1; left = w / r } ≡ tookOf x ws r i
+    pub took-out : leb (suc (x .q) * r) LIMIT ≡ false → (n w : ℕ) → n ≡ stepOn (x .at) → w ≡ getD ws n 0 → record { of = set (x .of) i (w % r); at = n; q = r - 1; left = w / r } ≡ tookOf x ws r i
     unfolding tookOf
     took-out b n w e f =
         ap₂ (λ (n w : ℕ). record { of = set (x .of) i (w % r); at = n; q = r - 1; left = w / r }) e (f ∙ ap (λ (n : ℕ). getD ws n 0) e)
         ∙ ap (λ (b : Bool). cond b (record { of = set (x .of) i (x .left % r); at = x .at; q = suc (x .q) * r - 1; left = x .left / r })
-        (record { of = set (x .of) i (getD ws (after (x .at)) 0 % r); at = after (x .at); q = r - 1; left = getD ws (after (x .at)) 0 / r })) (sym b)
+        (record { of = set (x .of) i (getD ws (stepOn (x .at)) 0 % r); at = stepOn (x .at); q = r - 1; left = getD ws (stepOn (x .at)) 0 / r })) (sym b)
 
   module _ (t : Trace) (τ : ℕ) where
     pub looked-taken : (i : ℕ) → So (reader t τ i) → tookOf x ws (rangeOf t i) i ≡ lookedOf t τ ws x i
@@ -365,11 +365,11 @@ module _ (x : Taking) (ws : List ℕ) where
     unfolding tookFrom
     took-over n i h = let e : n - i ≡ 0 = omega arith in ap (tookFrom t τ ws x i) e
 
-    pub thread-took : So (any (t .len) (reader t τ)) → (y : Taking) (n : ℕ) → y ≡ tookFrom t τ ws (openedOf ws x) 0 (t .len) → n ≡ after (y .at) → record { of = y .of; at = n; q = 0; left = 0 } ≡ tookThread t τ ws x
+    pub thread-took : So (any (t .len) (reader t τ)) → (y : Taking) (n : ℕ) → y ≡ tookFrom t τ ws (openedOf ws x) 0 (t .len) → n ≡ stepOn (y .at) → record { of = y .of; at = n; q = 0; left = 0 } ≡ tookThread t τ ws x
     unfolding tookThread shutOf
     thread-took s y n e f =
         ap (λ (n : ℕ). record { of = y .of; at = n; q = 0; left = 0 }) f
-        ∙ ap (λ (y : Taking). record { of = y .of; at = after (y .at); q = 0; left = 0 }) e
+        ∙ ap (λ (y : Taking). record { of = y .of; at = stepOn (y .at); q = 0; left = 0 }) e
         ∙ ap (λ (b : Bool). cond b (shutOf (tookFrom t τ ws (openedOf ws x) 0 (t .len))) x) (sym s)
 
     pub thread-left : any (t .len) (reader t τ) ≡ false → x ≡ tookThread t τ ws x

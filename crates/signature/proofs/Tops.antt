@@ -19,13 +19,13 @@ use lib.ListN.{length, getD, take, drop}
 use lib.Seq.{take-at, drop-at}
 use Rattle.laws.proofs.Tests.{and-iff, same-iff, so-eq, so-lt, off}
 use Rattle.trace.specs.Bounds.{THREADS}
-use Rattle.trace.specs.Form.{Form}
+use Rattle.trace.specs.FormFacts.{Form}
 use Rattle.trace.specs.declared.Trace.{Trace}
-use Rattle.signature.specs.Words.{LIMIT, onto, rest, next, wordsFrom, packFrom, packed, wordsOf}
+use Rattle.signature.specs.DigitWords.{LIMIT, onto, rest, nextWords, wordsFrom, packFrom, packed, wordsOf}
 use Rattle.signature.specs.Reads.{each, rangeOf, digitOf, values, readers, Listed}
 use Rattle.signature.specs.Signature.{threadWords, wordsUpTo, wordsBy, signature, tops, tooLarge}
-use Rattle.signature.specs.Unpack.{sizeOf, readOf}
-use Rattle.signature.proofs.Words.{Digits, none, one, Ranges, spent, roomFrom, room}
+use Rattle.signature.specs.Unpack.{wordCount, readOf}
+use Rattle.signature.proofs.DigitWords.{Digits, none, one, Ranges, spent, roomFrom, room}
 use Rattle.signature.proofs.Signature.{Chosen, digits, thread-long, top-chosen}
 use Rattle.signature.proofs.Unpack.{roomUpTo, pack-back}
 
@@ -110,16 +110,16 @@ unfolding roomFrom packFrom
 within-room p [] [] g h = absurd h
 within-room p [] (w ∷ []) g h = so-eq {m = w} {n = 0} .1 (omega (arith, h .0))
 within-room p [] (w ∷ v ∷ ws) g h = absurd (h .1)
-within-room p (r ∷ rs) ws g h = go (leb (p * r) LIMIT) h (within-room (p * r) rs (rest r ws) (g .1)) (within-room r rs (rest r (next ws)) (g .1))
+within-room p (r ∷ rs) ws g h = go (leb (p * r) LIMIT) h (within-room (p * r) rs (rest r ws) (g .1)) (within-room r rs (rest r (nextWords ws)) (g .1))
   where
     go : (b : Bool) → Within ws (cond b (onto (r - 1) r (packFrom (p * r) rs (lasts rs))) (0 ∷ onto (r - 1) r (packFrom r rs (lasts rs))))
-        → (Within (rest r ws) (packFrom (p * r) rs (lasts rs)) → So (roomFrom (p * r) rs (rest r ws))) → (Within (rest r (next ws)) (packFrom r rs (lasts rs)) → So (roomFrom r rs (rest r (next ws))))
-        → So (cond b (roomFrom (p * r) rs (rest r ws)) (spent ws && roomFrom r rs (rest r (next ws))))
+        → (Within (rest r ws) (packFrom (p * r) rs (lasts rs)) → So (roomFrom (p * r) rs (rest r ws))) → (Within (rest r (nextWords ws)) (packFrom r rs (lasts rs)) → So (roomFrom r rs (rest r (nextWords ws))))
+        → So (cond b (roomFrom (p * r) rs (rest r ws)) (spent ws && roomFrom r rs (rest r (nextWords ws))))
     go true h k l = k (rest-within r ws (packFrom (p * r) rs (lasts rs)) (g .0) h)
     go false h k l = behind ws h l
       where
-        behind : (ws : List ℕ) → Within ws (0 ∷ onto (r - 1) r (packFrom r rs (lasts rs))) → (Within (rest r (next ws)) (packFrom r rs (lasts rs)) → So (roomFrom r rs (rest r (next ws))))
-            → So (spent ws && roomFrom r rs (rest r (next ws)))
+        behind : (ws : List ℕ) → Within ws (0 ∷ onto (r - 1) r (packFrom r rs (lasts rs))) → (Within (rest r (nextWords ws)) (packFrom r rs (lasts rs)) → So (roomFrom r rs (rest r (nextWords ws))))
+            → So (spent ws && roomFrom r rs (rest r (nextWords ws)))
         behind [] h l = absurd h
         behind (w ∷ ws) h l = and-iff (so-eq {m = w} {n = 0}) (same-iff {a = roomFrom r rs (rest r ws)}) .1 (omega (arith, h .0), l (rest-within r ws (packFrom r rs (lasts rs)) (g .0) (h .1)))
 
@@ -147,11 +147,11 @@ module _ (t : Trace) where
   up-room (suc k) σ ws h =
       let l = thread-long t σ top (top-chosen t) in
       let r = within-take (threadWords t top σ) ws (wordsUpTo t top (suc σ) k) h in
-      let a : Within (take (sizeOf t σ) ws) (packed (each (rangeOf t) (readers t σ)) (lasts (each (rangeOf t) (readers t σ))))
-      = subst (λ (us : List ℕ). Within (take (sizeOf t σ) ws) us) (thread-top σ) (subst (λ (n : ℕ). Within (take n ws) (threadWords t top σ)) l (r .0)) in
-      let b : Within (drop (sizeOf t σ) ws) (wordsUpTo t top (suc σ) k) = subst (λ (n : ℕ). Within (drop n ws) (wordsUpTo t top (suc σ) k)) l (r .1) in
-      and-iff (same-iff {a = room (each (rangeOf t) (readers t σ)) (take (sizeOf t σ) ws)}) (same-iff {a = roomUpTo t (drop (sizeOf t σ) ws) (suc σ) k}) .1
-      (within-roomy (each (rangeOf t) (readers t σ)) (take (sizeOf t σ) ws) (ranges t (readers t σ)) a, up-room k (suc σ) (drop (sizeOf t σ) ws) b)
+      let a : Within (take (wordCount t σ) ws) (packed (each (rangeOf t) (readers t σ)) (lasts (each (rangeOf t) (readers t σ))))
+      = subst (λ (us : List ℕ). Within (take (wordCount t σ) ws) us) (thread-top σ) (subst (λ (n : ℕ). Within (take n ws) (threadWords t top σ)) l (r .0)) in
+      let b : Within (drop (wordCount t σ) ws) (wordsUpTo t top (suc σ) k) = subst (λ (n : ℕ). Within (drop n ws) (wordsUpTo t top (suc σ) k)) l (r .1) in
+      and-iff (same-iff {a = room (each (rangeOf t) (readers t σ)) (take (wordCount t σ) ws)}) (same-iff {a = roomUpTo t (drop (wordCount t σ) ws) (suc σ) k}) .1
+      (within-roomy (each (rangeOf t) (readers t σ)) (take (wordCount t σ) ws) (ranges t (readers t σ)) a, up-room k (suc σ) (drop (wordCount t σ) ws) b)
 
   pub up-within : (g : ℕ → ℕ) → Chosen t g → (k σ : ℕ) → Within (wordsUpTo t g σ k) (wordsUpTo t top σ k)
   unfolding wordsUpTo

@@ -19,13 +19,13 @@ use Rattle.laws.proofs.Tests.{eq?, so-eq, off, and-iff, same-iff}
 use Rattle.trace.specs.Bounds.{THREADS}
 use Rattle.trace.specs.Op.{thread, reads}
 use Rattle.trace.specs.Trace.{at}
-use Rattle.trace.specs.Form.{Form}
+use Rattle.trace.specs.FormFacts.{Form}
 use Rattle.trace.specs.declared.Trace.{Trace}
-use Rattle.signature.specs.Words.{taken, packed}
+use Rattle.signature.specs.DigitWords.{taken, packed}
 use Rattle.signature.specs.Reads.{picks, each, values, rangeOf, digitOf, valueOf, reader, readers, Listed}
 use Rattle.signature.specs.Signature.{threadWords, wordsUpTo, wordsBy, signature}
-use Rattle.signature.specs.Unpack.{sizeOf, partFrom, partOf, digitIn, readOf}
-use Rattle.signature.proofs.Words.{Ranges, Digits, room, taken-packed, packed-taken, taken-digits}
+use Rattle.signature.specs.Unpack.{wordCount, partFrom, partOf, digitIn, readOf}
+use Rattle.signature.proofs.DigitWords.{Ranges, Digits, room, taken-packed, packed-taken, taken-digits}
 use Rattle.signature.proofs.Lists.{each-at, each-on, each-long, by-place, by-bound, pick-in, pick-facts}
 use Rattle.signature.proofs.Signature.{value-digit, digit-value, digits, thread-long, reader-iff, Chosen}
 
@@ -40,11 +40,11 @@ module _ (t : Trace) (g : ℕ → ℕ) (h : Chosen t g) where
   part-same zero σ τ a b = absurd (omega arith)
   part-same (suc k) σ τ a b = elim (eq? τ σ) [
     | inl e ↦
-        ap (λ c. cond c (take (sizeOf t σ) (threadWords t g σ ++ wordsUpTo t g (suc σ) k)) (partFrom t (drop (sizeOf t σ) (threadWords t g σ ++ wordsUpTo t g (suc σ) k)) (suc σ) k τ)) (so-eq .1 e)
-        ∙ take-at (threadWords t g σ) (wordsUpTo t g (suc σ) k) (sizeOf t σ) (thread-long t σ g h) ∙ ap (threadWords t g) (sym e)
+        ap (λ c. cond c (take (wordCount t σ) (threadWords t g σ ++ wordsUpTo t g (suc σ) k)) (partFrom t (drop (wordCount t σ) (threadWords t g σ ++ wordsUpTo t g (suc σ) k)) (suc σ) k τ)) (so-eq .1 e)
+        ∙ take-at (threadWords t g σ) (wordsUpTo t g (suc σ) k) (wordCount t σ) (thread-long t σ g h) ∙ ap (threadWords t g) (sym e)
     | inr d ↦
-        ap (λ c. cond c (take (sizeOf t σ) (threadWords t g σ ++ wordsUpTo t g (suc σ) k)) (partFrom t (drop (sizeOf t σ) (threadWords t g σ ++ wordsUpTo t g (suc σ) k)) (suc σ) k τ)) (off (λ s. d (so-eq .0 s)))
-        ∙ ap (λ (ws : List ℕ). partFrom t ws (suc σ) k τ) (drop-at (threadWords t g σ) (wordsUpTo t g (suc σ) k) (sizeOf t σ) (thread-long t σ g h))
+        ap (λ c. cond c (take (wordCount t σ) (threadWords t g σ ++ wordsUpTo t g (suc σ) k)) (partFrom t (drop (wordCount t σ) (threadWords t g σ ++ wordsUpTo t g (suc σ) k)) (suc σ) k τ)) (off (λ s. d (so-eq .0 s)))
+        ∙ ap (λ (ws : List ℕ). partFrom t ws (suc σ) k τ) (drop-at (threadWords t g σ) (wordsUpTo t g (suc σ) k) (wordCount t σ) (thread-long t σ g h))
         ∙ part-same k (suc σ) τ (omega arith) (omega arith)
   ]
 
@@ -69,7 +69,7 @@ ranges t (x ∷ xs) = (omega arith, ranges t xs)
 
 unfoldable pub roomUpTo : Trace → List ℕ → ℕ → ℕ → Bool
 roomUpTo t ws σ zero = eqb (length ws) 0
-roomUpTo t ws σ (suc k) = room (each (rangeOf t) (readers t σ)) (take (sizeOf t σ) ws) && roomUpTo t (drop (sizeOf t σ) ws) (suc σ) k
+roomUpTo t ws σ (suc k) = room (each (rangeOf t) (readers t σ)) (take (wordCount t σ) ws) && roomUpTo t (drop (wordCount t σ) ws) (suc σ) k
 
 module _ (t : Trace) (form : Form t) (ws : List ℕ) where
   abbrev digitsIn : ℕ → List ℕ
@@ -108,12 +108,12 @@ module _ (t : Trace) (form : Form t) (ws : List ℕ) where
   up-back zero σ [] e s = refl
   up-back zero σ (u ∷ us) e s = absurd (omega (arith, so-eq {m = suc (length us)} {n = 0} .0 s))
   up-back (suc k) σ us e s =
-      let (a, b) = and-iff (same-iff {a = room (each (rangeOf t) (readers t σ)) (take (sizeOf t σ) us)}) (same-iff {a = roomUpTo t (drop (sizeOf t σ) us) (suc σ) k}) .0 s in
-      let p : partOf t ws σ ≡ take (sizeOf t σ) us = e σ (omega arith) (omega arith) ∙ ap (λ c. cond c (take (sizeOf t σ) us) (partFrom t (drop (sizeOf t σ) us) (suc σ) k σ)) (so-eq {m = σ} {n = σ} .1 refl) in
-      let rest : (τ : ℕ) → suc σ ≤ τ → τ < suc σ + k → partOf t ws τ ≡ partFrom t (drop (sizeOf t σ) us) (suc σ) k τ
-      = λ τ c d. e τ (omega arith) (omega arith) ∙ ap (λ c. cond c (take (sizeOf t σ) us) (partFrom t (drop (sizeOf t σ) us) (suc σ) k τ)) (off (λ s. omega (arith, so-eq {m = τ} {n = σ} .0 s))) in
-      ap₂ (λ x y. x ++ y) (thread-back σ (subst (λ (l : List ℕ). So (room (each (rangeOf t) (readers t σ)) l)) (sym p) a) ∙ p) (up-back k (suc σ) (drop (sizeOf t σ) us) rest b)
-      ∙ take-append-drop (sizeOf t σ) us
+      let (a, b) = and-iff (same-iff {a = room (each (rangeOf t) (readers t σ)) (take (wordCount t σ) us)}) (same-iff {a = roomUpTo t (drop (wordCount t σ) us) (suc σ) k}) .0 s in
+      let p : partOf t ws σ ≡ take (wordCount t σ) us = e σ (omega arith) (omega arith) ∙ ap (λ c. cond c (take (wordCount t σ) us) (partFrom t (drop (wordCount t σ) us) (suc σ) k σ)) (so-eq {m = σ} {n = σ} .1 refl) in
+      let rest : (τ : ℕ) → suc σ ≤ τ → τ < suc σ + k → partOf t ws τ ≡ partFrom t (drop (wordCount t σ) us) (suc σ) k τ
+      = λ τ c d. e τ (omega arith) (omega arith) ∙ ap (λ c. cond c (take (wordCount t σ) us) (partFrom t (drop (wordCount t σ) us) (suc σ) k τ)) (off (λ s. omega (arith, so-eq {m = τ} {n = σ} .0 s))) in
+      ap₂ (λ x y. x ++ y) (thread-back σ (subst (λ (l : List ℕ). So (room (each (rangeOf t) (readers t σ)) l)) (sym p) a) ∙ p) (up-back k (suc σ) (drop (wordCount t σ) us) rest b)
+      ∙ take-append-drop (wordCount t σ) us
 
   -- words of which none is too large come back from the reads that they stand for
   pub pack-back : So (roomUpTo t ws 0 THREADS) → signature t (readOf t ws) ≡ ws

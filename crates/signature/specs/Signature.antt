@@ -13,7 +13,7 @@ use lib.Dec.{ltb}
 use lib.ListN.{getD}
 use Rattle.trace.specs.Bounds.{THREADS}
 use Rattle.trace.specs.declared.Trace.{Trace}
-use Rattle.signature.specs.Words.{packed}
+use Rattle.signature.specs.DigitWords.{packed}
 use Rattle.signature.specs.Reads.{each, rangeOf, digitOf, readers}
 
 abbrev pub threadWords : Trace → (ℕ → ℕ) → ℕ → List ℕ

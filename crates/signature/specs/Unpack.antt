@@ -1,6 +1,6 @@
 -- The reads that words stand for.
 --
---   sizeOf t τ          == how many words thread τ takes
+--   wordCount t τ       == how many words thread τ takes
 --   partFrom t ws σ k τ == the words of thread τ, where ws are those of the threads σ, σ + 1, .., k of them
 --   partOf t ws τ       == the words of thread τ
 --   digitIn t ws L      == the digit of load L: the one at its place among the loads of its thread
@@ -16,15 +16,15 @@ use Rattle.trace.specs.Bounds.{THREADS}
 use Rattle.trace.specs.Op.{thread}
 use Rattle.trace.specs.Trace.{at}
 use Rattle.trace.specs.declared.Trace.{Trace}
-use Rattle.signature.specs.Words.{wordsOf, taken}
+use Rattle.signature.specs.DigitWords.{wordsOf, taken}
 use Rattle.signature.specs.Reads.{each, rangeOf, valueOf, readers, loads}
 
-abbrev pub sizeOf : Trace → ℕ → ℕ
-sizeOf t τ = wordsOf (each (rangeOf t) (readers t τ))
+abbrev pub wordCount : Trace → ℕ → ℕ
+wordCount t τ = wordsOf (each (rangeOf t) (readers t τ))
 
 unfoldable pub partFrom : Trace → List ℕ → ℕ → ℕ → ℕ → List ℕ
 partFrom t ws σ zero τ = []
-partFrom t ws σ (suc k) τ = cond (eqb τ σ) (take (sizeOf t σ) ws) (partFrom t (drop (sizeOf t σ) ws) (suc σ) k τ)
+partFrom t ws σ (suc k) τ = cond (eqb τ σ) (take (wordCount t σ) ws) (partFrom t (drop (wordCount t σ) ws) (suc σ) k τ)
 
 abbrev pub partOf : Trace → List ℕ → ℕ → List ℕ
 partOf t ws τ = partFrom t ws 0 THREADS τ

@@ -14,53 +14,53 @@ use Rattle.trace.proofs.Good.{good}
 use Rattle.rules.specs.Missing.{Missing, Sourced}
 use Rattle.pairs.specs.Kept.{modelled, keptOf}
 use Rattle.pairs.proofs.KeptPairs.{kept-joins}
-use Rattle.orders.specs.Verdict.{Verdict, noSource, circle, order, noneLeft, Says}
-use Rattle.orders.specs.Sought.{verdict?}
-use Rattle.orders.specs.MissingOf.{record?, missingOf}
-use Rattle.orders.specs.declared.sources.Found.{Found}
-use Rattle.orders.specs.declared.sources.Found.the-variants.{At, Nothing}
-use Rattle.orders.proofs.MissingOf.{missing-lowest}
-use Rattle.orders.proofs.Says.{circle-none}
-use Rattle.orders.proofs.Sought.{verdict-says}
-use Rattle.smaller.specs.Smaller.{bare, Cuts, By, Told}
+use Rattle.rules.specs.Verdict.{Verdict, noSource, circle, order, noneLeft, Says}
+use Rattle.rules.proofs.ComputedVerdict.{verdict?}
+use Rattle.pairs.specs.MissingOf.{record?, missingOf}
+use Rattle.pairs.specs.declared.sources.Found.{Found}
+use Rattle.pairs.specs.declared.sources.Found.the-variants.{At, Nothing}
+use Rattle.pairs.proofs.MissingOf.{missing-lowest}
+use Rattle.rules.proofs.Says.{circle-none}
+use Rattle.rules.proofs.VerdictComputed.{verdict-says}
+use Rattle.smaller.specs.Smaller.{bareSmaller, Cuts, By, ToldSmaller}
 use Rattle.smaller.specs.declared.Answer.the-variants.{NoModel, NotWellFormed, NoSource, NothingWrong}
 use Rattle.smaller.specs.declared.Smaller.{Smaller}
 use Rattle.smaller.proofs.Cutting.{NoOrder}
 
 module _ (t : Trace) (m : ℕ) where
-  pub told-model : modelled m ≡ false → Told t m (bare NoModel)
+  pub told-model : modelled m ≡ false → ToldSmaller t m (bareSmaller NoModel)
   told-model e = record { nine = λ _. refl; ten = λ k. absurd (false≢true (sym e ∙ k)); says = λ k. absurd (false≢true (sym e ∙ k)) }
 
   module _ (k : So (modelled m)) where
-    pub told-form : wellFormed t ≡ false → Told t m (bare NotWellFormed)
+    pub told-form : wellFormed t ≡ false → ToldSmaller t m (bareSmaller NotWellFormed)
     told-form e = record { nine = λ n. absurd (false≢true (sym n ∙ k)); ten = λ _ _. refl; says = λ _ w. absurd (false≢true (sym e ∙ w)) }
 
     module _ (w : So (wellFormed t)) where
       -- an answer by a verdict that is allowed
-      by : (v : Verdict) → Says (frameOf t) (keptOf m t) v → (r : Smaller) → By t m v r → Told t m r
+      by : (v : Verdict) → Says (frameOf t) (keptOf m t) v → (r : Smaller) → By t m v r → ToldSmaller t m r
       by v s r b = record { nine = λ n. absurd (false≢true (sym n ∙ k)); ten = λ _ n. absurd (false≢true (sym n ∙ w)); says = λ _ _. (v, s, b) }
 
       -- the verdict that there is
       given : Says (frameOf t) (keptOf m t) (verdict? (frameOf t) (keptOf m t))
       given = verdict-says (frameOf t) (good t w) (keptOf m t) (kept-joins m t)
 
-      pub told-source : (x : ℕ) → missingOf t ≡ At x → Told t m (bare (NoSource x))
-      told-source x e = by (noSource x) (subst (λ (a : Found). Lowest (Missing (frameOf t)) (record? a)) e (missing-lowest t w)) (bare (NoSource x)) refl
+      pub told-source : (x : ℕ) → missingOf t ≡ At x → ToldSmaller t m (bareSmaller (NoSource x))
+      told-source x e = by (noSource x) (subst (λ (a : Found). Lowest (Missing (frameOf t)) (record? a)) e (missing-lowest t w)) (bareSmaller (NoSource x)) refl
 
       module _ (e : missingOf t ≡ Nothing) where
         sourced : Sourced (frameOf t)
         sourced = subst (λ (a : Found). Lowest (Missing (frameOf t)) (record? a)) e (missing-lowest t w)
 
-        pub told-sound : (NoOrder t m → ⊥) → Told t m (bare NothingWrong)
-        told-sound n = by (verdict? (frameOf t) (keptOf m t)) given (bare NothingWrong) (go (verdict? (frameOf t) (keptOf m t)) given)
+        pub told-sound : (NoOrder t m → ⊥) → ToldSmaller t m (bareSmaller NothingWrong)
+        told-sound n = by (verdict? (frameOf t) (keptOf m t)) given (bareSmaller NothingWrong) (go (verdict? (frameOf t) (keptOf m t)) given)
           where
-            go : (v : Verdict) → Says (frameOf t) (keptOf m t) v → By t m v (bare NothingWrong)
+            go : (v : Verdict) → Says (frameOf t) (keptOf m t) v → By t m v (bareSmaller NothingWrong)
             go (noSource x) s = absurd (sourced x (s .0))
             go (circle c rs) s = absurd (n (circle-none (frameOf t) (keptOf m t) (good t w) (c, rs) (s .1)))
             go (order xs) s = refl
             go noneLeft s = absurd (n (s .2))
 
-        pub told-cut : NoOrder t m → (r : Smaller) → Cuts t m r → Told t m r
+        pub told-cut : NoOrder t m → (r : Smaller) → Cuts t m r → ToldSmaller t m r
         told-cut n r cuts = by (verdict? (frameOf t) (keptOf m t)) given r (go (verdict? (frameOf t) (keptOf m t)) given)
           where
             go : (v : Verdict) → Says (frameOf t) (keptOf m t) v → By t m v r

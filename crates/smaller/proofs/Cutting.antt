@@ -17,7 +17,7 @@ use lib.Dec.{eqb}
 use lib.ListN.{length, take}
 use Rattle.laws.specs.Dict.{Least}
 use Rattle.laws.proofs.Tests.{and-iff, or-iff, same-iff, so-eq, test, test-one}
-use Rattle.trace.specs.Order.{Valid}
+use Rattle.rules.specs.Order.{Valid}
 use Rattle.trace.specs.Meaning.{frameOf}
 use Rattle.trace.specs.WellFormed.{wellFormed}
 use Rattle.trace.specs.declared.Trace.{Trace}
@@ -26,20 +26,21 @@ use Rattle.rows.specs.Bounds.{WORDS}
 use Rattle.rows.specs.Rows.{bit}
 use Rattle.pairs.specs.Kept.{modelled, keptOf}
 use Rattle.pairs.proofs.KeptPairs.{kept-joins}
-use Rattle.orders.specs.Verdict.{faulty}
-use Rattle.orders.specs.Sought.{verdict?}
-use Rattle.orders.proofs.Says.{faulty-exactly}
-use Rattle.orders.proofs.Sought.{verdict-says}
+use Rattle.rules.specs.Verdict.{faulty}
+use Rattle.rules.proofs.ComputedVerdict.{verdict?}
+use Rattle.rules.proofs.Says.{faulty-exactly}
+use Rattle.rules.proofs.VerdictComputed.{verdict-says}
 use Rattle.search.specs.FirstOrder.{found?, FirstOrder}
 use Rattle.search.specs.declared.Order.{Order}
-use Rattle.parts.specs.Removal.{Set, every, Goes, goes?, cut}
-use Rattle.parts.specs.Smaller.{Spare, Faulty}
+use Rattle.parts.specs.Removal.{Set, every, Goes}
+use Rattle.parts.specs.inner.RemovalTests.{goes?, cutAway}
+use Rattle.parts.specs.CutDown.{Spare, Faulty}
 use Rattle.parts.specs.Picked.{picked}
 use Rattle.parts.proofs.Removal.{goes-iff}
 use Rattle.parts.proofs.Alike.{picked-alike}
 use Rattle.parts.proofs.Down.{cut-removed, removed-one}
 use Rattle.parts.proofs.Looks.{Looks, left-well, looks-none, looks-gone, looks-kept, looks-all}
-use Rattle.smaller.specs.Rows.{Has, Chains, without, Tried, Ended}
+use Rattle.smaller.specs.inner.RecordSets.{Chosen, ReaderChains, withoutRecord, TriedRecord, LeftOver}
 
 -- no valid order
 abbrev pub NoOrder : Trace → ℕ → Type 0
@@ -62,48 +63,48 @@ pub not-there : (a b : Bool) → So b → (a && b) ≡ false → a ≡ false
 not-there a b h e = elim (test a) [ inl s ↦ absurd (false≢true (sym e ∙ and-iff same-iff same-iff .1 (s, h))) | inr n ↦ n ]
 
 module _ (t : Trace) (w : So (wellFormed t)) (m : ℕ) where
-  pub goes-at : (rows : List ℕ) → Chains (frameOf t) rows → (i x : ℕ) → (eqb i x || bit rows i x) ≡ goes? (frameOf t) i x
+  pub goes-at : (rows : List ℕ) → ReaderChains (frameOf t) rows → (i x : ℕ) → (eqb i x || bit rows i x) ≡ goes? (frameOf t) i x
   goes-at rows c i x = test-one (or-iff so-eq (c .goes i x)) (goes-iff (frameOf t) (good t w) i x)
 
   -- two sets that have the same records have the same fault
   alike : (A B : Set) → ((x : ℕ) → x < t .len → A x ≡ B x) → Faulty t m A → Faulty t m B
   alike A B h = subst (λ (u : Trace). NoOrder u m) (picked-alike A B t (t .len) h)
 
-  pub tried-no : (k : List ℕ) (i : ℕ) → length k ≡ WORDS → Has k i ≡ false → Tried t m i k k
+  pub tried-no : (k : List ℕ) (i : ℕ) → length k ≡ WORDS → Chosen k i ≡ false → TriedRecord t m i k k
   tried-no k i l e = record { long = l; goes = λ a. absurd (false≢true (sym e ∙ a)); stays = λ _ x h. refl }
 
-  module _ (rows : List ℕ) (c : Chains (frameOf t) rows) (k : List ℕ) (i : ℕ) (e : So (Has k i)) (l : List ℕ)
-      (left : (x : ℕ) → x < t .len → Has l x ≡ (Has k x && not (eqb i x || bit rows i x))) where
-    cuts : (x : ℕ) → x < t .len → Has l x ≡ without t k i x
-    cuts x h = left x h ∙ ap (λ (b : Bool). Has k x && not b) (goes-at rows c i x)
+  module _ (rows : List ℕ) (c : ReaderChains (frameOf t) rows) (k : List ℕ) (i : ℕ) (e : So (Chosen k i)) (l : List ℕ)
+      (left : (x : ℕ) → x < t .len → Chosen l x ≡ (Chosen k x && not (eqb i x || bit rows i x))) where
+    cuts : (x : ℕ) → x < t .len → Chosen l x ≡ withoutRecord t k i x
+    cuts x h = left x h ∙ ap (λ (b : Bool). Chosen k x && not b) (goes-at rows c i x)
 
-    pub tried-yes : length l ≡ WORDS → Faulty t m (Has l) → Tried t m i k l
-    tried-yes n s = record { long = n; goes = λ _ _. cuts; stays = λ d. absurd (d e (alike (Has l) (without t k i) cuts s)) }
+    pub tried-yes : length l ≡ WORDS → Faulty t m (Chosen l) → TriedRecord t m i k l
+    tried-yes n s = record { long = n; goes = λ _ _. cuts; stays = λ d. absurd (d e (alike (Chosen l) (withoutRecord t k i) cuts s)) }
 
-    pub tried-kept : length k ≡ WORDS → (Faulty t m (Has l) → ⊥) → Tried t m i k k
-    tried-kept n s = record { long = n; goes = λ _ b. absurd (s (alike (without t k i) (Has l) (λ x h. sym (cuts x h)) b)); stays = λ _ x h. refl }
+    pub tried-kept : length k ≡ WORDS → (Faulty t m (Chosen l) → ⊥) → TriedRecord t m i k k
+    tried-kept n s = record { long = n; goes = λ _ b. absurd (s (alike (withoutRecord t k i) (Chosen l) (λ x h. sym (cuts x h)) b)); stays = λ _ x h. refl }
 
   -- after i looks the rows have a set from which the others lead to what is left
   pub record Passed (i : ℕ) (k : List ℕ) : Type 0 where
     pub long : length k ≡ WORDS
     pub kept : Set
-    pub same : (x : ℕ) → x < t .len → Has k x ≡ kept x
+    pub same : (x : ℕ) → x < t .len → Chosen k x ≡ kept x
     pub looks : Looks t m w i kept
 
-  pub passed-none : (k : List ℕ) → length k ≡ WORDS → ((x : ℕ) → x < t .len → So (Has k x)) → Passed 0 k
+  pub passed-none : (k : List ℕ) → length k ≡ WORDS → ((x : ℕ) → x < t .len → So (Chosen k x)) → Passed 0 k
   passed-none k l h = record { long = l; kept = every; same = h; looks = looks-none t m w }
 
-  pub passed-more : (i : ℕ) (k l : List ℕ) → i < t .len → Passed i k → Tried t m i k l → Passed (i + 1) l
+  pub passed-more : (i : ℕ) (k l : List ℕ) → i < t .len → Passed i k → TriedRecord t m i k l → Passed (i + 1) l
   passed-more i k l h p q = rw add-one (elim (test (A i)) [
     | inr e ↦ stay (λ s. false≢true (sym e ∙ s .there)) (λ a. absurd (false≢true (sym (p .same i h ∙ e) ∙ a)))
     | inl a ↦ elim (fault? (picked t B) (left-well t m w B) m) [
       | inr n ↦ stay
           (λ s. n (subst (Faulty t m) (removed-one G A i (s .left) B (s .removed) removed) (s .fault)))
-          (λ _ f. n (alike (without t k i) B near f))
+          (λ _ f. n (alike (withoutRecord t k i) B near f))
       | inl f ↦ record {
         long = q .long;
         kept = B;
-        same = λ x b. q .goes (p .same i h ∙ a) (alike B (without t k i) (λ x b. sym (near x b)) f) x b ∙ near x b;
+        same = λ x b. q .goes (p .same i h ∙ a) (alike B (withoutRecord t k i) (λ x b. sym (near x b)) f) x b ∙ near x b;
         looks = looks-gone t m w A i (p .looks) (record { below = h; there = a; left = B; removed = removed; fault = f });
       }
     ]
@@ -116,16 +117,16 @@ module _ (t : Trace) (w : So (wellFormed t)) (m : ℕ) where
       A = p .kept
 
       B : Set
-      B = cut (goes? (frameOf t)) A i
+      B = cutAway (goes? (frameOf t)) A i
 
       removed : (x : ℕ) → So (B x) ↔ (So (A x) × (G i x → ⊥))
       removed = cut-removed G (goes? (frameOf t)) (goes-iff (frameOf t) (good t w)) A i
 
-      near : (x : ℕ) → x < t .len → without t k i x ≡ B x
+      near : (x : ℕ) → x < t .len → withoutRecord t k i x ≡ B x
       near x b = ap (λ (a : Bool). a && not (goes? (frameOf t) i x)) (p .same x b)
 
-      stay : (Spare (t .len) G (Faulty t m) A i → ⊥) → (So (Has k i) → Faulty t m (without t k i) → ⊥) → Passed (suc i) l
+      stay : (Spare (t .len) G (Faulty t m) A i → ⊥) → (So (Chosen k i) → Faulty t m (withoutRecord t k i) → ⊥) → Passed (suc i) l
       stay s d = record { long = q .long; kept = A; same = λ x b. q .stays d x b ∙ p .same x b; looks = looks-kept t m w A i (p .looks) s }
 
-  pub passed-all : (i : ℕ) (k : List ℕ) → t .len ≤ i → Passed i k → Ended t m k
+  pub passed-all : (i : ℕ) (k : List ℕ) → t .len ≤ i → Passed i k → LeftOver t m k
   passed-all i k h p = record { kept = p .kept; left = looks-all t m w (p .kept) i h (p .looks); same = p .same }

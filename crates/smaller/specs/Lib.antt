@@ -1,3 +1,3 @@
 -- A faulty trace cut down.
 pub mod Smaller
-pub mod Rows
+pub mod inner

@@ -14,7 +14,7 @@ use Rattle.text.specs.Number.{cut}
 use Rattle.text.specs.Template.{NUMBERS, Hit, hit, miss, found, fitFrom, fitted}
 use Rattle.text.specs.declared.Fit.{Fit}
 use Rattle.text.proofs.Fits.{number-is}
-use Rattle.talk.specs.Command.{orElse, cutCommand, supposeFrom, askFrom, modelFrom, backFrom, waitingFrom}
+use Rattle.talk.specs.Command.{orCommand, cutCommand, supposeFrom, askFrom, modelFrom, backFrom, waitingFrom}
 use Rattle.talk.specs.declared.asking.Command.{Command}
 
 unfoldable pub Makes : (List ℕ → Command) → Type 0
@@ -41,18 +41,18 @@ unfolding Makes
 waiting-makes ns ms h = refl
 
 module _ (ts line : List ℕ) (r : Fit) (e : r ≡ fitted ts line) (make : List ℕ → Command) (other : Command) where
-  pub call-taken : Makes make → r .fits ≡ true → make (r .numbers) ≡ cutCommand (orElse (found ts line) make other)
+  pub call-taken : Makes make → r .fits ≡ true → make (r .numbers) ≡ cutCommand (orCommand (found ts line) make other)
   unfolding Makes fitted
   call-taken m t = go (found ts line) e
     where
-      go : (f : Hit) → r ≡ fitFrom 0 (replicate NUMBERS 0) f → make (r .numbers) ≡ cutCommand (orElse f make other)
+      go : (f : Hit) → r ≡ fitFrom 0 (replicate NUMBERS 0) f → make (r .numbers) ≡ cutCommand (orCommand f make other)
       go (hit ns) q = m ns (r .numbers) (λ i b. ap (λ (r : Fit). getD (r .numbers) i 0) q ∙ number-is ns i b)
       go miss q = absurd (true≢false (sym t ∙ ap (λ (r : Fit). r .fits) q))
 
-  pub call-left : r .fits ≡ false → other ≡ orElse (found ts line) make other
+  pub call-left : r .fits ≡ false → other ≡ orCommand (found ts line) make other
   unfolding fitted
   call-left t = go (found ts line) e
     where
-      go : (f : Hit) → r ≡ fitFrom 0 (replicate NUMBERS 0) f → other ≡ orElse f make other
+      go : (f : Hit) → r ≡ fitFrom 0 (replicate NUMBERS 0) f → other ≡ orCommand f make other
       go (hit ns) q = absurd (true≢false (sym (ap (λ (r : Fit). r .fits) q) ∙ t))
       go miss q = refl

@@ -32,7 +32,7 @@ use Rattle.session.proofs.Openings.{openable-iff}
 use Rattle.session.proofs.Sessions.{intact-iff}
 use Rattle.session.proofs.Answering.{pair-unlike, pair-fence, suppose-pair, suppose-refused, ask-refused}
 use Rattle.talk.specs.Command.{cutCommand}
-use Rattle.talk.specs.Telling.{replied, modelOf, askedOf}
+use Rattle.talk.specs.LineAnswers.{replied, modelOf, askedOf}
 use Rattle.talk.specs.declared.asking.Command.{Command}
 use Rattle.talk.specs.declared.asking.Command.the-variants.{Suppose, Ask, TakeBack, Waiting, Model, Nothing}
 use Rattle.talk.specs.declared.telling.Talk.{Talk}

@@ -21,7 +21,7 @@ use Rattle.trace.proofs.Growth.{started-well}
 use Rattle.pairs.specs.Kept.{modelled}
 use Rattle.text.specs.Lines.{Line}
 use Rattle.reader.specs.Bounds.{LINE}
-use Rattle.reader.specs.Answer.{turned, begins}
+use Rattle.reader.specs.Answer.{turned, initGiven}
 use Rattle.reader.specs.declared.Init.{Init}
 use Rattle.reader.specs.declared.Init.the-variants as init
 use Rattle.reader.specs.declared.Turn.{Turn}
@@ -40,7 +40,7 @@ use Rattle.session.proofs.Openings.{openable-iff, empty-opens}
 use Rattle.session.proofs.Answering.{afresh-done}
 use Rattle.session.proofs.Standing.{act-kept, kept-allowed, recorded-opens, opened}
 use Rattle.talk.specs.Command.{commandOf}
-use Rattle.talk.specs.Telling.{freshOf, replied, refusedOf, whole, turnOf, firstValue, begunOr, lineOf, modelOf, askedOf, answerOf}
+use Rattle.talk.specs.LineAnswers.{freshOf, replied, refusedOf, whole, turnSaid, firstValue, begunOr, lineSaid, modelOf, askedOf, talkAnswer}
 use Rattle.talk.specs.Noted.{Notes, unspoken, Sound, withGiven, talkOf, acted, firstNoted, turnNoted, firstOr, lineNoted, modelNoted, askedNoted, noted, talkAfter, notedAfter}
 use Rattle.talk.specs.declared.asking.Command.{Command}
 use Rattle.talk.specs.declared.asking.Command.the-variants.{Suppose, Ask, TakeBack, Waiting, Model, Nothing}
@@ -80,7 +80,7 @@ module _ (q : Notes) (s : Sound q) where
   first-opens : (bytes : List ℕ) (a v : ℕ) → firstNoted q bytes ≡ init.Of a v → So (openable (started (q .trace) a v) (q .model))
   first-opens bytes a v = go (eqb (q .trace .len) 0) refl
     where
-      go : (b : Bool) → eqb (q .trace .len) 0 ≡ b → cond b (begins (q .given) (whole bytes)) init.Nothing ≡ init.Of a v → So (openable (started (q .trace) a v) (q .model))
+      go : (b : Bool) → eqb (q .trace .len) 0 ≡ b → cond b (initGiven (q .given) (whole bytes)) init.Nothing ≡ init.Of a v → So (openable (started (q .trace) a v) (q .model))
       go true e f =
           let o = openable-iff (q .trace) (q .model) .0 (s .opens) in
           openable-iff (started (q .trace) a v) (q .model) .1 (record { model = o .model; form = started-well (q .trace) a v (eqb-true _ _ e) (begins-good (q .given) (whole bytes) a v f .value) (o .form) })
@@ -132,12 +132,12 @@ module _ (q : Notes) (s : Sound q) where
             ap (λ (r : Reply). withGiven (q .given) (left r)) (sym (afresh-done C (q .trace) n (stacked (q .pairs)) d (afresh C (q .trace) n (q .pairs)) (ap (afresh C (q .trace) n) (sym (standing-stacked (q .trace) (q .pairs))))))
         go false e = refl
 
-    turn-afresh : (r : Turn) → after (turnOf C here r) ≡ talkOf C (turnNoted q r)
+    turn-afresh : (r : Turn) → after (turnSaid C here r) ≡ talkOf C (turnNoted q r)
     turn-afresh (turn.Taken o) = kept-by (adds o)
     turn-afresh (turn.Refused r) = refl
 
-    line-afresh : (bytes : List ℕ) → after (lineOf C here bytes) ≡ talkOf C (lineNoted q bytes)
-    unfolding lineOf firstValue afresh
+    line-afresh : (bytes : List ℕ) → after (lineSaid C here bytes) ≡ talkOf C (lineNoted q bytes)
+    unfolding lineSaid firstValue afresh
     line-afresh bytes = go (firstNoted q bytes) refl
       where
         go : (i : Init) → firstNoted q bytes ≡ i → after (begunOr C here bytes i) ≡ talkOf C (firstOr q bytes i)
@@ -152,8 +152,8 @@ module _ (q : Notes) (s : Sound q) where
     asked-afresh bytes (Model n) = model-afresh n
     asked-afresh bytes Nothing = line-afresh bytes
 
-    pub talk-afresh : (l : Line) → after (answerOf C here l) ≡ talkOf C (noted q l)
-    unfolding noted answerOf
+    pub talk-afresh : (l : Line) → after (talkAnswer C here l) ≡ talkOf C (noted q l)
+    unfolding noted talkAnswer
     talk-afresh l = go (ltb LINE (length (l .bytes))) (l .ended)
       where
         go : (b e : Bool) → after (cond b (refusedOf here 2) (cond e (askedOf C here (l .bytes) (commandOf (l .bytes))) (refusedOf here 3))) ≡ talkOf C (cond b q (cond e (askedNoted q (l .bytes) (commandOf (l .bytes))) q))

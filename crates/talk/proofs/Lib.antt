@@ -4,4 +4,4 @@ pub mod Calling
 pub mod Cutting
 pub mod Starting
 pub mod Lasting
-pub mod One
+pub mod Unique

@@ -8,11 +8,11 @@ use Prim.Native.Nat.{ℕ, _<_}
 use native.Mathlib.Omega.{arith}
 use lib.Dec.{eqb}
 use Rattle.trace.specs.Bounds.{ADDRESSES, VALUES}
-use Rattle.reader.specs.Answer.{begins}
+use Rattle.reader.specs.Answer.{initGiven}
 use Rattle.reader.specs.declared.Init.{Init}
 use Rattle.reader.specs.declared.Init.the-variants as init
 use Rattle.reader.proofs.Begins.{begins-good}
-use Rattle.talk.specs.Telling.{whole, firstValue}
+use Rattle.talk.specs.LineAnswers.{whole, firstValue}
 use Rattle.talk.specs.declared.telling.Talk.{Talk}
 
 module _ (k : Talk) (bytes : List ℕ) (a v : ℕ) where
@@ -20,6 +20,6 @@ module _ (k : Talk) (bytes : List ℕ) (a v : ℕ) where
   unfolding firstValue
   first-good = go (eqb (k .session .trace .len) 0)
     where
-      go : (b : Bool) → cond b (begins (k .given) (whole bytes)) init.Nothing ≡ init.Of a v → (a < ADDRESSES) × (v < VALUES)
+      go : (b : Bool) → cond b (initGiven (k .given) (whole bytes)) init.Nothing ≡ init.Of a v → (a < ADDRESSES) × (v < VALUES)
       go true e = let g = begins-good (k .given) (whole bytes) a v e in (g .address, g .value)
       go false e = let z : _≡_ {A = ℕ} 0 1 = cc in absurd (omega arith)

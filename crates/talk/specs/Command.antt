@@ -1,7 +1,7 @@
 -- The lines that make a call on the session of a talk. None of them is a trace's line: those begin with a digit or with `init`.
 --
 --   supposeForm, askForm, modelForm, backForm, waitingForm == the lines, a hole for each number
---   orElse hit make other == the call made of the numbers found, or what another line says
+--   orCommand hit make other == the call made of the numbers found, or what another line says
 --   commandOf line        == the call that a line makes, if any
 --   cutCommand c          == the same with its numbers cut, as the code holds it
 use mathlib.Core.List.{List, [], _∷_}
@@ -32,9 +32,9 @@ backForm = 116 ∷ 97 ∷ 107 ∷ 101 ∷ 32 ∷ 98 ∷ 97 ∷ 99 ∷ 107 ∷ []
 abbrev pub waitingForm : List ℕ
 waitingForm = 119 ∷ 97 ∷ 105 ∷ 116 ∷ 105 ∷ 110 ∷ 103 ∷ []
 
-abbrev pub orElse : Hit → (List ℕ → Command) → Command → Command
-orElse (hit ns) make other = make ns
-orElse miss make other = other
+abbrev pub orCommand : Hit → (List ℕ → Command) → Command → Command
+orCommand (hit ns) make other = make ns
+orCommand miss make other = other
 
 abbrev pub supposeFrom : List ℕ → Command
 supposeFrom ns = Suppose (getD ns 0 0) (getD ns 1 0)
@@ -53,19 +53,19 @@ waitingFrom ns = Waiting
 
 -- what is left to each line by those before it
 abbrev pub waitingElse : List ℕ → Command
-waitingElse line = orElse (found waitingForm line) waitingFrom Nothing
+waitingElse line = orCommand (found waitingForm line) waitingFrom Nothing
 
 abbrev pub backElse : List ℕ → Command
-backElse line = orElse (found backForm line) backFrom (waitingElse line)
+backElse line = orCommand (found backForm line) backFrom (waitingElse line)
 
 abbrev pub modelElse : List ℕ → Command
-modelElse line = orElse (found modelForm line) modelFrom (backElse line)
+modelElse line = orCommand (found modelForm line) modelFrom (backElse line)
 
 abbrev pub askElse : List ℕ → Command
-askElse line = orElse (found askForm line) askFrom (modelElse line)
+askElse line = orCommand (found askForm line) askFrom (modelElse line)
 
 unfoldable pub commandOf : List ℕ → Command
-commandOf line = orElse (found supposeForm line) supposeFrom (askElse line)
+commandOf line = orCommand (found supposeForm line) supposeFrom (askElse line)
 
 abbrev pub cutCommand : Command → Command
 cutCommand (Suppose x y) = Suppose (cut x) (cut y)

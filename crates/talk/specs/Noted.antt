@@ -21,7 +21,7 @@ use Rattle.trace.specs.declared.Trace.{Trace}
 use Rattle.pairs.specs.Kept.{SC, modelled}
 use Rattle.text.specs.Lines.{Line}
 use Rattle.reader.specs.Bounds.{LINE}
-use Rattle.reader.specs.Answer.{turned, begins}
+use Rattle.reader.specs.Answer.{turned, initGiven}
 use Rattle.reader.specs.Read.{none}
 use Rattle.reader.specs.declared.Init.{Init}
 use Rattle.reader.specs.declared.Init.the-variants as init
@@ -32,11 +32,11 @@ use Rattle.session.specs.Opening.{openable}
 use Rattle.session.specs.Closings.{Closings}
 use Rattle.session.specs.Session.{afresh}
 use Rattle.session.specs.Numbers.{Act, supposes, takesBack, asks, adds, awaits}
-use Rattle.session.specs.Calls.{kept, recorded}
+use Rattle.session.specs.Calls.{pairsAfter, recorded}
 use Rattle.session.specs.declared.Pair.{Pair}
 use Rattle.session.specs.declared.Session.{Session}
 use Rattle.talk.specs.Command.{commandOf}
-use Rattle.talk.specs.Telling.{whole, answerOf}
+use Rattle.talk.specs.LineAnswers.{whole, talkAnswer}
 use Rattle.talk.specs.declared.asking.Command.{Command}
 use Rattle.talk.specs.declared.asking.Command.the-variants.{Suppose, Ask, TakeBack, Waiting, Model, Nothing}
 use Rattle.talk.specs.declared.telling.Talk.{Talk}
@@ -62,10 +62,10 @@ abbrev pub talkOf : Closings → Notes → Talk
 talkOf C q = withGiven (q .given) (afresh C (q .trace) (q .model) (q .pairs))
 
 abbrev pub acted : Notes → Act → Notes
-acted q a = record { trace = recorded (q .trace) a; model = q .model; pairs = kept (q .trace) (q .pairs) a; given = q .given }
+acted q a = record { trace = recorded (q .trace) a; model = q .model; pairs = pairsAfter (q .trace) (q .pairs) a; given = q .given }
 
 abbrev pub firstNoted : Notes → List ℕ → Init
-firstNoted q bytes = cond (eqb (q .trace .len) 0) (begins (q .given) (whole bytes)) init.Nothing
+firstNoted q bytes = cond (eqb (q .trace .len) 0) (initGiven (q .given) (whole bytes)) init.Nothing
 
 abbrev pub turnNoted : Notes → Turn → Notes
 turnNoted q (turn.Taken o) = acted q (adds o)
@@ -94,7 +94,7 @@ noted q l = cond (ltb LINE (length (l .bytes))) q (cond (l .ended) (askedNoted q
 
 unfoldable pub talkAfter : Closings → Talk → List Line → Talk
 talkAfter C k [] = k
-talkAfter C k (l ∷ ls) = talkAfter C (answerOf C k l .talk) ls
+talkAfter C k (l ∷ ls) = talkAfter C (talkAnswer C k l .talk) ls
 
 unfoldable pub notedAfter : Notes → List Line → Notes
 notedAfter q [] = q

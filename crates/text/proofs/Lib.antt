@@ -6,4 +6,4 @@ pub mod Fits
 pub mod Decimal
 pub mod Template
 pub mod Put
-pub mod One
+pub mod Unique

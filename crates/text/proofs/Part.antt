@@ -13,11 +13,11 @@ use borrow.Author.Tests.{le-leb, lt-leb}
 use lib.ListN.{length}
 use denote.Ref.{RefT, now}
 use Rattle.text.specs.Lines.{endAt, lineAt}
-use Rattle.text.specs.Part.{PartOf, LineOf, startAt, laid}
+use Rattle.text.specs.Part.{PartOf, LineOf, startAt, laidPart}
 use Rattle.text.proofs.Lines.{line-part, line-none}
 
 module _ (text : RefT (List ℕ)) where
-  pub part-one : {start end : ℕ} {x y : RefT (List ℕ)} → PartOf text start end x → PartOf text start end y → laid x ≡ laid y
+  pub part-one : {start end : ℕ} {x y : RefT (List ℕ)} → PartOf text start end x → PartOf text start end y → laidPart x ≡ laidPart y
   part-one p q i = (p .block ∙ sym (q .block)) i ∷ (p .place ∙ sym (q .place)) i ∷ (p .bytes ∙ sym (q .bytes)) i
 
   pub part-place : {a b c d : ℕ} {x : RefT (List ℕ)} → PartOf text a b x → PartOf text c d x → a ≡ c

@@ -3,7 +3,7 @@
 --   PartOf text start end r == r is the text's own part from start to before end: it lies start bytes behind the front of the text and has those bytes
 --   startAt text at         == where the line at a place starts: there; past the end, at the end
 --   LineOf text at r        == r is the line at a place, without its line feed; at or past the end the empty part at the end of the text
---   laid r                  == all that a part is: the block it lies in, the place there, then the bytes
+--   laidPart r              == all that a part is: the block it lies in, the place there, then the bytes
 use mathlib.Core.Bool.{cond}
 use mathlib.Core.Path.{_≡_}
 use mathlib.Core.List.{List, _∷_}
@@ -24,5 +24,5 @@ startAt text at = cond (leb (length text) at) (length text) at
 abbrev pub LineOf : RefT (List ℕ) → ℕ → RefT (List ℕ) → Type 0
 LineOf text at = PartOf text (startAt (now text) at) (endAt (now text) (startAt (now text) at))
 
-abbrev pub laid : RefT (List ℕ) → List ℕ
-laid r = ptr r .0 ∷ ptr r .1 ∷ now r
+abbrev pub laidPart : RefT (List ℕ) → List ℕ
+laidPart r = ptr r .0 ∷ ptr r .1 ∷ now r

@@ -19,8 +19,8 @@ use Rattle.trace.specs.Bounds.{RECORDS}
 use Rattle.trace.specs.Op.{address, written, writes}
 use Rattle.trace.specs.Trace.{first}
 use Rattle.trace.specs.WellFormed.{bounded, writtenBefore, follows}
-use Rattle.trace.specs.Form.{Bounded, Follows}
-use Rattle.trace.specs.Fault.{numberOf, WritesFirst, WritesAgain, Wrong, Lower, Earns, faultOf}
+use Rattle.trace.specs.FormFacts.{Bounded, Follows}
+use Rattle.trace.specs.Fault.{faultNumber, WritesFirst, WritesAgain, Wrong, Lower, Earns, faultOf}
 use Rattle.trace.specs.declared.Op.{Op}
 use Rattle.trace.specs.declared.Trace.{Trace}
 use Rattle.trace.specs.declared.Fault.{Fault}
@@ -64,14 +64,14 @@ module _ (t : Trace) (o : Op) where
 abbrev faultAt : ℕ → Fault
 faultAt k = getD (Nothing ∷ Nothing ∷ Nothing ∷ Nothing ∷ PastBound ∷ Nothing ∷ FirstValue ∷ TooMany ∷ Twice ∷ []) k Nothing
 
-number-back : (f : Fault) → faultAt (numberOf f) ≡ f
+number-back : (f : Fault) → faultAt (faultNumber f) ≡ f
 number-back Nothing = refl
 number-back PastBound = refl
 number-back FirstValue = refl
 number-back TooMany = refl
 number-back Twice = refl
 
-pub number-one : (f g : Fault) → numberOf f ≡ numberOf g → f ≡ g
+pub number-one : (f g : Fault) → faultNumber f ≡ faultNumber g → f ≡ g
 number-one f g e = sym (number-back f) ∙ ap faultAt e ∙ number-back g
 
 module _ (t : Trace) (o : Op) where
@@ -82,8 +82,8 @@ module _ (t : Trace) (o : Op) where
   again-iff = and-iff same-iff (written-before-iff t (t .len) (address o) (written o))
 
   -- a fault that is no higher than any that applies
-  lower : (fault : Fault) → (numberOf PastBound < numberOf fault → So (bounded o)) → (numberOf FirstValue < numberOf fault → WritesFirst t o → ⊥) → (numberOf TooMany < numberOf fault → t .len < RECORDS)
-      → (numberOf Twice < numberOf fault → ⊥) → Lower fault t o
+  lower : (fault : Fault) → (faultNumber PastBound < faultNumber fault → So (bounded o)) → (faultNumber FirstValue < faultNumber fault → WritesFirst t o → ⊥) → (faultNumber TooMany < faultNumber fault → t .len < RECORDS)
+      → (faultNumber Twice < faultNumber fault → ⊥) → Lower fault t o
   lower fault keeps other room last Nothing h c = c
   lower fault keeps other room last PastBound h c = c (bounded-iff o .0 (keeps h))
   lower fault keeps other room last FirstValue h c = other h c
@@ -131,7 +131,7 @@ module _ (t : Trace) (o : Op) where
     | inr n ↦ elim (holds g e) [ inr m ↦ n .0 ∙ sym (m .0) | inl w ↦ absurd (n .1 g (w .0)) ]
     | inl v ↦ elim (holds g e) [
       | inr m ↦ absurd (m .1 f (v .0))
-      | inl w ↦ elim (which (numberOf f) (numberOf g)) [ inl h ↦ absurd (w .1 f h (v .0)) | inr h ↦ elim h [ inl q ↦ number-one f g q | inr l ↦ absurd (v .1 g l (w .0)) ] ]
+      | inl w ↦ elim (which (faultNumber f) (faultNumber g)) [ inl h ↦ absurd (w .1 f h (v .0)) | inr h ↦ elim h [ inl q ↦ number-one f g q | inr l ↦ absurd (v .1 g l (w .0)) ] ]
     ]
   ]
 

@@ -9,8 +9,8 @@ use Rattle.laws.proofs.Tests.{three}
 use Rattle.trace.specs.Op.{address, written, writes}
 use Rattle.trace.specs.Trace.{at}
 use Rattle.trace.specs.WellFormed.{wellFormed}
-use Rattle.trace.specs.Form.{Form}
-use Rattle.trace.specs.Frame.{Good}
+use Rattle.trace.specs.FormFacts.{Form}
+use Rattle.rules.specs.Frame.{Good}
 use Rattle.trace.specs.Meaning.{frameOf}
 use Rattle.trace.specs.declared.Trace.{Trace}
 use Rattle.trace.proofs.WellFormed.{form-iff}

@@ -20,7 +20,7 @@ use Rattle.trace.specs.Bounds.{RECORDS, ADDRESSES, VALUES}
 use Rattle.trace.specs.Op.{address}
 use Rattle.trace.specs.Trace.{at, idle, empty, started, pushed, upTo, first}
 use Rattle.trace.specs.WellFormed.{follows, wellFormed}
-use Rattle.trace.specs.Form.{Follows, Form}
+use Rattle.trace.specs.FormFacts.{Follows, Form}
 use Rattle.trace.specs.declared.Op.{Op}
 use Rattle.trace.specs.declared.Record.{Record}
 use Rattle.trace.specs.declared.Trace.{Trace}

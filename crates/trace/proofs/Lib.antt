@@ -6,4 +6,5 @@ pub mod Good
 pub mod Growth
 pub mod Faults
 pub mod Lost
-pub mod One
+pub mod Unique
+pub mod Records

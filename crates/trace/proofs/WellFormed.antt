@@ -1,4 +1,4 @@
--- What the tests of a trace's form say: each passes exactly where its meaning in specs/Form holds.
+-- What the tests of a trace's form say: each passes exactly where its meaning in specs/FormFacts holds.
 --
 --   bounded-iff, writes-iff, written-before-iff, fresh-iff, follows-iff, idle-iff == the tests that the form is made of
 --   form-iff                                                                      == the form itself
@@ -10,7 +10,7 @@ use Rattle.laws.proofs.Tests.{and-iff, not-iff, imp-iff, same-iff, so-eq, so-lt
 use Rattle.trace.specs.Op.{address, written, writes, writesTo}
 use Rattle.trace.specs.Trace.{at, idle}
 use Rattle.trace.specs.WellFormed.{bounded, writtenBefore, fresh, follows, isIdle, wellFormed}
-use Rattle.trace.specs.Form.{Bounded, Writes, Fresh, Follows, Form}
+use Rattle.trace.specs.FormFacts.{Bounded, Writes, Fresh, Follows, Form}
 use Rattle.trace.specs.declared.Op.{Op}
 use Rattle.trace.specs.declared.Op.the-variants.{Load, Store, Swap, Fence}
 use Rattle.trace.specs.declared.Trace.{Trace}

@@ -1,6 +1,6 @@
 -- What is wrong with one record more. The text, the packed file and a growing session ask it alike.
 --
---   numberOf fault  == document 01's number of a fault; 0 where nothing is wrong
+--   faultNumber fault == document 01's number of a fault; 0 where nothing is wrong
 --   WritesFirst t o == o writes the first value of its address
 --   WritesAgain t o == o writes a value that a record of t wrote at its address
 --   Wrong fault t o == the case of a fault's number, for o behind the trace t
@@ -15,18 +15,18 @@ use Rattle.trace.specs.Bounds.{RECORDS}
 use Rattle.trace.specs.Op.{address, written, writes}
 use Rattle.trace.specs.Trace.{at, first}
 use Rattle.trace.specs.WellFormed.{bounded, writtenBefore}
-use Rattle.trace.specs.Form.{Bounded, Writes}
+use Rattle.trace.specs.FormFacts.{Bounded, Writes}
 use Rattle.trace.specs.declared.Op.{Op}
 use Rattle.trace.specs.declared.Trace.{Trace}
 use Rattle.trace.specs.declared.Fault.{Fault}
 use Rattle.trace.specs.declared.Fault.the-variants.{Nothing, PastBound, FirstValue, TooMany, Twice}
 
-abbrev pub numberOf : Fault → ℕ
-numberOf Nothing = 0
-numberOf PastBound = 4
-numberOf FirstValue = 6
-numberOf TooMany = 7
-numberOf Twice = 8
+abbrev pub faultNumber : Fault → ℕ
+faultNumber Nothing = 0
+faultNumber PastBound = 4
+faultNumber FirstValue = 6
+faultNumber TooMany = 7
+faultNumber Twice = 8
 
 abbrev pub WritesFirst : Trace → Op → Type 0
 WritesFirst t o = So (writes o) × (written o ≡ first t (address o))
@@ -42,7 +42,7 @@ Wrong TooMany t o = RECORDS ≤ t .len
 Wrong Twice t o = WritesAgain t o
 
 abbrev pub Lower : Fault → Trace → Op → Type 0
-Lower fault t o = (other : Fault) → numberOf other < numberOf fault → Wrong other t o → ⊥
+Lower fault t o = (other : Fault) → faultNumber other < faultNumber fault → Wrong other t o → ⊥
 
 abbrev pub Earns : Fault → Trace → Op → Type 0
 Earns Nothing t o = (fault : Fault) → Wrong fault t o → ⊥

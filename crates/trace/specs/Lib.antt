@@ -1,11 +1,9 @@
--- What a trace is, and what it means. Bounds, Op, Trace, WellFormed, Form, Fault and Cores have its form; Frame, Order and Meaning have what it says.
+-- What a trace is, and what it means. Bounds, Op, Trace, WellFormed, FormFacts, Fault and Cores have its form; Meaning has what it says, as a frame of `rules`.
 pub mod Bounds
 pub mod Op
 pub mod Trace
 pub mod WellFormed
-pub mod Form
+pub mod FormFacts
 pub mod Fault
 pub mod Cores
-pub mod Frame
-pub mod Order
 pub mod Meaning

@@ -5,7 +5,7 @@ use mathlib.Core.Bool.{not, _&&_}
 use lib.Dec.{eqb, ltb}
 use Rattle.trace.specs.Op.{thread, address, read, written, reads, writes, fence}
 use Rattle.trace.specs.Trace.{at, first}
-use Rattle.trace.specs.Frame.{Frame}
+use Rattle.rules.specs.Frame.{Frame}
 use Rattle.trace.specs.declared.Trace.{Trace}
 
 -- records are numbered from 0, fences counted; a fence is no operation; program order is the record order within one thread

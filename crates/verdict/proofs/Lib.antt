@@ -1,5 +1,5 @@
 -- Laws of the verdict as the code holds it.
-pub mod Laying
-pub mod Owed
+pub mod LaidOut
+pub mod Guarantees
 pub mod Numbers
-pub mod One
+pub mod Unique

@@ -24,18 +24,18 @@ use Rattle.rules.proofs.Circle.{circle-within}
 use Rattle.rules.proofs.Ends.{step-within}
 use Rattle.pairs.specs.Kept.{modelled, keptOf}
 use Rattle.circle.proofs.ShownIn.{zeros}
-use Rattle.orders.specs.Verdict as said
-use Rattle.orders.proofs.Accepted.{well-fits, well-kept}
-use Rattle.verdict.specs.Told.{padded, Numbers, laid, Told}
+use Rattle.rules.specs.Verdict as said
+use Rattle.pairs.proofs.ValidOrders.{well-fits, well-kept}
+use Rattle.verdict.specs.VerdictOf.{padded, RecordNumbers, laid, Told}
 use Rattle.verdict.specs.declared.Verdict.{Verdict}
 
-pub numbers-take : (n : ℕ) (xs : List ℕ) → Numbers xs → Numbers (take n xs)
+pub numbers-take : (n : ℕ) (xs : List ℕ) → RecordNumbers xs → RecordNumbers (take n xs)
 numbers-take n xs h i = elim (decLt i n) [
   | yes l ↦ rw (getD-take n xs i 0 l) (h i)
   | no l ↦ rw (List·getD-eq-default (take n xs) 0 {n = i} (omega (arith, length-take n xs))) (omega arith)
 ]
 
-padded-numbers : (xs : List ℕ) → ((x : ℕ) → 0 < count x xs → x < RECORDS) → Numbers (padded xs)
+padded-numbers : (xs : List ℕ) → ((x : ℕ) → 0 < count x xs → x < RECORDS) → RecordNumbers (padded xs)
 padded-numbers xs h i = elim (decLt i (length xs)) [
   | yes l ↦ rw (List·getD-append xs (replicate (RECORDS - length xs) 0) 0 i l) (h (getD xs i 0) (count-at xs i l))
   | no l ↦
@@ -46,11 +46,11 @@ padded-numbers xs h i = elim (decLt i (length xs)) [
 ]
 
 -- no operation at all
-none-numbers : Numbers (replicate RECORDS 0)
+none-numbers : RecordNumbers (replicate RECORDS 0)
 none-numbers i = omega (arith, zeros RECORDS i)
 
 module _ (t : Trace) (m : ℕ) where
-  says-numbers : So (wellFormed t) → (v : said.Verdict) → said.Says (frameOf t) (keptOf m t) v → Numbers (laid v .operations)
+  says-numbers : So (wellFormed t) → (v : said.Verdict) → said.Says (frameOf t) (keptOf m t) v → RecordNumbers (laid v .operations)
   unfolding frameOf
   says-numbers w (said.noSource x) s = none-numbers
   says-numbers w (said.circle c rs) s =
@@ -64,7 +64,7 @@ module _ (t : Trace) (m : ℕ) where
   ])
   says-numbers w said.noneLeft s = none-numbers
 
-  pub told-numbers : (r : Verdict) → Told t m r → Numbers (r .operations)
+  pub told-numbers : (r : Verdict) → Told t m r → RecordNumbers (r .operations)
   told-numbers r h = elim (test (modelled m)) [
     | inr e ↦ rw (h .nine e) none-numbers
     | inl k ↦ elim (test (wellFormed t)) [

@@ -1,2 +1,2 @@
 -- The verdict as the code holds it, and document 01's numbers for it.
-pub mod Told
+pub mod VerdictOf

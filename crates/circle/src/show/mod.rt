@@ -6,7 +6,7 @@ ghost use Rattle.trace.specs.Meaning.{frameOf};
 ghost use Rattle.rows.specs.Rows.{bit};
 ghost use Rattle.pairs.specs.Kept.{keptOf};
 ghost use Rattle.rules.specs.Circle.{after};
-ghost use Rattle.circle.specs.Named.{Named};
+ghost use Rattle.circle.specs.inner.NamedRules.{Named};
 ghost use Rattle.circle.specs.CircleOf.{CircleOf};
 use crate::trail::shown;
 use edges::force::last_round;

@@ -6,15 +6,15 @@ ghost use lib.ListN.{length, replicate};
 ghost use Rattle.trace.specs.Bounds.{RECORDS};
 ghost use Rattle.rows.specs.Bounds.{CELLS};
 ghost use Rattle.rows.specs.Rows.{Edges};
-ghost use Rattle.circle.specs.Added.{Exactly, Added, Through};
-ghost use Rattle.circle.specs.Least.{Least, LowestBelow};
-ghost use Rattle.circle.specs.Reach.{StepBack, Reach, Followed, Laid};
+ghost use Rattle.circle.specs.inner.WalkRows.{Exactly, Widened, StepThen};
+ghost use Rattle.circle.specs.inner.LeastWalk.{LeastWalk, LowestBelow};
+ghost use Rattle.circle.specs.inner.BackSteps.{StepBack, Reach, Followed, LaidWay};
 ghost use Rattle.circle.specs.ShownIn.{ShownIn};
 
 // Adds to row x of `next` what row m of `walks` has.
 fn add_row(walks: &[u64], m: usize, next: &mut [u64], x: usize)
     requires { ⌜ (x < RECORDS) × (length (now next) ≡ CELLS) ⌝ }
-    ensures { λ r. ⌜ Added (now (next .entry)) (λ i j. (i ≡ x) × Edges (now (walks .entry)) m j) (now (next .exit)) ⌝ }
+    ensures { λ r. ⌜ Widened (now (next .entry)) (λ i j. (i ≡ x) × Edges (now (walks .entry)) m j) (now (next .exit)) ⌝ }
 {
     rows::add_row(walks, m, next, x);
 }
@@ -22,7 +22,7 @@ fn add_row(walks: &[u64], m: usize, next: &mut [u64], x: usize)
 // Adds to row x of `next` where an edge from x and then a walk leads: nowhere, if x has no edge.
 fn add_rows(edges: &[u64], walks: &[u64], next: &mut [u64], x: usize)
     requires { ⌜ (x < RECORDS) × (length (now next) ≡ CELLS) ⌝ }
-    ensures { λ r. ⌜ Added (now (next .entry)) (λ i j. (i ≡ x) × Through (Edges (now (edges .entry))) (Edges (now (walks .entry))) x j) (now (next .exit)) ⌝ }
+    ensures { λ r. ⌜ Widened (now (next .entry)) (λ i j. (i ≡ x) × StepThen (Edges (now (edges .entry))) (Edges (now (walks .entry))) x j) (now (next .exit)) ⌝ }
 {
     if rows::within(edges, x, &[0u64; rows::WORDS], 0) {
         return;
@@ -39,7 +39,7 @@ fn add_rows(edges: &[u64], walks: &[u64], next: &mut [u64], x: usize)
 // Makes `next` the walks that are an edge longer.
 fn further(edges: &[u64], walks: &[u64], next: &mut [u64])
     requires { ⌜ length (now next) ≡ CELLS ⌝ }
-    ensures { λ r. ⌜ Exactly (now (next .exit)) (Through (Edges (now (edges .entry))) (Edges (now (walks .entry)))) ⌝ }
+    ensures { λ r. ⌜ Exactly (now (next .exit)) (StepThen (Edges (now (edges .entry))) (Edges (now (walks .entry)))) ⌝ }
 {
     rows::clear(next);
     let mut x: usize = 0;
@@ -53,7 +53,7 @@ fn further(edges: &[u64], walks: &[u64], next: &mut [u64])
 // so lengths past RECORDS need no look.
 fn least(edges: &[u64], walks: &mut [u64], next: &mut [u64]) -> usize
     requires { ⌜ (length (now edges) ≡ CELLS) × (length (now walks) ≡ CELLS) × (length (now next) ≡ CELLS) ⌝ }
-    ensures { λ r. ⌜ Least (Edges (now (edges .entry))) r (now (walks .exit)) ⌝ }
+    ensures { λ r. ⌜ LeastWalk (Edges (now (edges .entry))) r (now (walks .exit)) ⌝ }
 {
     rows::copy(edges, walks);
     let mut k: usize = 1;
@@ -101,7 +101,7 @@ fn step_to(edges: &[u64], reach: &[u64], x: usize, j: usize) -> usize
 // Adds to row j + 1 the operations that have an edge to one of row j.
 fn back(edges: &[u64], reach: &mut [u64], j: usize)
     requires { ⌜ (j + 1 < RECORDS) × (length (now reach) ≡ CELLS) ⌝ }
-    ensures { λ r. ⌜ Added (now (reach .entry)) (StepBack (Edges (now (edges .entry))) (Edges (now (reach .entry))) j) (now (reach .exit)) ⌝ }
+    ensures { λ r. ⌜ Widened (now (reach .entry)) (StepBack (Edges (now (edges .entry))) (Edges (now (reach .entry))) j) (now (reach .exit)) ⌝ }
 {
     let mut x: usize = 0;
     while x < trace::RECORDS {
@@ -129,7 +129,7 @@ fn reach(edges: &[u64], s: usize, k: usize, rows: &mut [u64])
 // Lays the way round into `out`: s, and then by the lowest steps that still lead back to s in time.
 fn follow(edges: &[u64], reach: &[u64], s: usize, k: usize, out: &mut [u16])
     requires { ⌜ Followed (Edges (now edges)) (now reach) s k (length (now out)) ⌝ }
-    ensures { λ r. ⌜ Laid (Edges (now (edges .entry))) s k (now (out .entry)) (now (out .exit)) ⌝ }
+    ensures { λ r. ⌜ LaidWay (Edges (now (edges .entry))) s k (now (out .entry)) (now (out .exit)) ⌝ }
 {
     out[0] = s as u16;
     let mut x = s;

@@ -6,8 +6,9 @@ ghost use lib.ListN.{length};
 ghost use Rattle.trace.specs.Meaning.{frameOf};
 ghost use Rattle.trace.specs.WellFormed.{wellFormed};
 ghost use Rattle.pairs.specs.Kept.{modelled, keptOf};
-ghost use Rattle.counting.specs.Laying.{SetsOf};
-ghost use Rattle.counting.specs.Answering.{bare, Looked, countedOf};
+ghost use Rattle.counting.specs.inner.CountingRows.{SetsOf};
+ghost use Rattle.counting.specs.CountedAnswer.{bareCount, countedOf};
+ghost use Rattle.counting.specs.inner.CountedLook.{CountedLook};
 use crate::Counted;
 use crate::Walked;
 use crate::tables::lay;
@@ -22,7 +23,7 @@ use trace::form::well_formed;
 
 // What the search came to without an order.
 fn bare(walked: Walked) -> Counted
-    ensures { λ r. ⌜ r ≡ bare walked ⌝ }
+    ensures { λ r. ⌜ r ≡ bareCount walked ⌝ }
 {
     Counted {
         walked,
@@ -43,7 +44,7 @@ fn look(
     list: &mut [u16],
 ) -> Walked
     requires { ⌜ So (wellFormed t) × So (modelled model) × SetsOf (frameOf t) (t .len) (now operations) (now reads) (now served) total × (total ≤ length (now list)) ⌝ }
-    ensures { λ r. ⌜ Looked (frameOf t) (keptOf model t) total limit (now (list .entry)) (now (list .exit)) r ⌝ }
+    ensures { λ r. ⌜ CountedLook (frameOf t) (keptOf model t) total limit (now (list .entry)) (now (list .exit)) r ⌝ }
 {
     let n = t.len;
     let mut partners = [0u64; rows::CELLS];

@@ -5,10 +5,11 @@ ghost use lib.ListN.{length};
 ghost use Rattle.trace.specs.Bounds.{RECORDS};
 ghost use Rattle.trace.specs.Meaning.{frameOf};
 ghost use Rattle.rows.specs.Bounds.{CELLS, WORDS};
-ghost use Rattle.rules.specs.Tests.{writer?};
+ghost use Rattle.rules.specs.RuleTests.{writer?};
 ghost use Rattle.pairs.specs.Kept.{keptOf};
-ghost use Rattle.edges.specs.Adds.{Adds, Only, Union};
-ghost use Rattle.counting.specs.Laying.{SetsOf, owns, feeds?, Rows};
+ghost use Rattle.edges.specs.inner.PairSets.{Only, Union};
+ghost use Rattle.rows.specs.inner.AddedPairs.{Added};
+ghost use Rattle.counting.specs.inner.CountingRows.{SetsOf, owns, feeds?, Rows};
 use pairs::kept_pair;
 use trace::Trace;
 use trace::first;
@@ -47,7 +48,7 @@ pub(crate) fn lay_sets(
 // Lays whom the model keeps behind record x: row y takes x.
 fn lay_partners(t: Trace, model: u8, x: usize, partners: &mut [u64])
     requires { ⌜ (x < t .len) × (t .len ≤ RECORDS) × (length (now partners) ≡ CELLS) ⌝ }
-    ensures { λ r. ⌜ Adds (now (partners .entry)) (Union (t .len) (λ y. Only (keptOf model t x y) y x)) (now (partners .exit)) ⌝ }
+    ensures { λ r. ⌜ Added (now (partners .entry)) (Union (t .len) (λ y. Only (keptOf model t x y) y x)) (now (partners .exit)) ⌝ }
 {
     let n = t.len;
     let record = t.records[x];
@@ -76,9 +77,9 @@ fn lay_writer(
     rivals: &mut [u64],
 )
     requires { ⌜ (x < t .len) × (t .len ≤ RECORDS) × (length (now own) ≡ CELLS) × (length (now fed) ≡ CELLS) × (length (now rivals) ≡ CELLS) ⌝ }
-    ensures { λ r. ⌜ Adds (now (own .entry)) (Union (t .len) (λ y. Only (owns (frameOf t) x y) y x)) (now (own .exit)) ⌝ }
-    ensures { λ r. ⌜ Adds (now (fed .entry)) (Union (t .len) (λ y. Only (feeds? (frameOf t) (now (reads .entry)) (now (served .entry)) x y) x y)) (now (fed .exit)) ⌝ }
-    ensures { λ r. ⌜ Adds (now (rivals .entry)) (Union (t .len) (λ y. Only (writer? (frameOf t) x y) x y)) (now (rivals .exit)) ⌝ }
+    ensures { λ r. ⌜ Added (now (own .entry)) (Union (t .len) (λ y. Only (owns (frameOf t) x y) y x)) (now (own .exit)) ⌝ }
+    ensures { λ r. ⌜ Added (now (fed .entry)) (Union (t .len) (λ y. Only (feeds? (frameOf t) (now (reads .entry)) (now (served .entry)) x y) x y)) (now (fed .exit)) ⌝ }
+    ensures { λ r. ⌜ Added (now (rivals .entry)) (Union (t .len) (λ y. Only (writer? (frameOf t) x y) x y)) (now (rivals .exit)) ⌝ }
 {
     let n = t.len;
     let record = t.records[x];

@@ -7,10 +7,10 @@ ghost use Prim.Native.Nat.{_*_, _<_, _≤_};
 ghost use lib.ListN.{length};
 ghost use Rattle.trace.specs.Bounds.{RECORDS};
 ghost use Rattle.rows.specs.Bounds.{WORDS};
-ghost use Rattle.rows.specs.Sets.{More};
-ghost use Rattle.counting.specs.Counting.{lastWaiting, RightBy, Nexts, Fed};
-ghost use Rattle.counting.specs.Memory.{SLOTS, slotOf, Put};
-ghost use Rattle.counting.specs.Walking.{tables, Room, Counts, recalledOf};
+ghost use Rattle.rows.specs.inner.Sets.{More};
+ghost use Rattle.counting.specs.inner.NextTests.{lastWaiting, RightBy, Nexts, Fed};
+ghost use Rattle.counting.specs.inner.FailedLists.{LISTS, listSlot, Put};
+ghost use Rattle.counting.specs.inner.CountedWalk.{countingTables, CountingRoom, Counts, recalledOf};
 use crate::Walked;
 use trace::RECORDS;
 
@@ -100,7 +100,7 @@ fn serve(fed: &[u64], rivals: &[u64], placed: &[u64], served: &[u64], y: usize, 
 
 // Mixes a set into a number below SLOTS. Any would do: what a slot holds counts.
 fn mix(seed: u64, set: &[u64]) -> u64
-    ensures { λ r. ⌜ r < SLOTS ⌝ }
+    ensures { λ r. ⌜ r < LISTS ⌝ }
 {
     let mut fold: u64 = seed % (SLOTS as u64);
     let mut i: usize = 0;
@@ -113,8 +113,8 @@ fn mix(seed: u64, set: &[u64]) -> u64
 
 // Whether a slot has a set.
 fn same_at(memory: &[u64], h: usize, set: &[u64]) -> bool
-    requires { ⌜ (h < SLOTS) × (length (now memory) ≡ SLOTS * WORDS) ⌝ }
-    ensures { λ r. ⌜ (So r → slotOf (now (memory .entry)) h ≡ now (set .entry)) ⌝ }
+    requires { ⌜ (h < LISTS) × (length (now memory) ≡ LISTS * WORDS) ⌝ }
+    ensures { λ r. ⌜ (So r → listSlot (now (memory .entry)) h ≡ now (set .entry)) ⌝ }
 {
     let from = h * rows::WORDS;
     let to = from + rows::WORDS;
@@ -123,7 +123,7 @@ fn same_at(memory: &[u64], h: usize, set: &[u64]) -> bool
 
 // Puts a set into a slot.
 fn put_at(memory: &mut [u64], h: usize, set: &[u64])
-    requires { ⌜ (h < SLOTS) × (length (now memory) ≡ SLOTS * WORDS) × (length (now set) ≡ WORDS) ⌝ }
+    requires { ⌜ (h < LISTS) × (length (now memory) ≡ LISTS * WORDS) × (length (now set) ≡ WORDS) ⌝ }
     ensures { λ r. ⌜ Put (now (memory .entry)) h (now (set .entry)) (now (memory .exit)) ⌝ }
 {
     let from = h * rows::WORDS;
@@ -161,8 +161,8 @@ pub(crate) fn count(
     serves: &mut [u64],
     counts: &mut [u64],
 ) -> Walked
-    requires { ⌜ Room (tables n total (now operations) (now reads) (now partners) (now own) (now fed) (now rivals)) k (now list) (now placed) (now served) (now sets) (now serves) (now counts) ⌝ }
-    ensures { λ r. ⌜ Counts (tables n total (now (operations .entry)) (now (reads .entry)) (now (partners .entry)) (now (own .entry)) (now (fed .entry)) (now (rivals .entry))) (now (list .entry)) k (now (placed .entry)) (now (served .entry)) left (now (sets .entry)) (now (serves .entry)) (now (counts .entry)) (now (list .exit)) (now (sets .exit)) (now (serves .exit)) (now (counts .exit)) r ⌝ }
+    requires { ⌜ CountingRoom (countingTables n total (now operations) (now reads) (now partners) (now own) (now fed) (now rivals)) k (now list) (now placed) (now served) (now sets) (now serves) (now counts) ⌝ }
+    ensures { λ r. ⌜ Counts (countingTables n total (now (operations .entry)) (now (reads .entry)) (now (partners .entry)) (now (own .entry)) (now (fed .entry)) (now (rivals .entry))) (now (list .entry)) k (now (placed .entry)) (now (served .entry)) left (now (sets .entry)) (now (serves .entry)) (now (counts .entry)) (now (list .exit)) (now (sets .exit)) (now (serves .exit)) (now (counts .exit)) r ⌝ }
 {
     if k == total {
         return Walked::Order(0);

@@ -6,9 +6,9 @@ ghost use Prim.Native.Nat.{_+_, _≤_, _<_};
 ghost use lib.ListN.{length};
 ghost use Rattle.trace.specs.Bounds.{RECORDS, VALUES};
 ghost use Rattle.text.specs.Room.{hasRoom, putAt};
-ghost use Rattle.desk.specs.Answers.{NO-ROOM};
-ghost use Rattle.desk.specs.Verdict.{wide};
-ghost use Rattle.desk.specs.Cuts.{LEFT, smallerNumber, heading, leftBytes, Answered};
+ghost use Rattle.desk.specs.AnswerNumbers.{NO-ROOM};
+ghost use Rattle.desk.specs.VerdictBytes.{wide};
+ghost use Rattle.desk.specs.Cuts.{LEFT, smallerNumber, heading, leftBytes, CutAnswered};
 use crate::answers::CUT;
 use crate::answers::NO_ROOM;
 use crate::answers::NOTHING_WRONG;
@@ -86,7 +86,7 @@ fn hand_over(s: Smaller, out: &mut [u8]) -> u8
 // These stay as they were where the text is turned back, where there is no such model, and where they are too short, told in this order.
 #[no_mangle]
 pub extern "C" fn wheelotter_smaller(text: &[u8], model: u8, out: &mut [u8]) -> u8
-    ensures { λ r. ⌜ Answered (now (text .entry)) model (now (out .entry)) (now (out .exit)) r ⌝ }
+    ensures { λ r. ⌜ CutAnswered (now (text .entry)) model (now (out .entry)) (now (out .exit)) r ⌝ }
 {
     let reading = read_whole(text);
     let answer = reading.answer;

@@ -7,8 +7,8 @@ ghost use Rattle.packed.specs.Entry.{opIn};
 ghost use Rattle.session.specs.Closings.{Closings};
 ghost use Rattle.session.specs.Session.{Intact};
 ghost use Rattle.session.specs.Entries.{addOf};
-ghost use Rattle.desk.specs.Head.{bytesOf};
-ghost use Rattle.desk.specs.Acts.{codeOf};
+ghost use Rattle.desk.specs.SessionHead.{sessionBytes};
+ghost use Rattle.desk.specs.SessionCalls.{codeOf};
 ghost use Rattle.desk.specs.Grown.{addAnswer, addBytes, recordIn, waitingAnswer, waitingBytes};
 use crate::answers::NO_ROOM;
 use crate::runs::PLACE;
@@ -32,7 +32,7 @@ const NO_ENTRY: u8 = 20;
 // A record more on an intact session: its bytes laid down where it is taken, and the answer.
 fn taken(s: Session, op: Op, session: &mut [u8]) -> u8
     requires { ⌜ ((C : Closings) → Intact C s) ⌝ }
-    ensures { λ r. ⌜ ((C : Closings) → (r ≡ codeOf (addOf C s op .answer)) × (now (session .exit) ≡ cond (eqb (codeOf (addOf C s op .answer)) 0) (putAt (bytesOf (addOf C s op .session)) (now (session .entry)) 0) (now (session .entry)))) ⌝ }
+    ensures { λ r. ⌜ ((C : Closings) → (r ≡ codeOf (addOf C s op .answer)) × (now (session .exit) ≡ cond (eqb (codeOf (addOf C s op .answer)) 0) (putAt (sessionBytes (addOf C s op .session)) (now (session .entry)) 0) (now (session .entry)))) ⌝ }
 {
     let reply = add(s, op);
     let answer = reply.answer;

@@ -6,11 +6,11 @@ ghost use mathlib.Core.List.{_++_};
 ghost use Prim.Native.Nat.{_+_, _*_, _<_, _≤_};
 ghost use lib.ListN.{length, take, drop};
 ghost use Rattle.laws.specs.Sums.{num};
-ghost use Rattle.laws.specs.Warshall.{row};
+ghost use Rattle.laws.specs.ListOf.{row};
 ghost use Rattle.session.specs.Bounds.{PAIRS};
 ghost use Rattle.rows.specs.Bounds.{CELLS};
-ghost use Rattle.desk.specs.Head.{Fit, FRONT, TABLE, HEAD, numberAt, pairByte, frontAt, byteOf, tableAt, headOf};
-ghost use Rattle.desk.specs.Kept.{twoIn, stackIn};
+ghost use Rattle.desk.specs.SessionHead.{Fit, FRONT, TABLE, SESSION-HEAD, pairNumber, pairByte, frontAt, byteOf, tableAt, sessionHead};
+ghost use Rattle.desk.specs.SessionBytes.{twoBytesIn, stackIn};
 use session::PAIRS;
 use session::Pair;
 use session::Session;
@@ -49,7 +49,7 @@ fn mark(b: bool) -> u8
 // Number j of a session's pairs.
 fn numbered(s: Session, j: usize) -> usize
     requires { ⌜ j < 2 * PAIRS ⌝ }
-    ensures { λ r. ⌜ r ≡ numberAt (s .stack) j ⌝ }
+    ensures { λ r. ⌜ r ≡ pairNumber (s .stack) j ⌝ }
 {
     let k = s.stack;
     let p = k.pairs[j / 2];
@@ -124,8 +124,8 @@ fn lay_table(held: &[u64], out: &mut [u8])
 
 // Lays the head of a session down; what stands behind it stays.
 pub(crate) fn lay(s: Session, out: &mut [u8])
-    requires { ⌜ Fit s × (HEAD ≤ length (now out)) ⌝ }
-    ensures { λ r. ⌜ now (out .exit) ≡ headOf s ++ drop HEAD (now (out .entry)) ⌝ }
+    requires { ⌜ Fit s × (SESSION-HEAD ≤ length (now out)) ⌝ }
+    ensures { λ r. ⌜ now (out .exit) ≡ sessionHead s ++ drop SESSION-HEAD (now (out .entry)) ⌝ }
 {
     lay_front(s, out);
     let held = s.held;
@@ -135,7 +135,7 @@ pub(crate) fn lay(s: Session, out: &mut [u8])
 // The number that two bytes make, the lower first.
 fn two(bytes: &[u8], at: usize) -> usize
     requires { ⌜ at + 1 < length (now bytes) ⌝ }
-    ensures { λ r. ⌜ r ≡ twoIn (now (bytes .entry)) at ⌝ }
+    ensures { λ r. ⌜ r ≡ twoBytesIn (now (bytes .entry)) at ⌝ }
 {
     let low = wide(bytes[at]);
     let high = wide(bytes[at + 1]);
@@ -144,7 +144,7 @@ fn two(bytes: &[u8], at: usize) -> usize
 
 // The pairs that the bytes of a session name.
 pub(crate) fn stack_in(bytes: &[u8]) -> Stack
-    requires { ⌜ HEAD ≤ length (now bytes) ⌝ }
+    requires { ⌜ SESSION-HEAD ≤ length (now bytes) ⌝ }
     ensures { λ r. ⌜ r ≡ stackIn (now (bytes .entry)) ⌝ }
 {
     let mut pairs = [Pair {
@@ -182,8 +182,8 @@ fn same(a: &[u8], b: &[u8]) -> bool
 
 // Whether bytes begin with the head of a session.
 pub(crate) fn agrees(s: Session, bytes: &[u8]) -> bool
-    requires { ⌜ Fit s × (HEAD ≤ length (now bytes)) ⌝ }
-    ensures { λ r. ⌜ So r ↔ (headOf s ≡ take HEAD (now (bytes .entry))) ⌝ }
+    requires { ⌜ Fit s × (SESSION-HEAD ≤ length (now bytes)) ⌝ }
+    ensures { λ r. ⌜ So r ↔ (sessionHead s ≡ take SESSION-HEAD (now (bytes .entry))) ⌝ }
 {
     let mut due = [0u8; HEAD];
     lay(s, &mut due);

@@ -1,6 +1,6 @@
 // What the judge says of a proposed list, over the trace that a text writes.
 ghost use mathlib.Core.Path.{_≡_};
-ghost use Rattle.desk.specs.Judged.{judgementNumber, concerns, second, Judged};
+ghost use Rattle.desk.specs.JudgeCall.{judgementNumber, concerns, second, Judged};
 use crate::answers::BAD_NUMBER;
 use crate::answers::NO_ROOM;
 use crate::answers::OUT_OF_TURN;
@@ -10,8 +10,8 @@ use crate::answers::WRONG_LENGTH;
 use crate::answers::WRONG_VALUE;
 use crate::texts::number_in;
 use crate::verdicts::put_wide;
-use orders::judging::Judgement;
-use orders::judging::judge;
+use judge::judging::Judgement;
+use judge::judging::judge;
 use pairs::modelled;
 use reader::read_whole;
 

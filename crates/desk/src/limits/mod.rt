@@ -3,8 +3,8 @@ ghost use mathlib.Core.Path.{_≡_};
 ghost use Prim.Native.Nat.{_≤_};
 ghost use lib.ListN.{length};
 ghost use Rattle.text.specs.Room.{putAt};
-ghost use Rattle.desk.specs.Verdict.{VERDICT};
-ghost use Rattle.desk.specs.Limits.{LIMITED, eight, limitNumber, shownAs, shown, Answered};
+ghost use Rattle.desk.specs.VerdictBytes.{VERDICT};
+ghost use Rattle.desk.specs.Limits.{LIMITED, eight, limitNumber, shownAs, shown, LimitAnswered};
 use crate::answers::NO_ROOM;
 use crate::answers::UNDECIDED;
 use crate::texts::number_in;
@@ -77,7 +77,7 @@ fn lay_steps(steps: u64, out: &mut [u8])
 // stays as it was where the text is turned back, where there is no such model, and where the buffer is too short, told in this order.
 #[no_mangle]
 pub extern "C" fn wheelotter_limited(text: &[u8], model: u8, limit: u64, out: &mut [u8]) -> u8
-    ensures { λ r. ⌜ Answered (now (text .entry)) model limit (now (out .entry)) (now (out .exit)) r ⌝ }
+    ensures { λ r. ⌜ LimitAnswered (now (text .entry)) model limit (now (out .entry)) (now (out .exit)) r ⌝ }
 {
     let reading = read_whole(text);
     let answer = reading.answer;

@@ -7,8 +7,8 @@ ghost use Rattle.trace.specs.WellFormed.{wellFormed};
 ghost use Rattle.reader.specs.Bounds.{TEXT};
 ghost use Rattle.reader.specs.TextOf.{renderTrace};
 ghost use Rattle.packed.specs.Layout.{fileOf};
-ghost use Rattle.desk.specs.Text.{numberOf};
-ghost use Rattle.desk.specs.Packs.{FILE, Laid, lengthIn, answerFor, bytesFor, wholeNumber, wholeLine, packOf, unpackOf};
+ghost use Rattle.desk.specs.Text.{textNumber};
+ghost use Rattle.desk.specs.Packs.{FILE, LaidBytes, lengthIn, answerFor, bytesFor, wholeNumber, wholeLine, textPacked, fileUnpacked};
 use crate::answers::NO_ROOM;
 use crate::files;
 use crate::texts::number_in;
@@ -57,7 +57,7 @@ fn length_in(wrote: Wrote) -> usize
 // The file of a well formed trace at the front of bytes that have room for any, and how many bytes it has.
 fn lay_file(t: Trace, out: &mut [u8]) -> usize
     requires { ⌜ So (wellFormed t) × (FILE ≤ length (now out)) ⌝ }
-    ensures { λ r. ⌜ Laid (fileOf t) FILE (now (out .exit)) r ⌝ }
+    ensures { λ r. ⌜ LaidBytes (fileOf t) FILE (now (out .exit)) r ⌝ }
 {
     let wrote = write(t, out);
     length_in(wrote)
@@ -66,7 +66,7 @@ fn lay_file(t: Trace, out: &mut [u8]) -> usize
 // The text of a well formed trace at the front of bytes that have room for any, and how many bytes it has.
 fn lay_text(t: Trace, out: &mut [u8]) -> usize
     requires { ⌜ So (wellFormed t) × (TEXT ≤ length (now out)) ⌝ }
-    ensures { λ r. ⌜ Laid (renderTrace t) TEXT (now (out .exit)) r ⌝ }
+    ensures { λ r. ⌜ LaidBytes (renderTrace t) TEXT (now (out .exit)) r ⌝ }
 {
     render(t, out)
 }
@@ -75,7 +75,7 @@ fn lay_text(t: Trace, out: &mut [u8]) -> usize
 // room, and the buffer as it was.
 #[no_mangle]
 pub extern "C" fn wheelotter_pack(text: &[u8], out: &mut [u8]) -> u8
-    ensures { λ r. ⌜ (r ≡ answerFor (numberOf (now (text .entry))) (packOf (now (text .entry))) (now (out .entry))) × (now (out .exit) ≡ bytesFor (numberOf (now (text .entry))) (packOf (now (text .entry))) (now (out .entry))) ⌝ }
+    ensures { λ r. ⌜ (r ≡ answerFor (textNumber (now (text .entry))) (textPacked (now (text .entry))) (now (out .entry))) × (now (out .exit) ≡ bytesFor (textNumber (now (text .entry))) (textPacked (now (text .entry))) (now (out .entry))) ⌝ }
 {
     let reading = read_whole(text);
     let answer = reading.answer;
@@ -92,7 +92,7 @@ pub extern "C" fn wheelotter_pack(text: &[u8], out: &mut [u8]) -> u8
 // room, and the buffer as it was.
 #[no_mangle]
 pub extern "C" fn wheelotter_unpack(file: &[u8], out: &mut [u8]) -> u8
-    ensures { λ r. ⌜ (r ≡ answerFor (wholeNumber (now (file .entry))) (unpackOf (now (file .entry))) (now (out .entry))) × (now (out .exit) ≡ bytesFor (wholeNumber (now (file .entry))) (unpackOf (now (file .entry))) (now (out .entry))) ⌝ }
+    ensures { λ r. ⌜ (r ≡ answerFor (wholeNumber (now (file .entry))) (fileUnpacked (now (file .entry))) (now (out .entry))) × (now (out .exit) ≡ bytesFor (wholeNumber (now (file .entry))) (fileUnpacked (now (file .entry))) (now (out .entry))) ⌝ }
 {
     let reading = unpacking::read_whole(file);
     let answer = reading.answer;

@@ -1,6 +1,6 @@
 // The small reader of papers, over the trace that a text writes.
 ghost use mathlib.Core.Path.{_≡_};
-ghost use Rattle.desk.specs.Paper.{acceptanceNumber, Papered};
+ghost use Rattle.desk.specs.PaperCall.{acceptanceNumber, Papered};
 use crate::answers::ACCEPTED;
 use crate::answers::NOT_ACCEPTED;
 use crate::texts::number_in;

@@ -3,9 +3,9 @@ ghost use mathlib.Core.Path.{_≡_};
 ghost use mathlib.Core.List.{_++_};
 ghost use Prim.Native.Nat.{_≤_};
 ghost use lib.ListN.{length, drop};
-ghost use Rattle.machine.specs.Machine.{placeOf};
+ghost use Rattle.machine.specs.Machine.{stuckAt};
 ghost use Rattle.machine.specs.Replay.{STEPS};
-ghost use Rattle.desk.specs.Runs.{REPLAY, throughNumber, ranNumber, givenNumber, spread, Run, Replayed};
+ghost use Rattle.desk.specs.Runs.{REPLAY, throughNumber, ranNumber, givenNumber, spread, RunAnswered, Replayed};
 use crate::answers::NO_ORDER;
 use crate::answers::NO_ROOM;
 use crate::answers::NOT_THROUGH;
@@ -54,7 +54,7 @@ fn ran_number(ran: Ran) -> u8
 
 // The place that comes with the end of a run.
 fn place_of(ran: Ran) -> usize
-    ensures { λ r. ⌜ r ≡ placeOf ran ⌝ }
+    ensures { λ r. ⌜ r ≡ stuckAt ran ⌝ }
 {
     match ran {
         Ran::Stuck(i) => i,
@@ -80,7 +80,7 @@ fn given_number(given: Given) -> u8
 // where the text is turned back, where the model has no machine, and where it is too short, told in this order.
 #[no_mangle]
 pub extern "C" fn wheelotter_run(text: &[u8], model: u8, steps: &[u8], out: &mut [u8]) -> u8
-    ensures { λ r. ⌜ Run (now (text .entry)) model (now (steps .entry)) (now (out .entry)) (now (out .exit)) r ⌝ }
+    ensures { λ r. ⌜ RunAnswered (now (text .entry)) model (now (steps .entry)) (now (out .entry)) (now (out .exit)) r ⌝ }
 {
     let reading = read_whole(text);
     let answer = reading.answer;

@@ -11,12 +11,12 @@ ghost use Rattle.reader.specs.Whole.{readWhole};
 ghost use Rattle.session.specs.Closings.{Closings};
 ghost use Rattle.session.specs.Session.{blank};
 ghost use Rattle.session.specs.Numbers.{reasonNumber, supposes, takesBack, asks};
-ghost use Rattle.desk.specs.Text.{numberOf};
+ghost use Rattle.desk.specs.Text.{textNumber};
 ghost use Rattle.desk.specs.Packs.{wholeNumber, wholeTrace};
-ghost use Rattle.desk.specs.Head.{Fit, HEAD, headOf, bytesOf};
-ghost use Rattle.desk.specs.Kept.{keptOf};
-ghost use Rattle.desk.specs.Acts.{codeOf, answerIn, bytesIn};
-ghost use Rattle.desk.specs.Opened.{openNumber, openSession, openAnswer, openBytes};
+ghost use Rattle.desk.specs.SessionHead.{Fit, SESSION-HEAD, sessionHead, sessionBytes};
+ghost use Rattle.desk.specs.SessionBytes.{sessionOf};
+ghost use Rattle.desk.specs.SessionCalls.{codeOf, answerIn, bytesIn};
+ghost use Rattle.desk.specs.OpenedBytes.{openNumber, openSession, openAnswer, openBytes};
 use crate::answers::CONTRADICTED;
 use crate::answers::HELD;
 use crate::answers::NO_ROOM;
@@ -113,7 +113,7 @@ fn unlike() -> Lent
 
 // The session that lent bytes are, made afresh from their file, their model and their pairs, and held against them.
 pub(crate) fn kept(bytes: &[u8]) -> Lent
-    ensures { λ r. ⌜ ((C : Closings) → r ≡ keptOf C (now (bytes .entry))) ⌝ }
+    ensures { λ r. ⌜ ((C : Closings) → r ≡ sessionOf C (now (bytes .entry))) ⌝ }
 {
     if bytes.len() < HEAD {
         return unlike();
@@ -140,8 +140,8 @@ pub(crate) fn kept(bytes: &[u8]) -> Lent
 
 // The session after a call, laid over the one before it, and the answer.
 fn leave(reply: Reply, session: &mut [u8]) -> u8
-    requires { ⌜ Fit (reply .session) × (HEAD ≤ length (now session)) ⌝ }
-    ensures { λ r. ⌜ (r ≡ codeOf (reply .answer)) × (now (session .exit) ≡ headOf (reply .session) ++ drop HEAD (now (session .entry))) ⌝ }
+    requires { ⌜ Fit (reply .session) × (SESSION-HEAD ≤ length (now session)) ⌝ }
+    ensures { λ r. ⌜ (r ≡ codeOf (reply .answer)) × (now (session .exit) ≡ sessionHead (reply .session) ++ drop SESSION-HEAD (now (session .entry))) ⌝ }
 {
     lay(reply.session, session);
     let answer = reply.answer;
@@ -168,7 +168,7 @@ fn opening(number: u8, t: Trace, model: u8) -> Opened
 // A session's bytes at the front of lent bytes, where there is room for them, and whether there is.
 pub(crate) fn placed(s: Session, out: &mut [u8]) -> bool
     requires { ⌜ Fit s ⌝ }
-    ensures { λ r. ⌜ (r ≡ leb (length (bytesOf s)) (length (now (out .entry)))) × (now (out .exit) ≡ putAt (bytesOf s) (now (out .entry)) 0) ⌝ }
+    ensures { λ r. ⌜ (r ≡ leb (length (sessionBytes s)) (length (now (out .entry)))) × (now (out .exit) ≡ putAt (sessionBytes s) (now (out .entry)) 0) ⌝ }
 {
     if out.len() < HEAD {
         return false;
@@ -204,7 +204,7 @@ fn open_on(number: u8, t: Trace, model: u8, session: &mut [u8]) -> u8
 // of the empty trace under model 1. All other bytes stay.
 #[no_mangle]
 pub extern "C" fn wheelotter_open(text: &[u8], model: u8, session: &mut [u8]) -> u8
-    ensures { λ r. ⌜ (r ≡ openAnswer (numberOf (now (text .entry))) (readWhole (now (text .entry)) .trace) model (now (session .entry))) × ((C : Closings) → now (session .exit) ≡ openBytes C (numberOf (now (text .entry))) (readWhole (now (text .entry)) .trace) model (now (session .entry))) ⌝ }
+    ensures { λ r. ⌜ (r ≡ openAnswer (textNumber (now (text .entry))) (readWhole (now (text .entry)) .trace) model (now (session .entry))) × ((C : Closings) → now (session .exit) ≡ openBytes C (textNumber (now (text .entry))) (readWhole (now (text .entry)) .trace) model (now (session .entry))) ⌝ }
 {
     let reading = read_whole(text);
     let told = reading.answer;

@@ -2,7 +2,7 @@
 ghost use mathlib.Core.Path.{_≡_};
 ghost use Prim.Native.Nat.{_<_};
 ghost use lib.ListN.{length};
-ghost use Rattle.desk.specs.Signed.{withPlace, codeOf, wordsTold, loadsTold, packCode, packAfter, unpackCode, unpackAfter};
+ghost use Rattle.desk.specs.Signed.{withPlace, signedCode, wordsTold, loadsTold, packCode, packAfter, unpackCode, unpackAfter};
 use crate::texts::number_in;
 use reader::read_whole;
 use signature::Answer;
@@ -25,7 +25,7 @@ pub(crate) fn with_place(number: usize, place: usize) -> usize
 
 // An answer in one number: 0, or the documents' number, and above it the record or the word.
 fn code(answer: Answer) -> usize
-    ensures { λ r. ⌜ r ≡ codeOf answer ⌝ }
+    ensures { λ r. ⌜ r ≡ signedCode answer ⌝ }
 {
     match answer {
         Answer::Done => 0,

@@ -1,8 +1,8 @@
 // What is said of a text: the whole answer, and what is wrong with it.
 ghost use mathlib.Core.Path.{_≡_};
 ghost use Rattle.report.specs.Wrote.{Reported};
-ghost use Rattle.reader.specs.Part.{lineIn, lineOf, startOf, endOf};
-ghost use Rattle.desk.specs.Text.{numberIn, numberOf};
+ghost use Rattle.reader.specs.BadLine.{lineIn, badLineNumber, startOf, endOf};
+ghost use Rattle.desk.specs.Text.{numberIn, textNumber};
 use reader::Answer;
 use reader::LOST;
 use reader::bad_place;
@@ -43,7 +43,7 @@ fn line_in(a: Answer) -> usize
 // The documents' number of what is wrong with a text, 1 to 8, 17 or 22; 0 for a good one.
 #[no_mangle]
 pub extern "C" fn wheelotter_number(text: &[u8]) -> u8
-    ensures { λ r. ⌜ r ≡ numberOf (now (text .entry)) ⌝ }
+    ensures { λ r. ⌜ r ≡ textNumber (now (text .entry)) ⌝ }
 {
     let reading = read_whole(text);
     let answer = reading.answer;
@@ -53,7 +53,7 @@ pub extern "C" fn wheelotter_number(text: &[u8]) -> u8
 // The line that a text is turned back for, counted from 1; 0 where no line is to blame.
 #[no_mangle]
 pub extern "C" fn wheelotter_line(text: &[u8]) -> usize
-    ensures { λ r. ⌜ r ≡ lineOf (now (text .entry)) ⌝ }
+    ensures { λ r. ⌜ r ≡ badLineNumber (now (text .entry)) ⌝ }
 {
     let reading = read(text);
     let answer = reading.answer;

@@ -4,10 +4,10 @@ ghost use mathlib.Core.List.{_++_};
 ghost use Prim.Native.Nat.{_+_, _*_, _≤_, _<_};
 ghost use lib.ListN.{length, drop};
 ghost use Rattle.trace.specs.Bounds.{RECORDS};
-ghost use Rattle.desk.specs.Answers.{outcomeNumber};
+ghost use Rattle.desk.specs.AnswerNumbers.{outcomeNumber};
 ghost use Rattle.text.specs.Room.{putAt};
-ghost use Rattle.desk.specs.Verdict.{VERDICT, wide, Answered};
-ghost use Rattle.desk.specs.Spelled.{lacking, spelled, laidOut};
+ghost use Rattle.desk.specs.VerdictBytes.{VERDICT, wide, VerdictAnswered};
+ghost use Rattle.desk.specs.inner.SpelledVerdict.{lacking, spelled, laidOut};
 use crate::answers::CIRCLE;
 use crate::answers::NO_ROOM;
 use crate::answers::NONE_LEFT;
@@ -97,7 +97,7 @@ pub(crate) fn lay(v: Verdict, out: &mut [u8])
 // text is turned back, where there is no such model, and where the buffer is too short, told in this order.
 #[no_mangle]
 pub extern "C" fn wheelotter_verdict(text: &[u8], model: u8, out: &mut [u8]) -> u8
-    ensures { λ r. ⌜ Answered (now (text .entry)) model (now (out .entry)) (now (out .exit)) r ⌝ }
+    ensures { λ r. ⌜ VerdictAnswered (now (text .entry)) model (now (out .entry)) (now (out .exit)) r ⌝ }
 {
     let reading = read_whole(text);
     let answer = reading.answer;

@@ -9,17 +9,18 @@ ghost use Rattle.trace.specs.WellFormed.{wellFormed};
 ghost use Rattle.trace.specs.Meaning.{frameOf};
 ghost use Rattle.rows.specs.Bounds.{CELLS};
 ghost use Rattle.rows.specs.Rows.{Edges};
-ghost use Rattle.rules.specs.Tests.{writer?};
+ghost use Rattle.rules.specs.RuleTests.{writer?};
 ghost use Rattle.pairs.specs.Kept.{keptOf};
 ghost use Rattle.edges.specs.Supposed.{supposedOf};
-ghost use Rattle.edges.specs.Adds.{Adds, Only, Union, Cover};
-ghost use Rattle.rules.specs.SourceOf.{sourceOf};
-ghost use Rattle.edges.specs.Drawn.{paired, Stored, Valued, ValuedFor, Settled, SettledBy, SettledFor, Loaded};
-ghost use Rattle.edges.specs.Turns.{Begun, Closed, Advanced};
-ghost use Rattle.edges.specs.Ended.{Ends};
-ghost use Rattle.edges.specs.Settling.{Grew};
-ghost use Rattle.edges.specs.Takes.{Lead, Takes, Pair, Sourced, Written, Noted};
-ghost use Rattle.edges.specs.Answers.{Rounded, Forces};
+ghost use Rattle.edges.specs.inner.PairSets.{Only, Union, Cover};
+ghost use Rattle.rows.specs.inner.AddedPairs.{Added};
+ghost use Rattle.pairs.specs.SourceOf.{sourceOf};
+ghost use Rattle.edges.specs.inner.DrawnEdges.{paired, Stored, Valued, ValuedFor, Settled, SettledBy, SettledFor, Loaded};
+ghost use Rattle.edges.specs.inner.RoundStep.{FirstRound, Closed, Advanced};
+ghost use Rattle.edges.specs.LastRound.{Ends};
+ghost use Rattle.edges.specs.inner.Settling.{Grew};
+ghost use Rattle.edges.specs.inner.Takes.{Lead, Takes, AskPair, AskSourced, AskWritten, AskNoted};
+ghost use Rattle.edges.specs.ForcedPairs.{Rounded, Forces};
 use crate::Forced;
 use pairs::kept_pair;
 use pairs::modelled;
@@ -47,7 +48,7 @@ pub struct Round {
 // Draws rule 1 from record x: only to later records of its own thread, past the fences of that thread.
 fn draw_kept_from(t: Trace, model: u8, x: usize, edges: &mut [u64])
     requires { ⌜ (x < t .len) × (t .len ≤ RECORDS) × (length (now edges) ≡ CELLS) ⌝ }
-    ensures { λ r. ⌜ Adds (now (edges .entry)) (Union (t .len) (λ y. Only (keptOf model t x y) x y)) (now (edges .exit)) ⌝ }
+    ensures { λ r. ⌜ Added (now (edges .entry)) (Union (t .len) (λ y. Only (keptOf model t x y) x y)) (now (edges .exit)) ⌝ }
 {
     let n = t.len;
     let record = t.records[x];
@@ -69,7 +70,7 @@ fn draw_kept_from(t: Trace, model: u8, x: usize, edges: &mut [u64])
 // Draws rule 8 from record x; where nothing is supposed of x there is nothing to look at.
 fn draw_supposed_from(t: Trace, supposed: &[u64], x: usize, edges: &mut [u64])
     requires { ⌜ (x < t .len) × (t .len ≤ RECORDS) × (length (now edges) ≡ CELLS) ⌝ }
-    ensures { λ r. ⌜ Adds (now (edges .entry)) (Union (t .len) (λ y. Only (supposedOf t (now (supposed .entry)) x y) x y)) (now (edges .exit)) ⌝ }
+    ensures { λ r. ⌜ Added (now (edges .entry)) (Union (t .len) (λ y. Only (supposedOf t (now (supposed .entry)) x y) x y)) (now (edges .exit)) ⌝ }
 {
     if rows::within(supposed, x, &[0u64; rows::WORDS], 0) {
         return;
@@ -90,7 +91,7 @@ fn draw_supposed_from(t: Trace, supposed: &[u64], x: usize, edges: &mut [u64])
 // Draws rules 1 and 8.
 fn draw_pairs(t: Trace, model: u8, supposed: &[u64], edges: &mut [u64])
     requires { ⌜ (t .len ≤ RECORDS) × (length (now edges) ≡ CELLS) ⌝ }
-    ensures { λ r. ⌜ Adds (now (edges .entry)) (Cover (t .len) (λ x y. Only (paired model t (now (supposed .entry)) x y) x y)) (now (edges .exit)) ⌝ }
+    ensures { λ r. ⌜ Added (now (edges .entry)) (Cover (t .len) (λ x y. Only (paired model t (now (supposed .entry)) x y) x y)) (now (edges .exit)) ⌝ }
 {
     let n = t.len;
     let mut x: usize = 0;
@@ -105,7 +106,7 @@ fn draw_pairs(t: Trace, model: u8, supposed: &[u64], edges: &mut [u64])
 // load reads the first value of the address.
 fn draw_value(earlier: bool, early: bool, source: usize, x: usize, load: usize, edges: &mut [u64])
     requires { ⌜ (x < RECORDS) × (load < RECORDS) × (length (now edges) ≡ CELLS) ⌝ }
-    ensures { λ r. ⌜ Adds (now (edges .entry)) (Valued earlier early source x load) (now (edges .exit)) ⌝ }
+    ensures { λ r. ⌜ Added (now (edges .entry)) (Valued earlier early source x load) (now (edges .exit)) ⌝ }
 {
     rows::put_if(edges, (x == source) & !earlier, x, load);
     let other = (source < RECORDS) & (x != source);
@@ -117,7 +118,7 @@ fn draw_value(earlier: bool, early: bool, source: usize, x: usize, load: usize, 
 // Notes who writes which address: a row for each.
 fn note_stores(t: Trace, stores: &mut [u64])
     requires { ⌜ (t .len ≤ RECORDS) × (length (now stores) ≡ CELLS) ⌝ }
-    ensures { λ r. ⌜ Adds (now (stores .entry)) (Union (t .len) (λ x. Only (frameOf t .writes x) (frameOf t .address x) x)) (now (stores .exit)) ⌝ }
+    ensures { λ r. ⌜ Added (now (stores .entry)) (Union (t .len) (λ x. Only (frameOf t .writes x) (frameOf t .address x) x)) (now (stores .exit)) ⌝ }
 {
     let n = t.len;
     let mut x: usize = 0;
@@ -142,8 +143,8 @@ fn draw_values_for(
     requires { ⌜ (load < t .len) × (t .len ≤ RECORDS) × (source ≡ sourceOf (frameOf t) load) ⌝ }
     requires { ⌜ Stored (frameOf t) (now stores) (frameOf t .address load) ⌝ }
     requires { ⌜ (length (now writers) ≡ CELLS) × (length (now edges) ≡ CELLS) ⌝ }
-    ensures { λ r. ⌜ Adds (now (writers .entry)) (Union (t .len) (λ x. Only (writer? (frameOf t) x load) load x)) (now (writers .exit)) ⌝ }
-    ensures { λ r. ⌜ Adds (now (edges .entry)) (Union (t .len) (ValuedFor (frameOf t) load)) (now (edges .exit)) ⌝ }
+    ensures { λ r. ⌜ Added (now (writers .entry)) (Union (t .len) (λ x. Only (writer? (frameOf t) x load) load x)) (now (writers .exit)) ⌝ }
+    ensures { λ r. ⌜ Added (now (edges .entry)) (Union (t .len) (ValuedFor (frameOf t) load)) (now (edges .exit)) ⌝ }
 {
     let n = t.len;
     let record = t.records[load];
@@ -188,7 +189,7 @@ fn draw_values(t: Trace, sources: &mut [usize], writers: &mut [u64], edges: &mut
 // Draws what x, a writer of a load's address other than the load's source, gives by rules 6 and 7.
 fn draw_settled_by(chains: &[u64], source: usize, load: usize, x: usize, edges: &mut [u64])
     requires { ⌜ (x < RECORDS) × (source < RECORDS) × (load < RECORDS) × (length (now edges) ≡ CELLS) ⌝ }
-    ensures { λ r. ⌜ Adds (now (edges .entry)) (Settled (now (chains .entry)) source load x) (now (edges .exit)) ⌝ }
+    ensures { λ r. ⌜ Added (now (edges .entry)) (Settled (now (chains .entry)) source load x) (now (edges .exit)) ⌝ }
 {
     rows::put_if(edges, rows::test(chains, x, load), x, source);
     rows::put_if(edges, rows::test(chains, source, x), load, x);
@@ -204,7 +205,7 @@ fn draw_settled_for(
     edges: &mut [u64],
 )
     requires { ⌜ (n ≤ RECORDS) × (source < RECORDS) × (load < RECORDS) × (length (now edges) ≡ CELLS) ⌝ }
-    ensures { λ r. ⌜ Adds (now (edges .entry)) (Union n (SettledBy (now (writers .entry)) (now (chains .entry)) source load)) (now (edges .exit)) ⌝ }
+    ensures { λ r. ⌜ Added (now (edges .entry)) (Union n (SettledBy (now (writers .entry)) (now (chains .entry)) source load)) (now (edges .exit)) ⌝ }
 {
     let mut x = rows::next(writers, load, 0);
     while x < n {
@@ -218,7 +219,7 @@ fn draw_settled_for(
 // Draws rules 6 and 7 from the chains of a round.
 fn draw_settled(n: usize, sources: &[usize], writers: &[u64], chains: &[u64], edges: &mut [u64])
     requires { ⌜ (n ≤ RECORDS) × (length (now sources) ≡ RECORDS) × (length (now edges) ≡ CELLS) ⌝ }
-    ensures { λ r. ⌜ Adds (now (edges .entry)) (Union n (SettledFor n (now (sources .entry)) (now (writers .entry)) (now (chains .entry)))) (now (edges .exit)) ⌝ }
+    ensures { λ r. ⌜ Added (now (edges .entry)) (Union n (SettledFor n (now (sources .entry)) (now (writers .entry)) (now (chains .entry)))) (now (edges .exit)) ⌝ }
 {
     let mut load: usize = 0;
     while load < n {
@@ -233,7 +234,7 @@ fn draw_settled(n: usize, sources: &[usize], writers: &[u64], chains: &[u64], ed
 // Adds the pair a, b, and all that it then joins, to the rows below n: a relation that is closed under chains stays so.
 fn span(n: usize, edges: &mut [u64], a: usize, b: usize)
     requires { ⌜ (n ≤ RECORDS) × (b < RECORDS) × (length (now edges) ≡ CELLS) ⌝ }
-    ensures { λ r. ⌜ Adds (now (edges .entry)) (Union n (Lead (Edges (now (edges .entry))) a b)) (now (edges .exit)) ⌝ }
+    ensures { λ r. ⌜ Added (now (edges .entry)) (Union n (Lead (Edges (now (edges .entry))) a b)) (now (edges .exit)) ⌝ }
 {
     let mut row = [0u64; rows::WORDS];
     rows::add_row(edges, b, &mut row, 0);
@@ -250,7 +251,7 @@ fn span(n: usize, edges: &mut [u64], a: usize, b: usize)
 // Takes the pair a, b into rows that are closed, with all that it joins, if it is asked for and not there.
 fn take(n: usize, edges: &mut [u64], want: bool, a: usize, b: usize)
     requires { ⌜ (n ≤ RECORDS) × (a < n) × (b < RECORDS) × (length (now edges) ≡ CELLS) ⌝ }
-    ensures { λ r. ⌜ Takes (Pair n want a b) (now (edges .entry)) (Only want a b) (now (edges .exit)) ⌝ }
+    ensures { λ r. ⌜ Takes (AskPair n want a b) (now (edges .entry)) (Only want a b) (now (edges .exit)) ⌝ }
 {
     let there = rows::test(edges, a, b);
     if want & !there {
@@ -261,7 +262,7 @@ fn take(n: usize, edges: &mut [u64], want: bool, a: usize, b: usize)
 // Takes in what x, a writer of a load's address other than the load's source, gives by rules 6 and 7.
 fn settle_by(n: usize, source: usize, load: usize, x: usize, edges: &mut [u64])
     requires { ⌜ (n ≤ RECORDS) × (x < n) × (source < RECORDS) × (load < n) × (length (now edges) ≡ CELLS) ⌝ }
-    ensures { λ r. ⌜ Takes (Sourced n source load x) (now (edges .entry)) (Settled (now (edges .entry)) source load x) (now (edges .exit)) ⌝ }
+    ensures { λ r. ⌜ Takes (AskSourced n source load x) (now (edges .entry)) (Settled (now (edges .entry)) source load x) (now (edges .exit)) ⌝ }
 {
     let sixth = rows::test(edges, x, load);
     take(n, edges, sixth, x, source);
@@ -272,7 +273,7 @@ fn settle_by(n: usize, source: usize, load: usize, x: usize, edges: &mut [u64])
 // Takes in what one load with a source is given by rules 6 and 7.
 fn settle_for(n: usize, writers: &[u64], source: usize, load: usize, edges: &mut [u64])
     requires { ⌜ (n ≤ RECORDS) × (source < RECORDS) × (load < n) × (length (now edges) ≡ CELLS) ⌝ }
-    ensures { λ r. ⌜ Takes (Written n (now (writers .entry)) source load) (now (edges .entry)) (Union n (SettledBy (now (writers .entry)) (now (edges .entry)) source load)) (now (edges .exit)) ⌝ }
+    ensures { λ r. ⌜ Takes (AskWritten n (now (writers .entry)) source load) (now (edges .entry)) (Union n (SettledBy (now (writers .entry)) (now (edges .entry)) source load)) (now (edges .exit)) ⌝ }
 {
     let mut x = rows::next(writers, load, 0);
     while x < n {
@@ -286,7 +287,7 @@ fn settle_for(n: usize, writers: &[u64], source: usize, load: usize, edges: &mut
 // Takes in what rules 6 and 7 give, load by load.
 fn settle(n: usize, sources: &[usize], writers: &[u64], edges: &mut [u64])
     requires { ⌜ (n ≤ RECORDS) × (length (now sources) ≡ RECORDS) × (length (now edges) ≡ CELLS) ⌝ }
-    ensures { λ r. ⌜ Takes (Noted n (now (sources .entry)) (now (writers .entry))) (now (edges .entry)) (Union n (SettledFor n (now (sources .entry)) (now (writers .entry)) (now (edges .entry)))) (now (edges .exit)) ⌝ }
+    ensures { λ r. ⌜ Takes (AskNoted n (now (sources .entry)) (now (writers .entry))) (now (edges .entry)) (Union n (SettledFor n (now (sources .entry)) (now (writers .entry)) (now (edges .entry)))) (now (edges .exit)) ⌝ }
 {
     let mut load: usize = 0;
     while load < n {
@@ -308,7 +309,7 @@ fn draw_first(
     edges: &mut [u64],
 )
     requires { ⌜ (So (wellFormed t)) × (length (now sources) ≡ RECORDS) × (length (now writers) ≡ CELLS) × (length (now edges) ≡ CELLS) ⌝ }
-    ensures { λ r. ⌜ Begun (frameOf t) (keptOf model t) (supposedOf t (now (supposed .entry))) (now (sources .exit)) (now (writers .exit)) (now (edges .exit)) ⌝ }
+    ensures { λ r. ⌜ FirstRound (frameOf t) (keptOf model t) (supposedOf t (now (supposed .entry))) (now (sources .exit)) (now (writers .exit)) (now (edges .exit)) ⌝ }
 {
     rows::clear(writers);
     rows::clear(edges);
@@ -352,7 +353,7 @@ fn advance(
 // One pass over the loads, and whether it changed nothing.
 fn settle_all(n: usize, sources: &[usize], writers: &[u64], edges: &mut [u64]) -> bool
     requires { ⌜ (n ≤ RECORDS) × (length (now sources) ≡ RECORDS) × (length (now edges) ≡ CELLS) ⌝ }
-    ensures { λ r. ⌜ Takes (Noted n (now (sources .entry)) (now (writers .entry))) (now (edges .entry)) (Union n (SettledFor n (now (sources .entry)) (now (writers .entry)) (now (edges .entry)))) (now (edges .exit)) ⌝ }
+    ensures { λ r. ⌜ Takes (AskNoted n (now (sources .entry)) (now (writers .entry))) (now (edges .entry)) (Union n (SettledFor n (now (sources .entry)) (now (writers .entry)) (now (edges .entry)))) (now (edges .exit)) ⌝ }
     ensures { λ r. ⌜ So r ↔ (now (edges .entry) ≡ now (edges .exit)) ⌝ }
 {
     let mut before = [0u64; rows::CELLS];

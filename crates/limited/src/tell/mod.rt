@@ -1,15 +1,15 @@
 // The limited verdict in document 01's order.
 ghost use mathlib.Core.Path.{_≡_};
-ghost use Rattle.verdict.specs.Told.{Reaches};
-ghost use Rattle.limited.specs.Told.{bare, Told};
+ghost use Rattle.verdict.specs.VerdictOf.{Reaches};
+ghost use Rattle.limited.specs.LimitedVerdict.{bareLimit, ToldLimited};
 use crate::Limit;
 use crate::Limited;
 use circle::show::circle_of;
 use counting::Walked;
 use counting::steps::plain_search;
-use orders::sources::Found;
-use orders::sources::missing;
 use pairs::modelled;
+use pairs::sources::Found;
+use pairs::sources::missing;
 use trace::RECORDS;
 use trace::Trace;
 use trace::form::well_formed;
@@ -17,7 +17,7 @@ use verdict::Outcome;
 
 // An outcome that has no operations, with its count.
 fn bare(outcome: Limited, steps: u64) -> Limit
-    ensures { λ r. ⌜ r ≡ bare outcome steps ⌝ }
+    ensures { λ r. ⌜ r ≡ bareLimit outcome steps ⌝ }
 {
     Limit {
         outcome,
@@ -31,7 +31,7 @@ fn bare(outcome: Limited, steps: u64) -> Limit
 // A circle where there is one, and else what the plain search comes to, of a trace that lacks no source. A circle costs no step.
 fn circle_or_count(t: Trace, model: u8, limit: u64) -> Limit
     requires { ⌜ Reaches t model ⌝ }
-    ensures { λ r. ⌜ Told t model limit r ⌝ }
+    ensures { λ r. ⌜ ToldLimited t model limit r ⌝ }
 {
     let circle = circle_of(t, model);
     let len = circle.len;
@@ -67,7 +67,7 @@ fn circle_or_count(t: Trace, model: u8, limit: u64) -> Limit
 // The verdict on any trace under any model within a limit of steps. A model that does not exist is told first, then a trace that is not well formed;
 // a missing source and a circle come at any limit; what comes then is undecided where the plain search makes more steps.
 pub fn limited_verdict(t: Trace, model: u8, limit: u64) -> Limit
-    ensures { λ r. ⌜ Told t model limit r ⌝ }
+    ensures { λ r. ⌜ ToldLimited t model limit r ⌝ }
 {
     if !modelled(model) {
         return bare(Limited::Decided(Outcome::NoModel), 0);

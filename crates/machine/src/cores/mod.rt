@@ -6,12 +6,12 @@ ghost use Rattle.laws.specs.Lowest.{lowest};
 ghost use Rattle.trace.specs.Bounds.{RECORDS, ADDRESSES};
 ghost use Rattle.trace.specs.Op.{address};
 ghost use Rattle.trace.specs.Trace.{at};
-ghost use Rattle.orders.specs.MissingOf.{found};
+ghost use Rattle.pairs.specs.MissingOf.{asFound};
 ghost use Rattle.machine.specs.Machine.{lands, alone, due, waiting, got, may};
 use crate::Machine;
-use orders::sources::Found;
 use pairs::SC;
 use pairs::op_at;
+use pairs::sources::Found;
 use trace::Op;
 use trace::Trace;
 
@@ -32,7 +32,7 @@ fn alone(op: Op) -> bool
 // The next record of a core.
 pub(crate) fn next(t: Trace, m: Machine, core: u8) -> Found
     requires { ⌜ t .len ≤ RECORDS ⌝ }
-    ensures { λ r. ⌜ r ≡ found (lowest (due t m core) (t .len) 0) ⌝ }
+    ensures { λ r. ⌜ r ≡ asFound (lowest (due t m core) (t .len) 0) ⌝ }
 {
     let n = t.len;
     let mut i: usize = 0;
@@ -50,7 +50,7 @@ pub(crate) fn next(t: Trace, m: Machine, core: u8) -> Found
 // The oldest entry of a core's buffer.
 pub(crate) fn oldest(t: Trace, m: Machine, core: u8) -> Found
     requires { ⌜ t .len ≤ RECORDS ⌝ }
-    ensures { λ r. ⌜ r ≡ found (lowest (waiting t m core) (t .len) 0) ⌝ }
+    ensures { λ r. ⌜ r ≡ asFound (lowest (waiting t m core) (t .len) 0) ⌝ }
 {
     let n = t.len;
     let mut i: usize = 0;

@@ -7,15 +7,15 @@ ghost use Rattle.trace.specs.Bounds.{RECORDS, THREADS};
 ghost use Rattle.trace.specs.Op.{thread};
 ghost use Rattle.trace.specs.Trace.{at};
 ghost use Rattle.trace.specs.WellFormed.{wellFormed};
-ghost use Rattle.machine.specs.Replay.{put, swept, placed, builtOf, yes?, nothing, stepsOf};
+ghost use Rattle.machine.specs.Replay.{put, swept, placedNext, builtOf, yes?, noSteps, stepsOf};
 use crate::Built;
 use crate::Given;
 use crate::STEPS;
 use crate::Steps;
 use crate::cores::lands;
 use crate::running::machined;
-use orders::judging::Judgement;
-use orders::judging::judge;
+use judge::judging::Judgement;
+use judge::judging::judge;
 use pairs::op_at;
 use trace::RECORDS;
 use trace::THREADS;
@@ -59,7 +59,7 @@ fn swept(t: Trace, every: bool, core: u8, b: Built, n: usize) -> Built
 // An operation reaches memory: its core runs up to it, and then empties where it did not land.
 fn placed(t: Trace, model: u8, b: Built, c: usize) -> Built
     requires { ⌜ (c < RECORDS) × (thread (at t c) < THREADS) ⌝ }
-    ensures { λ r. ⌜ r ≡ placed t model b c ⌝ }
+    ensures { λ r. ⌜ r ≡ placedNext t model b c ⌝ }
 {
     let op = op_at(t, c);
     let own = op.thread();
@@ -107,7 +107,7 @@ fn yes(judgement: Judgement) -> bool
 
 // No steps, and why.
 fn nothing(given: Given) -> Steps
-    ensures { λ r. ⌜ r ≡ nothing given ⌝ }
+    ensures { λ r. ⌜ r ≡ noSteps given ⌝ }
 {
     Steps {
         given,

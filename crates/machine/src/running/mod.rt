@@ -6,7 +6,7 @@ ghost use Rattle.trace.specs.Bounds.{RECORDS, ADDRESSES};
 ghost use Rattle.trace.specs.Op.{address};
 ghost use Rattle.trace.specs.Trace.{at};
 ghost use Rattle.trace.specs.WellFormed.{wellFormed};
-ghost use Rattle.machine.specs.Machine.{machined, startOf, ranAs, emptied, stepped, step, finished, answer};
+ghost use Rattle.machine.specs.Machine.{machined, machineStart, ranAs, emptied, stepped, step, finished, answer};
 use crate::ADDRESSED;
 use crate::Machine;
 use crate::Ran;
@@ -15,9 +15,9 @@ use crate::cores::lands;
 use crate::cores::may;
 use crate::cores::next;
 use crate::cores::oldest;
-use orders::sources::Found;
 use pairs::TSO;
 use pairs::op_at;
+use pairs::sources::Found;
 use trace::ADDRESSES;
 use trace::RECORDS;
 use trace::THREADS;
@@ -34,7 +34,7 @@ pub fn machined(model: u8) -> bool
 
 // The machine before the first step.
 fn start(t: Trace) -> Machine
-    ensures { λ r. ⌜ r ≡ startOf t ⌝ }
+    ensures { λ r. ⌜ r ≡ machineStart t ⌝ }
 {
     let mut memory: [u16; ADDRESSED] = [0; ADDRESSED];
     let mut addr: u8 = 0;

@@ -3,7 +3,7 @@ ghost use mathlib.Core.Path.{_≡_};
 ghost use Prim.Native.Nat.{_<_, _≤_};
 ghost use lib.ListN.{length};
 ghost use Rattle.trace.specs.Bounds.{RECORDS};
-ghost use Rattle.night.specs.Block.{BLOCK, kindIn, lacking, spelled, laidOut};
+ghost use Rattle.night.specs.Block.{BLOCK, kindIn, lackingIn, toldIn, blockIn};
 use trace::RECORDS;
 use verdict::Outcome;
 use verdict::Verdict;
@@ -24,8 +24,8 @@ fn kind_of(outcome: Outcome) -> u16
 
 // A verdict as it is told: a record that lacks a source is its one operation.
 pub(crate) fn spelled(v: Verdict) -> Verdict
-    requires { ⌜ lacking (v .outcome) < RECORDS ⌝ }
-    ensures { λ r. ⌜ r ≡ spelled v ⌝ }
+    requires { ⌜ lackingIn (v .outcome) < RECORDS ⌝ }
+    ensures { λ r. ⌜ r ≡ toldIn v ⌝ }
 {
     let outcome = v.outcome;
     match outcome {
@@ -56,7 +56,7 @@ fn wide(rule: u8) -> u16
 // The numbers of a verdict, in lent memory of their number.
 pub(crate) fn lay(v: Verdict, out: &mut [u16])
     requires { ⌜ (v .len ≤ RECORDS) × (length (now out) ≡ BLOCK) ⌝ }
-    ensures { λ _. ⌜ (now (out .exit) ≡ laidOut v) × (length (now (out .exit)) ≡ BLOCK) ⌝ }
+    ensures { λ _. ⌜ (now (out .exit) ≡ blockIn v) × (length (now (out .exit)) ≡ BLOCK) ⌝ }
 {
     let operations = v.operations;
     let rules = v.rules;

@@ -9,8 +9,8 @@ ghost use Rattle.signature.specs.Reads.{loads};
 ghost use Rattle.signature.specs.Signature.{tops};
 ghost use Rattle.night.specs.Block.{BLOCK};
 ghost use Rattle.night.specs.declared.Large.the-variants.{Nothing};
-ghost use Rattle.night.specs.Night.{Judged, Nights, allDone, largeFrom};
-ghost use Rattle.night.specs.Large.{Largest, Given, Unpacks};
+ghost use Rattle.night.specs.Night.{JudgedRun, Nights, allDone, largeFrom};
+ghost use Rattle.night.specs.inner.Large.{Largest, Given, RunUnpacks};
 use crate::Answer;
 use crate::BLOCK;
 use crate::Large;
@@ -62,8 +62,8 @@ fn first_large(t: Trace, words: &[u64], each: usize, runs: usize) -> Large
 
 // The verdict on the program with the reads of a run, in lent memory of a block's length; the reads' own memory is lent too.
 fn put_seen(t: Trace, model: u8, words: &[u64], reads: &mut [u16], out: &mut [u16])
-    requires { ⌜ Unpacks t model (now words) × (length (now reads) ≡ length (loads t)) × (length (now out) ≡ BLOCK) ⌝ }
-    ensures { λ _. ⌜ (length (now (out .exit)) ≡ BLOCK) × Judged t model (now (words .entry)) (now (out .exit)) ⌝ }
+    requires { ⌜ RunUnpacks t model (now words) × (length (now reads) ≡ length (loads t)) × (length (now out) ≡ BLOCK) ⌝ }
+    ensures { λ _. ⌜ (length (now (out .exit)) ≡ BLOCK) × JudgedRun t model (now (words .entry)) (now (out .exit)) ⌝ }
 {
     unpack(t, words, reads);
     let u = seen(t, reads);
@@ -73,8 +73,8 @@ fn put_seen(t: Trace, model: u8, words: &[u64], reads: &mut [u16], out: &mut [u1
 
 // The same with memory for the reads.
 fn put_run(t: Trace, model: u8, words: &[u64], out: &mut [u16])
-    requires { ⌜ Unpacks t model (now words) × (length (now out) ≡ BLOCK) ⌝ }
-    ensures { λ _. ⌜ (length (now (out .exit)) ≡ BLOCK) × Judged t model (now (words .entry)) (now (out .exit)) ⌝ }
+    requires { ⌜ RunUnpacks t model (now words) × (length (now out) ≡ BLOCK) ⌝ }
+    ensures { λ _. ⌜ (length (now (out .exit)) ≡ BLOCK) × JudgedRun t model (now (words .entry)) (now (out .exit)) ⌝ }
 {
     let n = loads_of(t);
     let mut reads = [0u16; RECORDS];

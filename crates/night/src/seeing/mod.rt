@@ -1,7 +1,7 @@
 // A test program with the reads of a run in it.
 ghost use mathlib.Core.Path.{_≡_};
 ghost use lib.ListN.{getD};
-ghost use Rattle.night.specs.Seen.{readAs, seen};
+ghost use Rattle.night.specs.FilledReads.{readAs, filledReads};
 use trace::Op;
 use trace::RECORDS;
 use trace::Record;
@@ -45,7 +45,7 @@ fn read_at(reads: &[u16], at: usize) -> u16
 
 // The program with other reads: its loads and swaps take them one after the other, by record number.
 pub fn seen(t: Trace, reads: &[u16]) -> Trace
-    ensures { λ r. ⌜ r ≡ seen t (now (reads .entry)) ⌝ }
+    ensures { λ r. ⌜ r ≡ filledReads t (now (reads .entry)) ⌝ }
 {
     let mut u = t;
     let mut k: usize = 0;

@@ -3,7 +3,7 @@ ghost use mathlib.Core.Path.{_≡_};
 ghost use mathlib.Core.List.{_++_};
 ghost use Prim.Native.Nat.{_+_, _≤_, _<_};
 ghost use lib.ListN.{length, drop};
-ghost use Rattle.packed.specs.Layout.{BYTE, RECORD, kindOf, recordOf, twoIn};
+ghost use Rattle.packed.specs.Layout.{BYTE, RECORD, kindByte, recordOf, twoIn};
 ghost use Rattle.packed.specs.Entry.{opIn, entryIn};
 use crate::Entry;
 use trace::Op;
@@ -70,7 +70,7 @@ pub(crate) fn entry_at(bytes: &[u8], at: usize) -> Entry
 
 // The number of a record's kind.
 fn kind_of(op: Op) -> u8
-    ensures { λ r. ⌜ r ≡ kindOf op ⌝ }
+    ensures { λ r. ⌜ r ≡ kindByte op ⌝ }
 {
     match op {
         Op::Load { .. } => 0,

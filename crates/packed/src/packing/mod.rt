@@ -7,9 +7,9 @@ ghost use lib.ListN.{length, take, drop};
 ghost use Rattle.trace.specs.Bounds.{RECORDS, ADDRESSES};
 ghost use Rattle.trace.specs.WellFormed.{wellFormed};
 ghost use Rattle.text.specs.Room.{putAt};
-ghost use Rattle.packed.specs.Layout.{HEAD, FIRST, RECORD, firstOf, firstsOf, many, recordsOf, sizeOf, headOf, fileOf};
+ghost use Rattle.packed.specs.Layout.{HEAD, FIRST, RECORD, firstEntry, firstsOf, many, recordBytes, sizeOf, fileHead, fileOf};
 ghost use Rattle.packed.specs.Write.{wroteOf, leftOf};
-ghost use Rattle.packed.specs.Whole.{wroteWhole, leftWhole};
+ghost use Rattle.packed.specs.WholeFile.{wroteWhole, leftWhole};
 use crate::FIRST;
 use crate::HEAD;
 use crate::RECORD;
@@ -38,8 +38,8 @@ fn many_of(t: Trace) -> usize
 
 // The first value of an address at a place, and the place behind it; nothing where it is 0.
 fn put_first(a: usize, value: u16, out: &mut [u8], at: usize) -> usize
-    requires { ⌜ (a < ADDRESSES) × (at + length (firstOf a value) ≤ length (now out)) ⌝ }
-    ensures { λ r. ⌜ (r ≡ at + length (firstOf a value)) × (now (out .exit) ≡ putAt (firstOf a value) (now (out .entry)) at) ⌝ }
+    requires { ⌜ (a < ADDRESSES) × (at + length (firstEntry a value) ≤ length (now out)) ⌝ }
+    ensures { λ r. ⌜ (r ≡ at + length (firstEntry a value)) × (now (out .exit) ≡ putAt (firstEntry a value) (now (out .entry)) at) ⌝ }
 {
     if value == 0 {
         return at;
@@ -68,7 +68,7 @@ fn put_firsts(t: Trace, out: &mut [u8]) -> usize
 // The records from a place on.
 fn put_records(t: Trace, out: &mut [u8], from: usize)
     requires { ⌜ (t .len ≤ RECORDS) × (from + RECORD * t .len ≤ length (now out)) ⌝ }
-    ensures { λ _. ⌜ now (out .exit) ≡ putAt (recordsOf (take (t .len) (t .records))) (now (out .entry)) from ⌝ }
+    ensures { λ _. ⌜ now (out .exit) ≡ putAt (recordBytes (take (t .len) (t .records))) (now (out .entry)) from ⌝ }
 {
     let n = t.len;
     let mut i: usize = 0;
@@ -84,7 +84,7 @@ fn put_records(t: Trace, out: &mut [u8], from: usize)
 // The head: mark, version, how many first values, how many records.
 fn put_head(firsts: usize, records: usize, out: &mut [u8])
     requires { ⌜ (firsts ≤ 255) × (records ≤ RECORDS) ⌝ }
-    ensures { λ _. ⌜ now (out .exit) ≡ putAt (headOf firsts records) (now (out .entry)) 0 ⌝ }
+    ensures { λ _. ⌜ now (out .exit) ≡ putAt (fileHead firsts records) (now (out .entry)) 0 ⌝ }
 {
     let low = (records % 256) as u8;
     let high = (records / 256) as u8;

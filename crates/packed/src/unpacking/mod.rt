@@ -4,8 +4,8 @@ ghost use Prim.Native.Nat.{_+_, _*_, _≤_, _<_};
 ghost use lib.ListN.{length, drop, replicate};
 ghost use Rattle.trace.specs.Bounds.{ADDRESSES, RECORDS};
 ghost use Rattle.packed.specs.Layout.{BYTE, HEAD, FIRST, RECORD, sizeOf};
-ghost use Rattle.packed.specs.Read.{turnOf, turned, back, readFirsts, readRecords, readEntries, marked, readFile};
-ghost use Rattle.packed.specs.Whole.{readWhole};
+ghost use Rattle.packed.specs.FileRead.{entryTurn, turnedBytes, back, readFirsts, readRecords, readEntries, marked, readFile};
+ghost use Rattle.packed.specs.WholeFile.{readWholeFile};
 ghost use Rattle.trace.specs.Fault.{faultOf};
 use crate::Answer;
 use crate::Entry;
@@ -39,7 +39,7 @@ fn back(reason: Reason, line: usize) -> Reading
 
 // A record behind the trace so far, as it was read.
 fn joined(t: Trace, op: Op) -> Turn
-    ensures { λ r. ⌜ r ≡ turnOf op (faultOf t op) ⌝ }
+    ensures { λ r. ⌜ r ≡ entryTurn op (faultOf t op) ⌝ }
 {
     match fault_of(t, op) {
         Fault::Nothing => Turn::Taken(op),
@@ -53,7 +53,7 @@ fn joined(t: Trace, op: Op) -> Turn
 // The eight bytes at a place, behind the trace so far.
 fn turned(t: Trace, bytes: &[u8], at: usize) -> Turn
     requires { ⌜ at + RECORD ≤ length (now bytes) ⌝ }
-    ensures { λ r. ⌜ r ≡ turned t (drop at (now (bytes .entry))) ⌝ }
+    ensures { λ r. ⌜ r ≡ turnedBytes t (drop at (now (bytes .entry))) ⌝ }
 {
     match entry_at(bytes, at) {
         Entry::Of(op) => joined(t, op),
@@ -176,7 +176,7 @@ pub fn read(bytes: &[u8]) -> Reading
 
 // The same as `read`, but where every record is good no core may be lost.
 pub fn read_whole(bytes: &[u8]) -> Reading
-    ensures { λ r. ⌜ r ≡ readWhole (now (bytes .entry)) ⌝ }
+    ensures { λ r. ⌜ r ≡ readWholeFile (now (bytes .entry)) ⌝ }
 {
     let reading = read(bytes);
     let answer = reading.answer;

@@ -1,5 +1,5 @@
 -- `pairs::reads_from`: the parts of the definition, joined.
-use Rattle.rules.specs.SourceOf.{readsFrom}
+use Rattle.pairs.specs.SourceOf.{readsFrom}
 use borrow.Author.Needs.{needs}
 use Rattle.pairs.proofs.reads_from.Statement.{statement}
 use Rattle.pairs.proofs.reads_from.Tie as tie

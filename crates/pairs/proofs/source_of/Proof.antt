@@ -10,9 +10,9 @@ use Rattle.trace.specs.Bounds.{RECORDS}
 use Rattle.trace.specs.Op.{address, read, reads}
 use Rattle.trace.specs.Trace.{first}
 use Rattle.trace.specs.Meaning.{frameOf}
-use Rattle.rules.specs.Tests.{source?}
-use Rattle.rules.proofs.SourceOf.{source-of-found, source-of-none, source-of-idle}
-use Rattle.pairs.proofs.Sources.{source-other, source-of-first, source-at}
+use Rattle.rules.specs.RuleTests.{source?}
+use Rattle.pairs.proofs.SourceOf.{source-of-found, source-of-none, source-of-idle}
+use Rattle.pairs.proofs.ReadsFrom.{source-other, source-of-first, source-at}
 use borrow.Author.Needs.{needs}
 use Rattle.pairs.proofs.source_of.Statement.{statement}
 use Rattle.pairs.proofs.source_of.Tie as tie

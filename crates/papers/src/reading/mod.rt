@@ -9,9 +9,9 @@ ghost use lib.ListN.{length};
 ghost use Rattle.trace.specs.Meaning.{frameOf};
 ghost use Rattle.pairs.specs.Kept.{keptOf};
 ghost use Rattle.rules.specs.Rules.{nothing};
-ghost use Rattle.rules.specs.Tests.{gives?};
-ghost use Rattle.papers.specs.Paper.{BRANCH, bare};
-ghost use Rattle.papers.specs.Reading.{branchOf, linkOf, joins, linked, latestOf, othersOf, stackOf, Taken};
+ghost use Rattle.rules.specs.RuleTests.{gives?};
+ghost use Rattle.papers.specs.Paper.{BRANCH, mayRest};
+ghost use Rattle.papers.specs.inner.ReaderBranch.{branchOf, linkOf, linkJoins, linked, latestOf, othersOf, stackOf, Taken};
 ghost use Rattle.papers.specs.Accepts.{Paper, Accepts};
 use crate::BRANCH;
 use pairs::modelled;
@@ -72,14 +72,14 @@ fn lead(rests: &[u16], from: &[u16], to: &[u16], count: usize) -> Link
 
 // Whether an entry of a rule may rest on k entries: only rules 6 and 7 rest on any.
 fn bare(rule: usize, k: usize) -> bool
-    ensures { λ r. ⌜ r ≡ bare rule k ⌝ }
+    ensures { λ r. ⌜ r ≡ mayRest rule k ⌝ }
 {
     (6 <= rule) | (k == 0)
 }
 
 // Whether an entry that rests on k entries may name x before y by its rule, where the link is the only chain.
 fn fits(t: Trace, model: u8, rule: usize, x: usize, y: usize, k: usize, l: Link) -> bool
-    ensures { λ r. ⌜ r ≡ (bare rule k && gives? (frameOf t) (keptOf model t) nothing (joins l) x y rule) ⌝ }
+    ensures { λ r. ⌜ r ≡ (mayRest rule k && gives? (frameOf t) (keptOf model t) nothing (linkJoins l) x y rule) ⌝ }
 {
     if !bare(rule, k) {
         return false;

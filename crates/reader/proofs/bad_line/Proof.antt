@@ -1,9 +1,9 @@
 -- `reader::bad_line`: the part from the start of the bad line to its end.
 use mathlib.Core.Path.{_≡_, refl, sym, ap, _∙_}
 use native.Mathlib.Omega.{arith}
-use Rattle.reader.specs.Part.{startOf, endOf, placeOf}
+use Rattle.reader.specs.BadLine.{startOf, endOf, placeOf}
 use Rattle.reader.specs.declared.Place.{Place}
-use Rattle.reader.proofs.Part.{start-end, end-text}
+use Rattle.reader.proofs.BadLine.{start-end, end-text}
 use borrow.Author.Needs.{needs}
 use Rattle.reader.proofs.bad_line.Statement.{statement}
 use Rattle.reader.proofs.bad_line.Tie as tie

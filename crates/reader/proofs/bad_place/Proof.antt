@@ -1,7 +1,7 @@
 -- `reader::bad_place`: where the walk stands, or the top of the text beside number 1.
 use mathlib.Core.Path.{_≡_, refl, sym, _∙_}
-use Rattle.reader.specs.Part.{startOf, endOf, placeOf}
-use Rattle.reader.proofs.Part.{line-long, line-told, start-none, end-none, start-told, end-same}
+use Rattle.reader.specs.BadLine.{startOf, endOf, placeOf}
+use Rattle.reader.proofs.BadLine.{line-long, line-told, start-none, end-none, start-told, end-same}
 use borrow.Author.Needs.{needs}
 use Rattle.reader.proofs.bad_place.Statement.{statement}
 use Rattle.reader.proofs.bad_place.Tie as tie

@@ -10,12 +10,12 @@ use Rattle.trace.specs.Bounds.{ADDRESSES, VALUES}
 use Rattle.trace.specs.Trace.{empty, started}
 use Rattle.text.specs.Lines.{Line, lines, lineAt, endAt}
 use Rattle.text.proofs.Lines.{lines-on, lines-over, line-part, end-within}
-use Rattle.reader.specs.Answer.{begins}
-use Rattle.reader.specs.Part.{passed, lineStart}
+use Rattle.reader.specs.Answer.{initGiven}
+use Rattle.reader.specs.BadLine.{passed, lineStart}
 use Rattle.reader.specs.Read.{none, readLines, readInits}
 use Rattle.reader.proofs.Begins.{Good, begins-good}
 use Rattle.reader.proofs.Walks.{read-begun, read-left}
-use Rattle.reader.proofs.Part.{start-on}
+use Rattle.reader.proofs.BadLine.{start-on}
 use borrow.Author.Needs.{needs}
 use Rattle.reader.proofs.opened.Statement.{statement}
 use Rattle.reader.proofs.opened.Tie as tie
@@ -66,14 +66,14 @@ behind : tie.After-line-end Inv-loop μ-loop → List Line
 behind c = let l = c .before .before in let t = l .before .before .before .args .text .now in lines (drop (endAt t (l .loop .at) + 1) t)
 
 -- the line that is handed on is the one at the place
-said : (c : tie.After-begin Inv-loop μ-loop) → c .begin .result ≡ begins (c .before .before .before .before .before .loop .given) (here (c .before .before .before))
+said : (c : tie.After-begin Inv-loop μ-loop) → c .begin .result ≡ initGiven (c .before .before .before .before .before .loop .given) (here (c .before .before .before))
 unfolding here
 said c =
     let e = c .before .before .before in
     let l = e .before .before in
     let t = l .before .before .before .args .text .now in
     c .begin .ensures
-    ∙ ap (begins (l .loop .given)) (λ k. record { bytes = line-part t (l .loop .at) (e .line-end .result) (e .line-end .ensures) k; ended = ltb (e .line-end .ensures k) (length t) })
+    ∙ ap (initGiven (l .loop .given)) (λ k. record { bytes = line-part t (l .loop .at) (e .line-end .result) (e .line-end .ensures) k; ended = ltb (e .line-end .ensures k) (length t) })
 
 -- the lines from the place on, and what they say
 whole-read : (c : tie.After-line-end Inv-loop μ-loop) → readInits (c .before .before .loop .line) (c .before .before .loop .given) (c .before .before .loop .trace) (here c ∷ behind c) ≡ readInits 1 none empty (lines (c .before .before .before .before .before .args .text .now))

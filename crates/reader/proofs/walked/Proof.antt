@@ -13,12 +13,12 @@ use Rattle.trace.proofs.Places.{pushed-room}
 use Rattle.text.specs.Lines.{Line, lines, lineAt, endAt}
 use Rattle.trace.specs.declared.Trace.{Trace}
 use Rattle.reader.specs.Answer.{turned}
-use Rattle.reader.specs.Part.{passed, lineStart, lineEnd}
+use Rattle.reader.specs.BadLine.{passed, lineStart, lineEnd}
 use Rattle.reader.specs.Read.{none, readLines, readInits}
 use Rattle.reader.specs.declared.Answer.the-variants.{Refused}
 use Rattle.text.proofs.Lines.{lines-on, lines-over, line-part, end-within}
 use Rattle.reader.proofs.Walks.{read-taken, read-refused}
-use Rattle.reader.proofs.Part.{start-on, end-told}
+use Rattle.reader.proofs.BadLine.{start-on, end-told}
 use borrow.Author.Needs.{needs}
 use Rattle.reader.proofs.walked.Statement.{statement}
 use Rattle.reader.proofs.walked.Tie as tie

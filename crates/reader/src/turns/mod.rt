@@ -1,8 +1,8 @@
 // What one line gets: the record that it writes, or the lowest number that turns it back.
 ghost use mathlib.Core.Path.{_≡_};
 ghost use mathlib.Core.Bool.{So};
-ghost use Rattle.reader.specs.Answer.{numberOf, inBounds, oneAddress, opOf, joined, checked, late, unformed, turned, begins};
-ghost use Rattle.reader.specs.Form.{initOf};
+ghost use Rattle.reader.specs.Answer.{numberOf, inBounds, oneAddress, opOf, joined, checked, late, unformed, turned, initGiven};
+ghost use Rattle.reader.specs.LineForms.{initOf};
 use crate::Form;
 use crate::Init;
 use crate::LINE;
@@ -186,7 +186,7 @@ pub fn turned(t: Trace, bytes: &[u8], ended: bool) -> Turn
 
 // The address and first value of an init line that gives one: short, ended, in bounds, and no line above gave that address one.
 pub fn begin(given: &[bool; FIRSTS], bytes: &[u8], ended: bool) -> Init
-    ensures { λ r. ⌜ r ≡ begins (now (given .entry)) (record { bytes = now (bytes .entry); ended = ended }) ⌝ }
+    ensures { λ r. ⌜ r ≡ initGiven (now (given .entry)) (record { bytes = now (bytes .entry); ended = ended }) ⌝ }
 {
     if LINE < bytes.len() {
         return Init::Nothing;

@@ -4,9 +4,9 @@ ghost use mathlib.Core.List.{[], _∷_};
 ghost use Prim.Native.Nat.{_+_, _<_, _≤_};
 ghost use lib.ListN.{length, take};
 ghost use Rattle.papers.specs.Paper.{BRANCH, spell};
-ghost use Rattle.papers.specs.Reading.{branchOf};
-ghost use Rattle.reasons.specs.Telling.{placeOf, numberOf, numbers};
-ghost use Rattle.reasons.specs.Laid.{PutAt, ToldBy};
+ghost use Rattle.papers.specs.inner.ReaderBranch.{branchOf};
+ghost use Rattle.reasons.specs.inner.Telling.{entryPlace, entryNumber, numbers};
+ghost use Rattle.reasons.specs.inner.Laid.{PutAt, ToldBy};
 use papers::BRANCH;
 
 // The place after numbers that were laid, or that they pass the limit.
@@ -24,7 +24,7 @@ pub(crate) enum Told {
 // The lowest place of an entry that is x before y; how many entries there are where none is.
 pub(crate) fn place(from: &[u16], to: &[u16], count: usize, x: u16, y: u16) -> usize
     requires { ⌜ (count ≤ length (now from)) × (count ≤ length (now to)) ⌝ }
-    ensures { λ r. ⌜ r ≡ placeOf (branchOf (now (from .entry)) (now (to .entry)) count) x y ⌝ }
+    ensures { λ r. ⌜ r ≡ entryPlace (branchOf (now (from .entry)) (now (to .entry)) count) x y ⌝ }
 {
     let mut i: usize = 0;
     while i < count {
@@ -39,7 +39,7 @@ pub(crate) fn place(from: &[u16], to: &[u16], count: usize, x: u16, y: u16) -> u
 // The number of an entry that is x before y; 0 where none is.
 pub(crate) fn number(from: &[u16], to: &[u16], count: usize, x: u16, y: u16) -> u16
     requires { ⌜ (count ≤ length (now from)) × (count ≤ length (now to)) × (count ≤ BRANCH) ⌝ }
-    ensures { λ r. ⌜ r ≡ numberOf (branchOf (now (from .entry)) (now (to .entry)) count) x y ⌝ }
+    ensures { λ r. ⌜ r ≡ entryNumber (branchOf (now (from .entry)) (now (to .entry)) count) x y ⌝ }
 {
     let i = place(from, to, count, x, y);
     if i < count {

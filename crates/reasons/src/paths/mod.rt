@@ -5,8 +5,8 @@ ghost use lib.ListN.{length, take};
 ghost use Rattle.trace.specs.Bounds.{RECORDS};
 ghost use Rattle.trace.specs.Meaning.{frameOf};
 ghost use Rattle.rows.specs.Rows.{bit};
-ghost use Rattle.reasons.specs.Ways.{stepOf, wayOf};
-ghost use Rattle.reasons.specs.Telling.{loadOf};
+ghost use Rattle.reasons.specs.inner.Ways.{stepOf, wayOf};
+ghost use Rattle.reasons.specs.inner.Telling.{restLoad};
 use pairs::source_of;
 use trace::RECORDS;
 use trace::Trace;
@@ -46,7 +46,7 @@ pub(crate) fn way(edges: &[u64], chains: &[u64], a: usize, b: usize, out: &mut [
 
 // The lowest load that reads from y and that a chain leads to from x, x itself excepted; RECORDS where there is none.
 pub(crate) fn load_of(t: Trace, chains: &[u64], x: usize, y: usize) -> usize
-    ensures { λ r. ⌜ (r ≡ loadOf (frameOf t) (bit (now (chains .entry))) x y) × (r ≤ RECORDS) ⌝ }
+    ensures { λ r. ⌜ (r ≡ restLoad (frameOf t) (bit (now (chains .entry))) x y) × (r ≤ RECORDS) ⌝ }
 {
     let mut load: usize = 0;
     while load < RECORDS {

@@ -6,15 +6,15 @@ use native.Mathlib.Numerals.{add-one}
 use native.Mathlib.Omega.{arith}
 use borrow.Author.Needs.{needs}
 use Rattle.pairs.specs.Kept.{MODELS}
-use Rattle.verdict.specs.Told.{Told}
+use Rattle.verdict.specs.VerdictOf.{Told}
 use Rattle.verdict.proofs.Numbers.{told-numbers}
-use Rattle.report.specs.Wrote.{Listed}
+use Rattle.report.specs.Wrote.{WroteLines}
 use Rattle.report.proofs.Answered.{listed-none, listed-more}
 use Rattle.report.proofs.put_models.Statement.{statement}
 use Rattle.report.proofs.put_models.Tie as tie
 
 abbrev Inv-loop : tie.InvT-loop
-Inv-loop t out₀ model₀ at₀ out model at = (model ≤ MODELS) × Listed t model out₀ out at
+Inv-loop t out₀ model₀ at₀ out model at = (model ≤ MODELS) × WroteLines t model out₀ out at
 
 abbrev μ-loop : tie.MeasureT-loop
 μ-loop t out₀ model₀ at₀ out model at = MODELS - model
@@ -56,7 +56,7 @@ returns c =
     let l = c .before in
     let s = l .before .before in
     let e : l .loop .model ≡ MODELS = omega (arith, l .loop .inv .0) in
-    subst (λ (m : ℕ). Listed (s .args .t) m (s .args .out .now) (l .loop .out) (l .loop .at)) e (l .loop .inv .1)
+    subst (λ (m : ℕ). WroteLines (s .args .t) m (s .args .out .now) (l .loop .out) (l .loop .at)) e (l .loop .inv .1)
 
 pub put-models-spec : {M : Type 1} → statement M
 put-models-spec =

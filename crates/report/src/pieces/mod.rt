@@ -4,7 +4,7 @@ ghost use mathlib.Core.List.{[], _∷_};
 ghost use Prim.Native.Nat.{_+_, _*_, _≤_, _<_};
 ghost use lib.ListN.{length};
 ghost use Rattle.text.specs.Number.{decimal};
-ghost use Rattle.verdict.specs.Told.{Numbers};
+ghost use Rattle.verdict.specs.VerdictOf.{RecordNumbers};
 ghost use Rattle.report.specs.Bounds.{DIGITS, NUMBER};
 ghost use Rattle.report.specs.Words.{SPACE};
 ghost use Rattle.report.specs.Report.{spaced};
@@ -57,7 +57,7 @@ fn put_one(n: usize, out: &mut [u8], at: usize) -> usize
 
 // Records, each after a space.
 pub(crate) fn put_numbers(list: &[u16], out: &mut [u8], at: usize) -> usize
-    requires { ⌜ (at + NUMBER * length (now list) ≤ length (now out)) × Numbers (now list) ⌝ }
+    requires { ⌜ (at + NUMBER * length (now list) ≤ length (now out)) × RecordNumbers (now list) ⌝ }
     ensures { λ r. ⌜ Wrote (now (out .entry)) at (spaced (now (list .entry))) (now (out .exit)) r × (r ≤ at + NUMBER * length (now (list .entry))) ⌝ }
 {
     let mut end = at;

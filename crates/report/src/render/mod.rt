@@ -10,9 +10,9 @@ ghost use Rattle.text.specs.Bounds.{FEED};
 ghost use Rattle.text.specs.Number.{decimal};
 ghost use Rattle.text.specs.Room.{putAt, behind};
 ghost use Rattle.text.specs.Template.{HOLE, fill};
-ghost use Rattle.reader.specs.Form.{renderInit, renderOp};
+ghost use Rattle.reader.specs.LineForms.{renderInit, renderOp};
 ghost use Rattle.reader.specs.TextOf.{renderRecords, renderInits, recordsOf, initsOf, renderTrace};
-ghost use Rattle.report.specs.Bounds.{VALUE, RECORD, RENDER};
+ghost use Rattle.report.specs.Bounds.{VALUE, RECORD-LINE, RENDER};
 ghost use Rattle.report.specs.Wrote.{Wrote};
 use crate::pieces::put_decimal;
 use crate::pieces::put_word;
@@ -68,7 +68,7 @@ fn past(b: u8, n: usize) -> usize
 
 // A form with its numbers.
 fn put_form(form: &[u8], numbers: &[u16], out: &mut [u8], at: usize) -> usize
-    requires { ⌜ (length (now form) < RECORD) × (at + VALUE * length (now form) ≤ length (now out)) ⌝ }
+    requires { ⌜ (length (now form) < RECORD-LINE) × (at + VALUE * length (now form) ≤ length (now out)) ⌝ }
     ensures { λ r. ⌜ Wrote (now (out .entry)) at (fill (now (form .entry)) (now (numbers .entry))) (now (out .exit)) r × (r ≤ at + VALUE * length (now (form .entry))) ⌝ }
 {
     let mut end = at;
@@ -85,8 +85,8 @@ fn put_form(form: &[u8], numbers: &[u16], out: &mut [u8], at: usize) -> usize
 
 // A record.
 fn put_op(op: Op, out: &mut [u8], at: usize) -> usize
-    requires { ⌜ at + RECORD ≤ length (now out) ⌝ }
-    ensures { λ r. ⌜ Wrote (now (out .entry)) at (renderOp op) (now (out .exit)) r × (r < at + RECORD) ⌝ }
+    requires { ⌜ at + RECORD-LINE ≤ length (now out) ⌝ }
+    ensures { λ r. ⌜ Wrote (now (out .entry)) at (renderOp op) (now (out .exit)) r × (r < at + RECORD-LINE) ⌝ }
 {
     match op {
         Op::Load { thread, addr, read } => {
@@ -119,8 +119,8 @@ fn put_op(op: Op, out: &mut [u8], at: usize) -> usize
 
 // A record's line, with its feed.
 fn put_record(op: Op, out: &mut [u8], at: usize) -> usize
-    requires { ⌜ at + RECORD ≤ length (now out) ⌝ }
-    ensures { λ r. ⌜ Wrote (now (out .entry)) at (renderOp op ++ FEED ∷ []) (now (out .exit)) r × (r ≤ at + RECORD) ⌝ }
+    requires { ⌜ at + RECORD-LINE ≤ length (now out) ⌝ }
+    ensures { λ r. ⌜ Wrote (now (out .entry)) at (renderOp op ++ FEED ∷ []) (now (out .exit)) r × (r ≤ at + RECORD-LINE) ⌝ }
 {
     let end = put_op(op, out, at);
     put_word(b"\n", out, end)
@@ -139,8 +139,8 @@ fn held(t: Trace) -> usize
 
 // The init line of an address that begins with another value than 0.
 fn put_init(addr: u8, value: u16, out: &mut [u8], at: usize) -> usize
-    requires { ⌜ at + RECORD ≤ length (now out) ⌝ }
-    ensures { λ r. ⌜ Wrote (now (out .entry)) at (cond (eqb value 0) [] (renderInit addr value ++ FEED ∷ [])) (now (out .exit)) r × (r ≤ at + RECORD) ⌝ }
+    requires { ⌜ at + RECORD-LINE ≤ length (now out) ⌝ }
+    ensures { λ r. ⌜ Wrote (now (out .entry)) at (cond (eqb value 0) [] (renderInit addr value ++ FEED ∷ [])) (now (out .exit)) r × (r ≤ at + RECORD-LINE) ⌝ }
 {
     if value == 0 {
         return at;
@@ -153,7 +153,7 @@ fn put_init(addr: u8, value: u16, out: &mut [u8], at: usize) -> usize
 // The init lines, addresses rising.
 fn put_inits(t: Trace, out: &mut [u8]) -> usize
     requires { ⌜ length (now out) ≡ RENDER ⌝ }
-    ensures { λ r. ⌜ Wrote (now (out .entry)) 0 (renderInits (initsOf t)) (now (out .exit)) r × (r ≤ RECORD * ADDRESSES) ⌝ }
+    ensures { λ r. ⌜ Wrote (now (out .entry)) 0 (renderInits (initsOf t)) (now (out .exit)) r × (r ≤ RECORD-LINE * ADDRESSES) ⌝ }
 {
     let mut end: usize = 0;
     let mut addr: u8 = 0;
@@ -166,7 +166,7 @@ fn put_inits(t: Trace, out: &mut [u8]) -> usize
 
 // The records' lines.
 fn put_records(t: Trace, out: &mut [u8], at: usize) -> usize
-    requires { ⌜ (length (now out) ≡ RENDER) × (at ≤ RECORD * ADDRESSES) ⌝ }
+    requires { ⌜ (length (now out) ≡ RENDER) × (at ≤ RECORD-LINE * ADDRESSES) ⌝ }
     ensures { λ r. ⌜ Wrote (now (out .entry)) at (renderRecords (recordsOf t)) (now (out .exit)) r × (r ≤ RENDER) ⌝ }
 {
     let n = held(t);

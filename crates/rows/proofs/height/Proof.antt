@@ -4,13 +4,13 @@ use native.Mathlib.Omega.{arith}
 use borrow.Author.Needs.{needs}
 use borrow.Author.Tests.{not-false}
 use Rattle.trace.specs.Bounds.{RECORDS}
-use Rattle.rows.specs.Added.{Below}
+use Rattle.rows.specs.inner.AddedPairs.{RowsBelow}
 use Rattle.rows.proofs.Closing.{height-all, height-less}
 use Rattle.rows.proofs.height.Statement.{statement}
 use Rattle.rows.proofs.height.Tie as tie
 
 abbrev Inv-loop : tie.InvT-loop
-Inv-loop rows n₀ lent n = (n ≤ RECORDS) × Below rows n
+Inv-loop rows n₀ lent n = (n ≤ RECORDS) × RowsBelow rows n
 
 abbrev μ-loop : tie.MeasureT-loop
 μ-loop rows n₀ lent n = n

@@ -6,7 +6,7 @@ use Prim.Native.Nat.{_≤_, _-_}
 use native.Mathlib.Omega.{arith}
 use borrow.Author.Needs.{needs}
 use Rattle.rows.specs.Bounds.{WORDS}
-use Rattle.rows.specs.Added.{Added, Row}
+use Rattle.rows.specs.inner.AddedPairs.{Added, Row}
 use Rattle.rows.proofs.Closing.{Passing, pass-none, pass-join, pass-skip, pass-bare, passed}
 use Rattle.rows.proofs.Whole.{empty-bit}
 use Rattle.rows.proofs.pass.Statement.{statement}

@@ -8,7 +8,7 @@ use Rattle.laws.specs.Tests.{any}
 use Rattle.laws.proofs.Loops.{any-more, any-stops, any-fewer}
 use Rattle.trace.specs.Meaning.{frameOf}
 use Rattle.rows.specs.Rows.{bit}
-use Rattle.ruling.specs.Third.{afterLoad}
+use Rattle.ruling.specs.inner.RuleParts.{afterLoad}
 use Rattle.ruling.proofs.after_load.Statement.{statement}
 use Rattle.ruling.proofs.after_load.Tie as tie
 

@@ -8,7 +8,7 @@ use Rattle.laws.specs.Tests.{any}
 use Rattle.laws.proofs.Loops.{any-more, any-stops, any-fewer}
 use Rattle.trace.specs.Meaning.{frameOf}
 use Rattle.rows.specs.Rows.{bit}
-use Rattle.ruling.specs.Third.{beforeSource}
+use Rattle.ruling.specs.inner.RuleParts.{beforeSource}
 use Rattle.ruling.proofs.Picked.{known-cond}
 use Rattle.ruling.proofs.before_source.Statement.{statement}
 use Rattle.ruling.proofs.before_source.Tie as tie

@@ -1,6 +1,6 @@
 -- `begins`: the parts of the definition, joined.
 use Rattle.trace.specs.Meaning.{frameOf}
-use Rattle.rules.specs.Tests.{first?}
+use Rattle.rules.specs.RuleTests.{first?}
 use borrow.Author.Needs.{needs}
 use Rattle.ruling.proofs.begins.Statement.{statement}
 use Rattle.ruling.proofs.begins.Tie as tie

@@ -5,12 +5,12 @@ use mathlib.Core.Bool.{Bool, false, not, _&&_}
 use Prim.Native.Nat.{ℕ, zero, suc}
 use borrow.Author.Needs.{needs}
 use Rattle.laws.specs.Relation.{Table}
-use Rattle.trace.specs.Frame.{Frame}
+use Rattle.rules.specs.Frame.{Frame}
 use Rattle.trace.specs.Meaning.{frameOf}
 use Rattle.rows.specs.Rows.{bit}
 use Rattle.pairs.specs.Kept.{keptOf}
 use Rattle.rules.specs.Rules.{nothing}
-use Rattle.rules.specs.Tests.{rules, gives?}
+use Rattle.rules.specs.RuleTests.{rules, gives?}
 use Rattle.ruling.proofs.gives.Statement.{statement}
 use Rattle.ruling.proofs.gives.Tie as tie
 

@@ -7,7 +7,7 @@ use Rattle.trace.specs.Meaning.{frameOf}
 use Rattle.rows.specs.Rows.{bit}
 use Rattle.pairs.specs.Kept.{keptOf}
 use Rattle.rules.specs.Rules.{nothing}
-use Rattle.rules.specs.Tests.{rules, gives?}
+use Rattle.rules.specs.RuleTests.{rules, gives?}
 use Rattle.rules.specs.ShownCircle.{rule?}
 use Rattle.ruling.proofs.Picked.{lowestFrom, lowest-here, lowest-next, lowest-none, rule-from}
 use Rattle.ruling.proofs.lowest_rule.Statement.{statement}

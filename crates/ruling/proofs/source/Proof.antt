@@ -1,6 +1,6 @@
 -- `source`: the parts of the definition, joined.
 use Rattle.trace.specs.Meaning.{frameOf}
-use Rattle.rules.specs.Tests.{source?}
+use Rattle.rules.specs.RuleTests.{source?}
 use borrow.Author.Needs.{needs}
 use Rattle.ruling.proofs.source.Statement.{statement}
 use Rattle.ruling.proofs.source.Tie as tie

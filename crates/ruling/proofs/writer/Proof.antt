@@ -1,6 +1,6 @@
 -- `writer`: the parts of the definition, joined.
 use Rattle.trace.specs.Meaning.{frameOf}
-use Rattle.rules.specs.Tests.{writer?}
+use Rattle.rules.specs.RuleTests.{writer?}
 use borrow.Author.Needs.{needs}
 use Rattle.ruling.proofs.writer.Statement.{statement}
 use Rattle.ruling.proofs.writer.Tie as tie

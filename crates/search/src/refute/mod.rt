@@ -7,7 +7,7 @@ ghost use Prim.Native.Nat.{_<_, _≤_};
 ghost use lib.ListN.{length};
 ghost use Rattle.trace.specs.Bounds.{RECORDS};
 ghost use Rattle.rows.specs.Bounds.{CELLS};
-ghost use Rattle.search.specs.Refuting.{Leads, Grown, Obeys, Settling, Ranking, Partly, Refuted};
+ghost use Rattle.search.specs.inner.Refutation.{Leads, Grown, Obeys, Settling, Ranking, Partly, Refuted};
 use trace::RECORDS;
 
 // Adds a before b where a test passed, and with it what was before a before all that b was before: row b and every row that has b take a and row a.

@@ -9,12 +9,12 @@ ghost use lib.ListN.{length};
 ghost use Rattle.laws.specs.Tests.{any};
 ghost use Rattle.trace.specs.Bounds.{RECORDS};
 ghost use Rattle.rows.specs.Bounds.{WORDS};
-ghost use Rattle.search.specs.Bounds.{SLOTS};
-ghost use Rattle.search.specs.Laid.{tables};
-ghost use Rattle.rows.specs.Sets.{More};
-ghost use Rattle.search.specs.Chances.{waits, Readied, Unread, Covered, Stops};
-ghost use Rattle.search.specs.Memory.{Has, Noted};
-ghost use Rattle.search.specs.Seeking.{Room, Sought};
+ghost use Rattle.search.specs.inner.Bounds.{SLOTS};
+ghost use Rattle.search.specs.inner.SearchTables.{tables};
+ghost use Rattle.rows.specs.inner.Sets.{More};
+ghost use Rattle.search.specs.inner.Candidates.{waitsFor, Readied, Unread, Covered, Stops};
+ghost use Rattle.search.specs.inner.DeadSets.{Recalls, Noted};
+ghost use Rattle.search.specs.inner.SearchBelow.{Room, Sought};
 use crate::refute::refuted;
 use trace::RECORDS;
 
@@ -30,7 +30,7 @@ const PATIENCE: usize = 64;
 // Whether nobody waits at the address of c: a reader of it, other than c, whose source is placed while it is not.
 fn quiet(n: usize, writers: &[u64], sources: &[usize], placed: &[u64], c: usize) -> bool
     requires { ⌜ n ≤ length (now sources) ⌝ }
-    ensures { λ r. ⌜ So r ↔ (any n (waits (now (writers .entry)) (now (sources .entry)) (now (placed .entry)) c) ≡ false) ⌝ }
+    ensures { λ r. ⌜ So r ↔ (any n (waitsFor (now (writers .entry)) (now (sources .entry)) (now (placed .entry)) c) ≡ false) ⌝ }
 {
     let mut load: usize = 0;
     while load < n {
@@ -175,7 +175,7 @@ fn slot(set: &[u64]) -> usize
 // Whether the memory has a set.
 fn known(dead: &[u64], set: &[u64]) -> bool
     requires { ⌜ length (now dead) ≡ SLOTS * WORDS ⌝ }
-    ensures { λ r. ⌜ (So r → Has (now (dead .entry)) (now (set .entry))) ⌝ }
+    ensures { λ r. ⌜ (So r → Recalls (now (dead .entry)) (now (set .entry))) ⌝ }
 {
     let from = slot(set) * rows::WORDS;
     let to = from + rows::WORDS;

@@ -7,9 +7,10 @@ ghost use Rattle.trace.specs.Bounds.{RECORDS};
 ghost use Rattle.trace.specs.Meaning.{frameOf};
 ghost use Rattle.rows.specs.Bounds.{CELLS, WORDS};
 ghost use Rattle.rows.specs.Rows.{bit, Edges};
-ghost use Rattle.rules.specs.Tests.{writer?};
-ghost use Rattle.edges.specs.Adds.{Adds, Only, Union};
-ghost use Rattle.search.specs.Laying.{Filled, leads, Addressed, Rowed, Filling, Counted, Sources};
+ghost use Rattle.rules.specs.RuleTests.{writer?};
+ghost use Rattle.edges.specs.inner.PairSets.{Only, Union};
+ghost use Rattle.rows.specs.inner.AddedPairs.{Added};
+ghost use Rattle.search.specs.inner.TablesLaid.{Filled, heldWriters, Addressed, Rowed, Filling, Counted, Sources};
 use pairs::source_of;
 use trace::Trace;
 
@@ -61,7 +62,7 @@ fn lay_writers(t: Trace, by: &[u64], writers: &mut [u64])
 // Lays row y of what is held turned round: what is held before y.
 fn turn_row(n: usize, held: &[u64], y: usize, before: &mut [u64])
     requires { ⌜ (y < n) × (n ≤ RECORDS) × (length (now before) ≡ CELLS) ⌝ }
-    ensures { λ r. ⌜ Adds (now (before .entry)) (Union n (λ x. Only (bit (now (held .entry)) x y) y x)) (now (before .exit)) ⌝ }
+    ensures { λ r. ⌜ Added (now (before .entry)) (Union n (λ x. Only (bit (now (held .entry)) x y) y x)) (now (before .exit)) ⌝ }
 {
     let mut x: usize = 0;
     while x < n {
@@ -120,7 +121,7 @@ pub(crate) fn lay(
     requires { ⌜ (t .len ≤ RECORDS) × (length (now before) ≡ CELLS) × (length (now writers) ≡ CELLS) × (length (now leaders) ≡ CELLS) ⌝ }
     ensures { λ r. ⌜ Filled (t .len) (bit (now (held .entry))) (now (before .exit)) ⌝ }
     ensures { λ r. ⌜ Filled (t .len) (writer? (frameOf t)) (now (writers .exit)) ⌝ }
-    ensures { λ r. ⌜ Filled (t .len) (leads (frameOf t) (now (held .entry))) (now (leaders .exit)) ⌝ }
+    ensures { λ r. ⌜ Filled (t .len) (heldWriters (frameOf t) (now (held .entry))) (now (leaders .exit)) ⌝ }
 {
     let n = t.len;
     let mut by = [0u64; rows::CELLS];

@@ -9,9 +9,9 @@ ghost use Rattle.trace.specs.Op.{reads};
 ghost use Rattle.trace.specs.Trace.{at};
 ghost use Rattle.trace.specs.WellFormed.{wellFormed};
 ghost use Rattle.signature.specs.Reads.{unlisted, loads};
-ghost use Rattle.signature.specs.Answers.{readIn, wordsIn, sizeIn, loadsIn, packOf, packLeft};
-ghost use Rattle.signature.specs.Laying.{choice, after, closedOf, joinedOf, steppedOf, ranFrom, threadOf, allFrom, begun, laid};
-ghost use Rattle.signature.specs.Found.{foundOf, Below};
+ghost use Rattle.signature.specs.SignatureAnswers.{readIn, wordsIn, sizeIn, loadsIn, packOf, packLeft};
+ghost use Rattle.signature.specs.inner.WordsLaid.{choice, stepOn, closedOf, joinedOf, steppedOf, ranFrom, threadOf, allFrom, noneLaid, laidWords};
+ghost use Rattle.signature.specs.inner.LoadLists.{foundOf, DigitsBelow};
 use crate::Answer;
 use crate::Found;
 use crate::Open;
@@ -42,7 +42,7 @@ fn choice(t: Trace, load: usize, last: bool) -> u64
 
 // The next place, where there is one.
 pub(crate) fn after(i: usize) -> usize
-    ensures { λ r. ⌜ r ≡ after i ⌝ }
+    ensures { λ r. ⌜ r ≡ stepOn i ⌝ }
 {
     if i < RECORDS {
         return i + 1;
@@ -94,7 +94,7 @@ fn joined(o: Open, range: u64, digit: u64) -> Open
 
 // A record looked at for a thread.
 fn stepped(t: Trace, core: u8, last: bool, o: Open, i: usize) -> Open
-    requires { ⌜ (t .len ≤ RECORDS) × (i < t .len) × Below t last × (o .word ≤ o .q) ⌝ }
+    requires { ⌜ (t .len ≤ RECORDS) × (i < t .len) × DigitsBelow t last × (o .word ≤ o .q) ⌝ }
     ensures { λ r. ⌜ (r ≡ steppedOf t core last o i) × (r .word ≤ r .q) ⌝ }
 {
     let record = t.records[i];
@@ -109,7 +109,7 @@ fn stepped(t: Trace, core: u8, last: bool, o: Open, i: usize) -> Open
 
 // The words of a thread, behind those laid down.
 fn thread_words(t: Trace, core: u8, last: bool, o: Open) -> Open
-    requires { ⌜ (t .len ≤ RECORDS) × Below t last × (o .word ≤ o .q) ⌝ }
+    requires { ⌜ (t .len ≤ RECORDS) × DigitsBelow t last × (o .word ≤ o .q) ⌝ }
     ensures { λ r. ⌜ (r ≡ threadOf t core last o) × (r .word ≤ r .q) ⌝ }
 {
     if !has_loads(t, core) {
@@ -127,8 +127,8 @@ fn thread_words(t: Trace, core: u8, last: bool, o: Open) -> Open
 
 // The words of all threads.
 pub(crate) fn all_words(t: Trace, last: bool) -> Open
-    requires { ⌜ (t .len ≤ RECORDS) × Below t last ⌝ }
-    ensures { λ r. ⌜ r ≡ allFrom t last begun 0 THREADS ⌝ }
+    requires { ⌜ (t .len ≤ RECORDS) × DigitsBelow t last ⌝ }
+    ensures { λ r. ⌜ r ≡ allFrom t last noneLaid 0 THREADS ⌝ }
 {
     let mut built = Open {
         of: [0; RECORDS],
@@ -166,7 +166,7 @@ fn first_unlisted(t: Trace) -> Found
 // Words that were laid down, put into lent memory of their number.
 fn put_words(o: Open, words: &mut [u64])
     requires { ⌜ (length (now words) ≡ o .count) × (o .count ≤ RECORDS) ⌝ }
-    ensures { λ _. ⌜ now (words .exit) ≡ laid o ⌝ }
+    ensures { λ _. ⌜ now (words .exit) ≡ laidWords o ⌝ }
 {
     let n = o.count;
     let mut i: usize = 0;

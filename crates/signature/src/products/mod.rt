@@ -2,7 +2,7 @@
 ghost use mathlib.Core.Path.{_≡_};
 ghost use Prim.Native.Nat.{suc, _+_, _*_, _<_, _≤_};
 ghost use lib.Dec.{leb};
-ghost use Rattle.signature.specs.Words.{LIMIT};
+ghost use Rattle.signature.specs.DigitWords.{LIMIT};
 
 // The largest number of 64 bits.
 const MAX: u64 = 18446744073709551615;

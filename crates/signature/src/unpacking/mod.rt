@@ -8,9 +8,9 @@ ghost use Rattle.trace.specs.Bounds.{RECORDS, THREADS};
 ghost use Rattle.trace.specs.Op.{reads};
 ghost use Rattle.trace.specs.Trace.{at};
 ghost use Rattle.signature.specs.Reads.{each, valueOf, loads};
-ghost use Rattle.signature.specs.Answers.{unpackOf, unpackLeft};
-ghost use Rattle.signature.specs.Laying.{tookOf, lookedOf, tookThread, tookAll, fresh};
-ghost use Rattle.signature.specs.Found.{foundOf, over, placeAfter, readPut};
+ghost use Rattle.signature.specs.SignatureAnswers.{unpackOf, unpackLeft};
+ghost use Rattle.signature.specs.inner.WordsLaid.{tookOf, lookedOf, tookThread, tookAll, noneTaken};
+ghost use Rattle.signature.specs.inner.LoadLists.{foundOf, over, placeAfter, readPut};
 use crate::Answer;
 use crate::Found;
 use crate::Open;
@@ -114,7 +114,7 @@ fn thread_digits(t: Trace, core: u8, words: &[u64], x: Taking) -> Taking
 // The digits of all threads.
 fn all_digits(t: Trace, words: &[u64]) -> Taking
     requires { ⌜ t .len ≤ RECORDS ⌝ }
-    ensures { λ r. ⌜ r ≡ tookAll t (now (words .entry)) fresh 0 THREADS ⌝ }
+    ensures { λ r. ⌜ r ≡ tookAll t (now (words .entry)) noneTaken 0 THREADS ⌝ }
 {
     let mut built = Taking {
         of: [0; RECORDS],

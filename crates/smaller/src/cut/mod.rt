@@ -8,9 +8,9 @@ ghost use Rattle.trace.specs.Meaning.{frameOf};
 ghost use Rattle.trace.specs.WellFormed.{wellFormed};
 ghost use Rattle.rows.specs.Bounds.{WORDS};
 ghost use Rattle.pairs.specs.Kept.{modelled};
-ghost use Rattle.parts.specs.Smaller.{Faulty};
-ghost use Rattle.smaller.specs.Smaller.{bare, Cuts, Told};
-ghost use Rattle.smaller.specs.Rows.{Has, Chains, Tried, Ended};
+ghost use Rattle.parts.specs.CutDown.{Faulty};
+ghost use Rattle.smaller.specs.Smaller.{bareSmaller, Cuts, ToldSmaller};
+ghost use Rattle.smaller.specs.inner.RecordSets.{Chosen, ReaderChains, TriedRecord, LeftOver};
 use crate::Answer;
 use crate::Smaller;
 use crate::part::all;
@@ -18,10 +18,10 @@ use crate::part::lay_goes;
 use crate::part::olds;
 use crate::part::picked;
 use crate::part::without;
-use orders::sources::Found;
-use orders::sources::missing;
 use pairs::modelled;
 use pairs::op_at;
+use pairs::sources::Found;
+use pairs::sources::missing;
 use search::first::first_order;
 use trace::Op;
 use trace::RECORDS;
@@ -31,7 +31,7 @@ use trace::form::well_formed;
 
 // An answer that leaves nothing.
 fn bare(answer: Answer) -> Smaller
-    ensures { λ r. ⌜ r ≡ bare answer ⌝ }
+    ensures { λ r. ⌜ r ≡ bareSmaller answer ⌝ }
 {
     let trace = empty();
     Smaller {
@@ -44,7 +44,7 @@ fn bare(answer: Answer) -> Smaller
 // Whether what is left has no valid order.
 fn still_faulty(t: Trace, model: u8, kept: &[u64]) -> bool
     requires { ⌜ So (wellFormed t) × So (modelled model) ⌝ }
-    ensures { λ r. ⌜ So r ↔ Faulty t model (Has (now (kept .entry))) ⌝ }
+    ensures { λ r. ⌜ So r ↔ Faulty t model (Chosen (now (kept .entry))) ⌝ }
 {
     let order = first_order(picked(t, kept), model);
     !order.found
@@ -64,8 +64,8 @@ fn tried(op: Op) -> bool
 
 // One look at a record: it goes, with what goes with it, where the fault is still there without it.
 fn try_one(t: Trace, model: u8, goes: &[u64], i: usize, kept: &mut [u64])
-    requires { ⌜ So (wellFormed t) × So (modelled model) × Chains (frameOf t) (now goes) × (length (now kept) ≡ WORDS) ⌝ }
-    ensures { λ r. ⌜ Tried t model i (now (kept .entry)) (now (kept .exit)) ⌝ }
+    requires { ⌜ So (wellFormed t) × So (modelled model) × ReaderChains (frameOf t) (now goes) × (length (now kept) ≡ WORDS) ⌝ }
+    ensures { λ r. ⌜ TriedRecord t model i (now (kept .entry)) (now (kept .exit)) ⌝ }
 {
     if !(rows::test(kept, 0, i) & tried(op_at(t, i))) {
         return;
@@ -79,8 +79,8 @@ fn try_one(t: Trace, model: u8, goes: &[u64], i: usize, kept: &mut [u64])
 
 // One look at each record, from the lowest on.
 fn pass(t: Trace, model: u8, goes: &[u64], kept: &mut [u64])
-    requires { ⌜ So (wellFormed t) × So (modelled model) × Chains (frameOf t) (now goes) × (length (now kept) ≡ WORDS) × ((x : ℕ) → x < t .len → So (Has (now kept) x)) ⌝ }
-    ensures { λ r. ⌜ Ended t model (now (kept .exit)) ⌝ }
+    requires { ⌜ So (wellFormed t) × So (modelled model) × ReaderChains (frameOf t) (now goes) × (length (now kept) ≡ WORDS) × ((x : ℕ) → x < t .len → So (Chosen (now kept) x)) ⌝ }
+    ensures { λ r. ⌜ LeftOver t model (now (kept .exit)) ⌝ }
 {
     let n = t.len;
     let mut i: usize = 0;
@@ -112,7 +112,7 @@ fn cut_away(t: Trace, model: u8) -> Smaller
 // A faulty trace without an order for no missing source, cut down: the lowest record whose removal keeps the fault goes, again and again. A model that
 // does not exist is told first, then a trace that is not well formed, then a record without a source, then that nothing is wrong.
 pub fn smaller(t: Trace, model: u8) -> Smaller
-    ensures { λ r. ⌜ Told t model r ⌝ }
+    ensures { λ r. ⌜ ToldSmaller t model r ⌝ }
 {
     if !modelled(model) {
         return bare(Answer::NoModel);

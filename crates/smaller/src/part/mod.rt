@@ -14,7 +14,7 @@ ghost use Rattle.rows.specs.Bounds.{CELLS, WORDS};
 ghost use Rattle.rows.specs.Rows.{bit};
 ghost use Rattle.parts.specs.Picked.{picked, oldsTo};
 ghost use Rattle.smaller.specs.Smaller.{padded};
-ghost use Rattle.smaller.specs.Rows.{Has, Chains};
+ghost use Rattle.smaller.specs.inner.RecordSets.{Chosen, ReaderChains};
 use pairs::op_at;
 use pairs::source_of;
 use trace::Op;
@@ -36,7 +36,7 @@ fn begun(t: Trace) -> Trace
 // The records of a set, closed up, as a trace.
 pub(crate) fn picked(t: Trace, kept: &[u64]) -> Trace
     requires { ⌜ t .len ≤ RECORDS ⌝ }
-    ensures { λ r. ⌜ r ≡ picked t (Has (now (kept .entry))) ⌝ }
+    ensures { λ r. ⌜ r ≡ picked t (Chosen (now (kept .entry))) ⌝ }
 {
     let n = t.len;
     let mut part = begun(t);
@@ -57,7 +57,7 @@ pub(crate) fn picked(t: Trace, kept: &[u64]) -> Trace
 // The numbers of a set among the first n, one after another.
 pub(crate) fn olds(n: usize, kept: &[u64]) -> [u16; RECORDS]
     requires { ⌜ n ≤ RECORDS ⌝ }
-    ensures { λ r. ⌜ r ≡ padded (oldsTo (Has (now (kept .entry))) n) ⌝ }
+    ensures { λ r. ⌜ r ≡ padded (oldsTo (Chosen (now (kept .entry))) n) ⌝ }
 {
     let mut list = [0u16; RECORDS];
     let mut at: usize = 0;
@@ -75,7 +75,7 @@ pub(crate) fn olds(n: usize, kept: &[u64]) -> [u16; RECORDS]
 // The set of the first n records.
 pub(crate) fn all(n: usize, kept: &mut [u64])
     requires { ⌜ (n ≤ RECORDS) × (length (now kept) ≡ WORDS) ⌝ }
-    ensures { λ r. ⌜ (length (now (kept .exit)) ≡ WORDS) × ((x : ℕ) → x < n → So (Has (now (kept .exit)) x)) ⌝ }
+    ensures { λ r. ⌜ (length (now (kept .exit)) ≡ WORDS) × ((x : ℕ) → x < n → So (Chosen (now (kept .exit)) x)) ⌝ }
 {
     let mut i: usize = 0;
     while i < n {
@@ -99,7 +99,7 @@ fn takes_readers(op: Op) -> bool
 // Which record goes where another goes: whoever reads from it, from what reads from it, and so on.
 pub(crate) fn lay_goes(t: Trace, goes: &mut [u64])
     requires { ⌜ So (wellFormed t) × (length (now goes) ≡ CELLS) ⌝ }
-    ensures { λ r. ⌜ Chains (frameOf t) (now (goes .exit)) ⌝ }
+    ensures { λ r. ⌜ ReaderChains (frameOf t) (now (goes .exit)) ⌝ }
 {
     rows::clear(goes);
     let n = t.len;
@@ -115,7 +115,7 @@ pub(crate) fn lay_goes(t: Trace, goes: &mut [u64])
 // The set without record i and what goes with it, of the first n records.
 pub(crate) fn without(kept: &[u64], goes: &[u64], n: usize, i: usize, left: &mut [u64])
     requires { ⌜ (n ≤ RECORDS) × (length (now left) ≡ WORDS) ⌝ }
-    ensures { λ r. ⌜ (length (now (left .exit)) ≡ WORDS) × ((x : ℕ) → x < n → Has (now (left .exit)) x ≡ (Has (now (kept .entry)) x && not (eqb i x || bit (now (goes .entry)) i x))) ⌝ }
+    ensures { λ r. ⌜ (length (now (left .exit)) ≡ WORDS) × ((x : ℕ) → x < n → Chosen (now (left .exit)) x ≡ (Chosen (now (kept .entry)) x && not (eqb i x || bit (now (goes .entry)) i x))) ⌝ }
 {
     rows::clear(left);
     let mut x: usize = 0;

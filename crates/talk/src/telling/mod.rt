@@ -5,7 +5,7 @@ ghost use Rattle.trace.specs.Bounds.{ADDRESSES, VALUES};
 ghost use Rattle.session.specs.Opening.{isDone};
 ghost use Rattle.session.specs.Closings.{Closings};
 ghost use Rattle.session.specs.Numbers.{reasonNumber};
-ghost use Rattle.talk.specs.Telling.{freshOf, refusedOf, toldOf, waitsTold, recordTold, suppositionOf, questionOf, backOf, lookOf, modelOf, additionOf, turnOf, firstValue, beginningOf, lineOf, answerOf};
+ghost use Rattle.talk.specs.LineAnswers.{freshOf, refusedOf, answerTold, waitsTold, recordTold, suppositionOf, questionOf, backOf, lookOf, modelOf, additionOf, turnSaid, firstValue, beginningOf, lineSaid, talkAnswer};
 use crate::asking::Command;
 use crate::asking::command_of;
 use pairs::SC;
@@ -95,7 +95,7 @@ fn number(reason: Reason) -> u8
 
 // What a session's answer is told as.
 fn told_of(answer: Answer) -> Told
-    ensures { λ r. ⌜ r ≡ toldOf answer ⌝ }
+    ensures { λ r. ⌜ r ≡ answerTold answer ⌝ }
 {
     match answer {
         Answer::Done => Told::Done,
@@ -248,7 +248,7 @@ fn addition(talk: Talk, op: Op) -> Said
 
 // A line behind the records, as the reader has looked at it.
 fn turn(talk: Talk, turn: Turn) -> Said
-    ensures { λ r. ⌜ ((C : Closings) → r ≡ turnOf C talk turn) ⌝ }
+    ensures { λ r. ⌜ ((C : Closings) → r ≡ turnSaid C talk turn) ⌝ }
 {
     match turn {
         Turn::Taken(op) => addition(talk, op),
@@ -290,7 +290,7 @@ fn beginning(talk: Talk, addr: u32, value: u32) -> Said
 
 // A line that makes no call: a first value, or a record.
 fn line(talk: Talk, bytes: &[u8]) -> Said
-    ensures { λ r. ⌜ ((C : Closings) → r ≡ lineOf C talk (now (bytes .entry))) ⌝ }
+    ensures { λ r. ⌜ ((C : Closings) → r ≡ lineSaid C talk (now (bytes .entry))) ⌝ }
 {
     match first_value(talk, bytes) {
         Init::Of { addr, value } => beginning(talk, addr, value),
@@ -303,7 +303,7 @@ fn line(talk: Talk, bytes: &[u8]) -> Said
 
 // What a line is answered, without its line feed; whether it had one stands beside it.
 pub fn answer(talk: Talk, bytes: &[u8], ended: bool) -> Said
-    ensures { λ r. ⌜ ((C : Closings) → r ≡ answerOf C talk (record { bytes = now (bytes .entry); ended = ended })) ⌝ }
+    ensures { λ r. ⌜ ((C : Closings) → r ≡ talkAnswer C talk (record { bytes = now (bytes .entry); ended = ended })) ⌝ }
 {
     if LINE < bytes.len() {
         return refused(talk, LONG_LINE);

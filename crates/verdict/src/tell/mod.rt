@@ -2,13 +2,13 @@
 ghost use mathlib.Core.Path.{_≡_};
 ghost use mathlib.Core.Bool.{So};
 ghost use Rattle.pairs.specs.Kept.{modelled};
-ghost use Rattle.verdict.specs.Told.{Told, Reaches, Orderless, bare};
+ghost use Rattle.verdict.specs.VerdictOf.{Told, Reaches, Orderless, bare};
 use crate::Outcome;
 use crate::Verdict;
 use circle::show::circle_of;
-use orders::sources::Found;
-use orders::sources::missing;
 use pairs::modelled;
+use pairs::sources::Found;
+use pairs::sources::missing;
 use search::first::first_order;
 use trace::RECORDS;
 use trace::Trace;

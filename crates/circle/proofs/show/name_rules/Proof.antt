@@ -10,8 +10,8 @@ use Rattle.pairs.specs.Kept.{keptOf}
 use Rattle.rules.specs.Rules.{nothing}
 use Rattle.rules.specs.Circle.{after}
 use Rattle.rules.specs.ShownCircle.{rule?}
-use Rattle.circle.specs.Named.{Named}
-use Rattle.circle.proofs.Named.{named-none, named-more}
+use Rattle.circle.specs.inner.NamedRules.{Named}
+use Rattle.circle.proofs.NamedRules.{named-none, named-more}
 use borrow.Author.Needs.{needs}
 use Rattle.circle.proofs.show.name_rules.Statement.{statement}
 use Rattle.circle.proofs.show.name_rules.Tie as tie

@@ -2,7 +2,7 @@
 use mathlib.Core.Path.{sym}
 use Prim.Native.Nat.{_+_}
 use native.Mathlib.Omega.{arith}
-use Rattle.circle.proofs.Named.{after-next, after-last}
+use Rattle.circle.proofs.NamedRules.{after-next, after-last}
 use borrow.Author.Needs.{needs}
 use Rattle.circle.proofs.show.next_of.Statement.{statement}
 use Rattle.circle.proofs.show.next_of.Tie as tie

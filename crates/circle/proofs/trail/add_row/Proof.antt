@@ -2,7 +2,7 @@
 use mathlib.Core.Path.{_≡_, ap, _∙_}
 use native.Mathlib.Omega.{arith}
 use lib.ListN.{length}
-use Rattle.rows.specs.Added as rows
+use Rattle.rows.specs.inner.AddedPairs as rows
 use Rattle.rows.specs.AddRow.{addRowOf}
 use Rattle.rows.specs.Rows.{Edges}
 use Rattle.rows.proofs.Closing.{row-added}

@@ -6,15 +6,15 @@ use Prim.Native.Nat.{_≤_, _-_}
 use native.Mathlib.Omega.{arith}
 use Rattle.trace.specs.Bounds.{RECORDS}
 use Rattle.rows.specs.Rows.{Edges}
-use Rattle.circle.specs.Added.{Added}
-use Rattle.circle.proofs.Added.{Some, added-same, added-when, added-none, added-turn, added-skip}
+use Rattle.circle.specs.inner.WalkRows.{Widened}
+use Rattle.circle.proofs.WalkRows.{Some, added-same, added-when, added-none, added-turn, added-skip}
 use Rattle.circle.proofs.Further.{RowsTurn, rows-all, rows-bare}
 use borrow.Author.Needs.{needs}
 use Rattle.circle.proofs.trail.add_rows.Statement.{statement}
 use Rattle.circle.proofs.trail.add_rows.Tie as tie
 
 abbrev Inv-loop : tie.InvT-loop
-Inv-loop edges walks next₀ x m₀ next m = (m ≤ RECORDS) × Added next₀ (Some m (RowsTurn edges walks x)) next
+Inv-loop edges walks next₀ x m₀ next m = (m ≤ RECORDS) × Widened next₀ (Some m (RowsTurn edges walks x)) next
 
 abbrev μ-loop : tie.MeasureT-loop
 μ-loop edges walks next₀ x m₀ next m = RECORDS - m
@@ -55,7 +55,7 @@ loop-again c =
       omega arith,
       ⊎-elim
           (λ w.
-          let done : Added (l .loop .next) (λ i j. (i ≡ a .x) × Edges (a .walks .now) (l .loop .m) j) (c .if2 .next) = rw (w .5) (w .2 .ensures) in
+          let done : Widened (l .loop .next) (λ i j. (i ≡ a .x) × Edges (a .walks .now) (l .loop .m) j) (c .if2 .next) = rw (w .5) (w .2 .ensures) in
           let has : Edges (a .edges .now) (a .x) (l .loop .m) = sym (c .before .test .ensures) ∙ w .0 .taken in
           added-turn (a .next .now) B (l .loop .m) (l .loop .next) (c .if2 .next) now
           (added-when (l .loop .next) _ _ (c .if2 .next) has done))
@@ -73,7 +73,7 @@ returns-2 c =
     let l = c .before in
     let a = l .before .before .before .before .before .before .before .args in
     let past : l .loop .m ≡ RECORDS = omega arith in
-    let all : Added (a .next .now) (Some RECORDS (RowsTurn (a .edges .now) (a .walks .now) (a .x))) (l .loop .next) = rw past at (l .loop .inv .1) in
+    let all : Widened (a .next .now) (Some RECORDS (RowsTurn (a .edges .now) (a .walks .now) (a .x))) (l .loop .next) = rw past at (l .loop .inv .1) in
     added-same (a .next .now) _ _ (l .loop .next) (rows-all (a .edges .now) (a .walks .now) (a .x)) all
 
 pub add-rows-spec : {M : Type 1} → statement M

@@ -8,14 +8,14 @@ use borrow.Author.Needs.{needs}
 use Rattle.trace.specs.Bounds.{RECORDS}
 use Rattle.rows.specs.Put.{putOf}
 use Rattle.rows.specs.Rows.{bit, Edges}
-use Rattle.circle.specs.Added.{Added}
-use Rattle.circle.proofs.Added.{Some, added-one, added-same, added-when, added-none, added-turn, added-skip}
-use Rattle.circle.proofs.Reach.{BackTurn, back-all, back-row}
+use Rattle.circle.specs.inner.WalkRows.{Widened}
+use Rattle.circle.proofs.WalkRows.{Some, added-one, added-same, added-when, added-none, added-turn, added-skip}
+use Rattle.circle.proofs.BackSteps.{BackTurn, back-all, back-row}
 use Rattle.circle.proofs.trail.back.Statement.{statement}
 use Rattle.circle.proofs.trail.back.Tie as tie
 
 abbrev Inv-loop : tie.InvT-loop
-Inv-loop edges reach₀ j x₀ reach x = (x ≤ RECORDS) × Added reach₀ (Some x (BackTurn (Edges edges) (Edges reach₀) j)) reach
+Inv-loop edges reach₀ j x₀ reach x = (x ≤ RECORDS) × Widened reach₀ (Some x (BackTurn (Edges edges) (Edges reach₀) j)) reach
 
 abbrev μ-loop : tie.MeasureT-loop
 μ-loop edges reach₀ j x₀ reach x = RECORDS - x
@@ -76,7 +76,7 @@ returns c =
     let l = c .before in
     let a = l .before .before .before .args in
     let past : l .loop .x ≡ RECORDS = omega arith in
-    let all : Added (a .reach .now) (Some RECORDS (BackTurn (Edges (a .edges .now)) (Edges (a .reach .now)) (a .j))) (l .loop .reach) = rw past at (l .loop .inv .1) in
+    let all : Widened (a .reach .now) (Some RECORDS (BackTurn (Edges (a .edges .now)) (Edges (a .reach .now)) (a .j))) (l .loop .reach) = rw past at (l .loop .inv .1) in
     added-same (a .reach .now) _ _ (l .loop .reach) (back-all (a .edges .now) (Edges (a .reach .now)) (a .j)) all
 
 pub back-spec : {M : Type 1} → statement M

@@ -9,7 +9,7 @@ use lib.Seq.{getD-set-other}
 use Rattle.laws.specs.Lowest.{Lowest}
 use Rattle.trace.specs.Bounds.{RECORDS}
 use Rattle.rows.specs.Rows.{Edges}
-use Rattle.rules.specs.Walk.{Walk}
+use Rattle.rules.specs.inner.ExactWalks.{Walk}
 use Rattle.circle.proofs.Tracing.{Tracing, trace-first, trace-next, trace-lowest, traced}
 use Rattle.circle.proofs.trail.follow.Statement.{statement}
 use Rattle.circle.proofs.trail.follow.Tie as tie

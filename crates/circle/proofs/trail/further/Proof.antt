@@ -5,15 +5,15 @@ use native.Mathlib.Omega.{arith}
 use lib.ListN.{length}
 use Rattle.trace.specs.Bounds.{RECORDS}
 use Rattle.rows.specs.Bounds.{CELLS}
-use Rattle.circle.specs.Added.{Added}
-use Rattle.circle.proofs.Added.{Some, added-same, added-none, added-turn, added-exactly}
+use Rattle.circle.specs.inner.WalkRows.{Widened}
+use Rattle.circle.proofs.WalkRows.{Some, added-same, added-none, added-turn, added-exactly}
 use Rattle.circle.proofs.Further.{AllTurn, all-all}
 use borrow.Author.Needs.{needs}
 use Rattle.circle.proofs.trail.further.Statement.{statement}
 use Rattle.circle.proofs.trail.further.Tie as tie
 
 abbrev Inv-loop : tie.InvT-loop
-Inv-loop edges walks next₀ x₀ next x = (x ≤ RECORDS) × (length next₀ ≡ CELLS) × Added next₀ (Some x (AllTurn edges walks)) next
+Inv-loop edges walks next₀ x₀ next x = (x ≤ RECORDS) × (length next₀ ≡ CELLS) × Widened next₀ (Some x (AllTurn edges walks)) next
 
 abbrev μ-loop : tie.MeasureT-loop
 μ-loop edges walks next₀ x₀ next x = RECORDS - x
@@ -57,7 +57,7 @@ returns c =
     let k = l .before .before .before in
     let a = k .before .before .before .before .before .args in
     let past : l .loop .x ≡ RECORDS = omega arith in
-    let all : Added (k .clear .last .0) (Some RECORDS (AllTurn (a .edges .now) (a .walks .now))) (l .loop .next) = rw past at (l .loop .inv .2) in
+    let all : Widened (k .clear .last .0) (Some RECORDS (AllTurn (a .edges .now) (a .walks .now))) (l .loop .next) = rw past at (l .loop .inv .2) in
     added-exactly (length (a .next .now)) _ (l .loop .next) (added-same _ _ _ (l .loop .next) (all-all (a .edges .now) (a .walks .now)) (rw (k .clear .ensures) at all))
 
 pub further-spec : {M : Type 1} → statement M

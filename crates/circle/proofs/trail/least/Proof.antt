@@ -8,7 +8,7 @@ use Rattle.trace.specs.Bounds.{RECORDS}
 use Rattle.rows.specs.Bounds.{CELLS}
 use Rattle.rows.specs.Rows.{Edges}
 use Rattle.rows.proofs.Whole.{copy-same}
-use Rattle.circle.proofs.Least.{Trying, try-first, try-next, try-found, try-past}
+use Rattle.circle.proofs.LeastWalk.{Trying, try-first, try-next, try-found, try-past}
 use Rattle.circle.proofs.trail.least.Statement.{statement}
 use Rattle.circle.proofs.trail.least.Tie as tie
 

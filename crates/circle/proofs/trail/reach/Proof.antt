@@ -9,9 +9,9 @@ use Rattle.rows.specs.Empty.{emptyOf}
 use Rattle.rows.specs.Put.{putOf}
 use Rattle.rows.specs.Rows.{Edges}
 use Rattle.rows.proofs.Whole.{empty-long}
-use Rattle.circle.specs.Reach.{Reach}
-use Rattle.circle.proofs.Added.{added-one, added-exactly}
-use Rattle.circle.proofs.Reach.{reach-first, reach-next}
+use Rattle.circle.specs.inner.BackSteps.{Reach}
+use Rattle.circle.proofs.WalkRows.{added-one, added-exactly}
+use Rattle.circle.proofs.BackSteps.{reach-first, reach-next}
 use Rattle.circle.proofs.trail.reach.Statement.{statement}
 use Rattle.circle.proofs.trail.reach.Tie as tie
 

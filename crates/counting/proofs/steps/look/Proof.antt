@@ -6,9 +6,9 @@ use borrow.Author.Needs.{needs}
 use lib.ListN.{length-replicate}
 use lib.Seq.{length-take-le}
 use Rattle.rows.specs.Bounds.{WORDS}
-use Rattle.orders.proofs.Accepted.{well-fits}
-use Rattle.counting.specs.Memory.{SLOTS}
-use Rattle.counting.proofs.Answering.{sets-fit, looked}
+use Rattle.pairs.proofs.ValidOrders.{well-fits}
+use Rattle.counting.specs.inner.FailedLists.{LISTS}
+use Rattle.counting.proofs.CountedAnswer.{sets-fit, looked}
 use Rattle.counting.proofs.steps.look.Statement.{statement}
 use Rattle.counting.proofs.steps.look.Tie as tie
 
@@ -73,9 +73,9 @@ count-requires c κs =
       left = omega arith;
       set = refl;
       reads = s .pre .2 .first .long;
-      slots = length-replicate {A = ℕ} (SLOTS * WORDS) 0;
-      slots′ = length-replicate {A = ℕ} (SLOTS * WORDS) 0;
-      numbers = length-replicate {A = ℕ} SLOTS 0;
+      slots = length-replicate {A = ℕ} (LISTS * WORDS) 0;
+      slots′ = length-replicate {A = ℕ} (LISTS * WORDS) 0;
+      numbers = length-replicate {A = ℕ} LISTS 0;
     }
 
 same-length : tie.Need-same-length

@@ -6,9 +6,9 @@ use borrow.Author.Tests.{not-true, not-false}
 use Rattle.laws.proofs.Tests.{and-iff, same-iff}
 use Rattle.trace.specs.WellFormed.{wellFormed}
 use Rattle.pairs.specs.Kept.{modelled}
-use Rattle.edges.specs.Answers.{answered}
-use Rattle.orders.proofs.Accepted.{well-fits}
-use Rattle.counting.proofs.Answering.{sets-fit, counted-refused, counted-order, counted-end, counted-over}
+use Rattle.edges.specs.ForcedPairs.{answered}
+use Rattle.pairs.proofs.ValidOrders.{well-fits}
+use Rattle.counting.proofs.CountedAnswer.{sets-fit, counted-refused, counted-order, counted-end, counted-over}
 use Rattle.counting.proofs.steps.plain_search.Statement.{statement}
 use Rattle.counting.proofs.steps.plain_search.Tie as tie
 

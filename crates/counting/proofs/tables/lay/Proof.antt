@@ -7,21 +7,22 @@ use Rattle.trace.specs.Meaning.{frameOf}
 use Rattle.rows.specs.Bounds.{CELLS}
 use Rattle.rows.specs.Empty.{emptyOf}
 use Rattle.rows.proofs.Whole.{empty-long}
-use Rattle.rules.specs.Tests.{writer?}
+use Rattle.rules.specs.RuleTests.{writer?}
 use Rattle.pairs.specs.Kept.{keptOf}
-use Rattle.edges.specs.Adds.{Adds, Only, Union}
-use Rattle.edges.proofs.Adds.{union-none, union-more}
-use Rattle.counting.specs.Laying.{owns, feeds?}
-use Rattle.counting.proofs.Laying.{filled, filled-back}
+use Rattle.edges.specs.inner.PairSets.{Only, Union}
+use Rattle.rows.specs.inner.AddedPairs.{Added}
+use Rattle.edges.proofs.PairSets.{union-none, union-more}
+use Rattle.counting.specs.inner.CountingRows.{owns, feeds?}
+use Rattle.counting.proofs.CountingRows.{filled, filled-back}
 use Rattle.counting.proofs.tables.lay.Statement.{statement}
 use Rattle.counting.proofs.tables.lay.Tie as tie
 
 abbrev Inv-loop : tie.InvT-loop
 Inv-loop t model reads served partners₀ own₀ fed₀ rivals₀ n x₀ partners own fed rivals x = (x ≤ n)
-    × Adds (emptyOf CELLS) (Union x (λ z. Union n (λ y. Only (keptOf model t z y) y z))) partners
-    × Adds (emptyOf CELLS) (Union x (λ z. Union n (λ y. Only (owns (frameOf t) z y) y z))) own
-    × Adds (emptyOf CELLS) (Union x (λ z. Union n (λ y. Only (feeds? (frameOf t) reads served z y) z y))) fed
-    × Adds (emptyOf CELLS) (Union x (λ z. Union n (λ y. Only (writer? (frameOf t) z y) z y))) rivals
+    × Added (emptyOf CELLS) (Union x (λ z. Union n (λ y. Only (keptOf model t z y) y z))) partners
+    × Added (emptyOf CELLS) (Union x (λ z. Union n (λ y. Only (owns (frameOf t) z y) y z))) own
+    × Added (emptyOf CELLS) (Union x (λ z. Union n (λ y. Only (feeds? (frameOf t) reads served z y) z y))) fed
+    × Added (emptyOf CELLS) (Union x (λ z. Union n (λ y. Only (writer? (frameOf t) z y) z y))) rivals
 
 abbrev μ-loop : tie.MeasureT-loop
 μ-loop t model reads served partners₀ own₀ fed₀ rivals₀ n x₀ partners own fed rivals x = n - x

@@ -4,16 +4,17 @@ use Prim.Native.Nat.{_≤_, _-_}
 use native.Mathlib.Omega.{arith}
 use Rattle.laws.specs.Tests.{any}
 use Rattle.pairs.specs.Kept.{fenced, keptOf}
-use Rattle.edges.specs.Adds.{Adds, Only, Union}
-use Rattle.edges.proofs.Adds.{adds-if, adds-only, union-none, union-more}
-use Rattle.edges.proofs.Drawn.{fenced-more}
-use Rattle.counting.proofs.Laying.{kept-at}
+use Rattle.edges.specs.inner.PairSets.{Only, Union}
+use Rattle.rows.specs.inner.AddedPairs.{Added}
+use Rattle.edges.proofs.PairSets.{adds-if, adds-only, union-none, union-more}
+use Rattle.pairs.proofs.Fences.{fenced-more}
+use Rattle.counting.proofs.CountingRows.{kept-at}
 use borrow.Author.Needs.{needs}
 use Rattle.counting.proofs.tables.lay_partners.Statement.{statement}
 use Rattle.counting.proofs.tables.lay_partners.Tie as tie
 
 abbrev Inv-loop : tie.InvT-loop
-Inv-loop model x partners₀ t n a passed₀ y₀ partners passed y = (y ≤ n) × (passed ≡ fenced t x y) × Adds partners₀ (Union y (λ z. Only (keptOf model t x z) z x)) partners
+Inv-loop model x partners₀ t n a passed₀ y₀ partners passed y = (y ≤ n) × (passed ≡ fenced t x y) × Added partners₀ (Union y (λ z. Only (keptOf model t x z) z x)) partners
 
 abbrev μ-loop : tie.MeasureT-loop
 μ-loop model x partners₀ t n a passed₀ y₀ partners passed y = n - y

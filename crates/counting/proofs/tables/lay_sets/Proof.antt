@@ -9,11 +9,11 @@ use Rattle.trace.specs.Bounds.{RECORDS}
 use Rattle.trace.specs.Trace.{first}
 use Rattle.trace.specs.Meaning.{frameOf}
 use Rattle.rows.specs.Empty.{emptyOf}
-use Rattle.edges.specs.Drawn.{readsFirst}
-use Rattle.edges.proofs.Drawn.{early-at}
-use Rattle.orders.proofs.Records.{operation-at, reads-at}
-use Rattle.counting.specs.Laying.{Among}
-use Rattle.counting.proofs.Laying.{among-none, among-more, among-all, upTo, up-none, up-yes, up-no, up-all}
+use Rattle.edges.specs.inner.DrawnEdges.{readsFirst}
+use Rattle.edges.proofs.DrawnEdges.{early-at}
+use Rattle.trace.proofs.Records.{operation-at, reads-at}
+use Rattle.counting.specs.inner.CountingRows.{Among}
+use Rattle.counting.proofs.CountingRows.{among-none, among-more, among-all, upTo, up-none, up-yes, up-no, up-all}
 use Rattle.counting.proofs.tables.lay_sets.Statement.{statement}
 use Rattle.counting.proofs.tables.lay_sets.Tie as tie
 

@@ -6,20 +6,21 @@ use native.Mathlib.Omega.{arith}
 use borrow.Author.Needs.{needs}
 use Rattle.trace.specs.Bounds.{RECORDS}
 use Rattle.trace.specs.Meaning.{frameOf}
-use Rattle.rules.specs.Tests.{writer?}
-use Rattle.edges.specs.Adds.{Adds, Only, Union}
-use Rattle.edges.proofs.Adds.{adds-if, adds-only, union-none, union-more}
-use Rattle.edges.proofs.Drawn.{writer-at, earlier-at}
-use Rattle.counting.specs.Laying.{owns, feeds?}
-use Rattle.counting.proofs.Laying.{feeds-at}
+use Rattle.rules.specs.RuleTests.{writer?}
+use Rattle.edges.specs.inner.PairSets.{Only, Union}
+use Rattle.rows.specs.inner.AddedPairs.{Added}
+use Rattle.edges.proofs.PairSets.{adds-if, adds-only, union-none, union-more}
+use Rattle.edges.proofs.DrawnEdges.{writer-at, earlier-at}
+use Rattle.counting.specs.inner.CountingRows.{owns, feeds?}
+use Rattle.counting.proofs.CountingRows.{feeds-at}
 use Rattle.counting.proofs.tables.lay_writer.Statement.{statement}
 use Rattle.counting.proofs.tables.lay_writer.Tie as tie
 
 abbrev Inv-loop : tie.InvT-loop
 Inv-loop reads served x own₀ fed₀ rivals₀ t n a y₀ own fed rivals y = (y ≤ n)
-    × Adds own₀ (Union y (λ z. Only (owns (frameOf t) x z) z x)) own
-    × Adds fed₀ (Union y (λ z. Only (feeds? (frameOf t) reads served x z) x z)) fed
-    × Adds rivals₀ (Union y (λ z. Only (writer? (frameOf t) x z) x z)) rivals
+    × Added own₀ (Union y (λ z. Only (owns (frameOf t) x z) z x)) own
+    × Added fed₀ (Union y (λ z. Only (feeds? (frameOf t) reads served x z) x z)) fed
+    × Added rivals₀ (Union y (λ z. Only (writer? (frameOf t) x z) x z)) rivals
 
 abbrev μ-loop : tie.MeasureT-loop
 μ-loop reads served x own₀ fed₀ rivals₀ t n a y₀ own fed rivals y = n - y

@@ -9,8 +9,8 @@ use borrow.Fn.Kinds.{In}
 use borrow.Fn.PlainCycle.{Measures, is, falls, and}
 use lib.ListN.{set, length-set}
 use Rattle.laws.proofs.Tests.{and-iff, same-iff, so-lt}
-use Rattle.counting.specs.Walking.{tables, Fits, Going}
-use Rattle.counting.proofs.Walking.{counts-full, counts-recalled, going-none, going-skip, going-failed, counts-spent, counts-order, counts-over, counts-end}
+use Rattle.counting.specs.inner.CountedWalk.{countingTables, FitsBudget, Going}
+use Rattle.counting.proofs.CountedWalk.{counts-full, counts-recalled, going-none, going-skip, going-failed, counts-spent, counts-order, counts-over, counts-end}
 use Rattle.counting.proofs.walk.count.Reads as count
 use Rattle.counting.proofs.walk.count.Kinds as count-kinds
 use Rattle.counting.proofs.walk.+count.Lts-count as count-lts
@@ -55,7 +55,7 @@ calls t = (
 
 abbrev count-Inv-loop : count-lts.InvT-loop
 count-Inv-loop n total operations reads partners own fed rivals list₀ k placed served left sets₀ serves₀ counts₀ h used₀ y₀ list sets serves counts used y =
-    Going (tables n total operations reads partners own fed rivals) list₀ k placed served left sets₀ serves₀ counts₀ y used list sets serves counts
+    Going (countingTables n total operations reads partners own fed rivals) list₀ k placed served left sets₀ serves₀ counts₀ y used list sets serves counts
 
 abbrev count-μ-loop : count-lts.MeasureT-loop
 count-μ-loop n total operations reads partners own fed rivals list₀ k placed served left sets₀ serves₀ counts₀ h used₀ y₀ list sets serves counts used y = n - y
@@ -64,7 +64,7 @@ count-returns : (t : ℕ) → count-lts.Need-returns (calls t) (count-at t) coun
 count-returns t c = let s = c .before .before .before .before .before .before .before .before .before .before .before .before .before in
     let a = s .args in
     let room = s .pre .1 in
-    counts-full (tables (a .n) (a .total) (a .operations .now) (a .reads .now) (a .partners .now) (a .own .now) (a .fed .now) (a .rivals .now)) (a .list .now) (a .k) (a .placed .now) (a .served .now) (a .left) (a .sets .now) (a .serves .now) (a .counts .now) room (c .if1 .taken)
+    counts-full (countingTables (a .n) (a .total) (a .operations .now) (a .reads .now) (a .partners .now) (a .own .now) (a .fed .now) (a .rivals .now)) (a .list .now) (a .k) (a .placed .now) (a .served .now) (a .left) (a .sets .now) (a .serves .now) (a .counts .now) room (c .if1 .taken)
 
 count-mix-requires : (t : ℕ) → count-lts.Need-mix-requires (calls t) (count-at t) count.Post count-Inv-loop count-μ-loop
 count-mix-requires t c κs = search needs
@@ -107,13 +107,13 @@ count-returns-2 t c = let s = c .before .before .before .before .before .before 
     let a = s .args in
     let room = s .pre .1 in
     let t₁ = and-iff (and-iff (so-lt {m = 0} {n = a .k}) (same-iff {a = c .before .before .before .before .before .same-at .result})) (same-iff {a = c .before .before .before .same-at2 .result}) .0 (c .before .before .if2 .taken) in
-    rw (c .recalled .ensures) (counts-recalled (tables (a .n) (a .total) (a .operations .now) (a .reads .now) (a .partners .now) (a .own .now) (a .fed .now) (a .rivals .now)) (a .list .now) (a .k) (a .placed .now) (a .served .now) (a .left) (a .sets .now) (a .serves .now) (a .counts .now) room (c .before .before .before .before .before .before .before .mix2 .result) (c .before .before .before .before .before .before .before .mix2 .ensures) (t₁ .0 .0) (c .before .before .before .before .before .same-at .ensures (t₁ .0 .1)) (c .before .before .before .same-at2 .ensures (t₁ .1)))
+    rw (c .recalled .ensures) (counts-recalled (countingTables (a .n) (a .total) (a .operations .now) (a .reads .now) (a .partners .now) (a .own .now) (a .fed .now) (a .rivals .now)) (a .list .now) (a .k) (a .placed .now) (a .served .now) (a .left) (a .sets .now) (a .serves .now) (a .counts .now) room (c .before .before .before .before .before .before .before .mix2 .result) (c .before .before .before .before .before .before .before .mix2 .ensures) (t₁ .0 .0) (c .before .before .before .before .before .same-at .ensures (t₁ .0 .1)) (c .before .before .before .same-at2 .ensures (t₁ .1)))
 
 count-loop-holds : (t : ℕ) → count-lts.Need-loop-holds (calls t) (count-at t) count.Post count-Inv-loop count-μ-loop
 count-loop-holds t c = let s = c .before .before .before .before .before .before .before .before .before .before .before .before .before .before .before .before .before .before .before .before in
     let a = s .args in
     let room = s .pre .1 in
-    going-none (tables (a .n) (a .total) (a .operations .now) (a .reads .now) (a .partners .now) (a .own .now) (a .fed .now) (a .rivals .now)) (a .list .now) (a .k) (a .placed .now) (a .served .now) (a .left) (a .sets .now) (a .serves .now) (a .counts .now) room
+    going-none (countingTables (a .n) (a .total) (a .operations .now) (a .reads .now) (a .partners .now) (a .own .now) (a .fed .now) (a .rivals .now)) (a .list .now) (a .k) (a .placed .now) (a .served .now) (a .left) (a .sets .now) (a .serves .now) (a .counts .now) room
 
 count-next-requires : (t : ℕ) → count-lts.Need-next-requires (calls t) (count-at t) count.Post count-Inv-loop count-μ-loop
 count-next-requires t c κs = let s = c .before .before .before .before .before .before .before .before .before .before .before .before .before .before .before .before .before .before .before .before .before .before in
@@ -139,7 +139,7 @@ count-returns-3 t c = let s = c .before .before .before .before .before .before 
     let room = s .pre .1 in
     let l = c .before .before .before .before in
     let space : a .k < a .total = omega (arith, room .left, c .before .before .before .before .before .before .before .before .before .before .before .before .if1 .left) in
-    counts-spent (tables (a .n) (a .total) (a .operations .now) (a .reads .now) (a .partners .now) (a .own .now) (a .fed .now) (a .rivals .now)) (a .list .now) (a .k) (a .placed .now) (a .served .now) (a .left) (a .sets .now) (a .serves .now) (a .counts .now) room space (l .loop .y) (l .loop .used) (l .loop .list) (l .loop .sets) (l .loop .serves) (l .loop .counts) (l .loop .inv) (c .before .before .before .loop-test .taken) (c .before .before .next .ensures .0 (c .before .if3 .taken)) (c .if4 .taken)
+    counts-spent (countingTables (a .n) (a .total) (a .operations .now) (a .reads .now) (a .partners .now) (a .own .now) (a .fed .now) (a .rivals .now)) (a .list .now) (a .k) (a .placed .now) (a .served .now) (a .left) (a .sets .now) (a .serves .now) (a .counts .now) room space (l .loop .y) (l .loop .used) (l .loop .list) (l .loop .sets) (l .loop .serves) (l .loop .counts) (l .loop .inv) (c .before .before .before .loop-test .taken) (c .before .before .next .ensures .0 (c .before .if3 .taken)) (c .if4 .taken)
 
 count-cast-list : (t : ℕ) → count-lts.Need-cast-list (calls t) (count-at t) count.Post count-Inv-loop count-μ-loop
 count-cast-list t c = let s = c .before .before .before .before .before .before .before .before .before .before .before .before .before .before .before .before .before .before .before .before .before .before .before .before .before in
@@ -258,7 +258,7 @@ count-add-t67 t c = let s = c .before .before .before .before .before .before .b
     let room = s .pre .1 in
     let l = c .before .before .before .before .before .before .before .before .before .before .before .before .before .before .before .before .before .before .before .before .before .before .before .before .before .before .before .before .before in
     let space : a .k < a .total = omega (arith, room .left, c .before .before .before .before .before .before .before .before .before .before .before .before .before .before .before .before .before .before .before .before .before .before .before .before .before .before .before .before .before .before .before .before .before .before .before .before .before .if1 .left) in
-    let h : c .before .below .given .0 .0 ≤ a .left - l .loop .used - 1 = subst (Fits (a .left - l .loop .used - 1)) (c .before .below .given .1) (c .before .before .before .before .before .before .before .before .before .before .before .count .ensures .within) in
+    let h : c .before .below .given .0 .0 ≤ a .left - l .loop .used - 1 = subst (FitsBudget (a .left - l .loop .used - 1)) (c .before .below .given .1) (c .before .before .before .before .before .before .before .before .before .before .before .count .ensures .within) in
     omega (arith, l .loop .inv .budget, c .before .before .before .before .before .before .before .before .before .before .before .before .before .before .before .before .before .before .before .before .before .before .before .before .before .if4 .left, s .fits .left)
 
 count-same-length-7 : (t : ℕ) → count-lts.Need-same-length-7 (calls t) (count-at t) count.Post count-Inv-loop count-μ-loop
@@ -299,7 +299,7 @@ count-returns-4 t c = let s = c .before .before .before .before .before .before 
     let room = s .pre .1 in
     let l = c .before .before .before .before .before .before .before .before .before .before .before .before .before .before .before .before .before .before .before .before .before .before .before .before .before .before .before .before .before in
     let space : a .k < a .total = omega (arith, room .left, c .before .before .before .before .before .before .before .before .before .before .before .before .before .before .before .before .before .before .before .before .before .before .before .before .before .before .before .before .before .before .before .before .before .before .before .before .before .if1 .left) in
-    counts-order (tables (a .n) (a .total) (a .operations .now) (a .reads .now) (a .partners .now) (a .own .now) (a .fed .now) (a .rivals .now)) (a .list .now) (a .k) (a .placed .now) (a .served .now) (a .left) (a .sets .now) (a .serves .now) (a .counts .now) room space (l .loop .y) (l .loop .used) (l .loop .list) (l .loop .sets) (l .loop .serves) (l .loop .counts) (l .loop .inv) (c .before .before .before .before .before .before .before .before .before .before .before .before .before .before .before .before .before .before .before .before .before .before .before .before .before .before .before .before .loop-test .taken) (c .before .before .before .before .before .before .before .before .before .before .before .before .before .before .before .before .before .before .before .before .before .before .before .before .before .before .before .next .ensures .0 (c .before .before .before .before .before .before .before .before .before .before .before .before .before .before .before .before .before .before .before .before .before .before .before .before .before .before .if3 .taken)) (omega (arith, l .loop .inv .budget, c .before .before .before .before .before .before .before .before .before .before .before .before .before .before .before .before .before .before .before .before .before .before .before .before .before .if4 .left)) (c .before .before .before .before .before .before .before .before .before .before .before .before .before .before .before .before .before .before .before .before .before .before .before .join .last .1 .1 .0) (c .before .before .before .before .before .before .before .before .before .before .before .before .before .before .before .before .before .before .before .serve .last .1 .1 .1 .1 .1 .0) (c .before .before .before .before .before .before .before .before .before .before .before .count .last .1 .1 .1 .1 .1 .1 .1 .1 .0) (c .before .before .before .before .before .before .before .before .before .before .before .count .last .1 .1 .1 .1 .1 .1 .1 .1 .1 .1 .1 .1 .1 .0) (c .before .before .before .before .before .before .before .before .before .before .before .count .last .1 .1 .1 .1 .1 .1 .1 .1 .1 .1 .1 .1 .1 .1 .0) (c .before .before .before .before .before .before .before .before .before .before .before .count .last .1 .1 .1 .1 .1 .1 .1 .1 .1 .1 .1 .1 .1 .1 .1 .0) (c .before .before .before .before .before .before .before .before .before .before .before .before .before .before .before .before .before .before .before .before .before .before .before .join .ensures) (c .before .before .before .before .before .before .before .before .before .before .before .before .before .before .before .before .before .before .before .serve .ensures) (c .before .before .before .before .before .before .before .before .before .before .before .count .result) (c .before .before .before .before .before .before .before .before .before .before .before .count .ensures) (c .before .before .before .before .before .before .before .before .before .before .before .count .kept .1 .1 .1 .1 .1 .1 .1 .1 .0 ∙ length-set (l .loop .list) (a .k) (l .loop .y)) (c .before .before .before .before .before .before .before .before .before .before .before .count .kept .1 .1 .1 .1 .1 .1 .1 .1 .1 .1 .1 .1 .1 .0) (c .before .before .before .before .before .before .before .before .before .before .before .count .kept .1 .1 .1 .1 .1 .1 .1 .1 .1 .1 .1 .1 .1 .1 .0) (c .before .before .before .before .before .before .before .before .before .before .before .count .kept .1 .1 .1 .1 .1 .1 .1 .1 .1 .1 .1 .1 .1 .1 .1 .0) _ (c .before .below .given .1)
+    counts-order (countingTables (a .n) (a .total) (a .operations .now) (a .reads .now) (a .partners .now) (a .own .now) (a .fed .now) (a .rivals .now)) (a .list .now) (a .k) (a .placed .now) (a .served .now) (a .left) (a .sets .now) (a .serves .now) (a .counts .now) room space (l .loop .y) (l .loop .used) (l .loop .list) (l .loop .sets) (l .loop .serves) (l .loop .counts) (l .loop .inv) (c .before .before .before .before .before .before .before .before .before .before .before .before .before .before .before .before .before .before .before .before .before .before .before .before .before .before .before .before .loop-test .taken) (c .before .before .before .before .before .before .before .before .before .before .before .before .before .before .before .before .before .before .before .before .before .before .before .before .before .before .before .next .ensures .0 (c .before .before .before .before .before .before .before .before .before .before .before .before .before .before .before .before .before .before .before .before .before .before .before .before .before .before .if3 .taken)) (omega (arith, l .loop .inv .budget, c .before .before .before .before .before .before .before .before .before .before .before .before .before .before .before .before .before .before .before .before .before .before .before .before .before .if4 .left)) (c .before .before .before .before .before .before .before .before .before .before .before .before .before .before .before .before .before .before .before .before .before .before .before .join .last .1 .1 .0) (c .before .before .before .before .before .before .before .before .before .before .before .before .before .before .before .before .before .before .before .serve .last .1 .1 .1 .1 .1 .0) (c .before .before .before .before .before .before .before .before .before .before .before .count .last .1 .1 .1 .1 .1 .1 .1 .1 .0) (c .before .before .before .before .before .before .before .before .before .before .before .count .last .1 .1 .1 .1 .1 .1 .1 .1 .1 .1 .1 .1 .1 .0) (c .before .before .before .before .before .before .before .before .before .before .before .count .last .1 .1 .1 .1 .1 .1 .1 .1 .1 .1 .1 .1 .1 .1 .0) (c .before .before .before .before .before .before .before .before .before .before .before .count .last .1 .1 .1 .1 .1 .1 .1 .1 .1 .1 .1 .1 .1 .1 .1 .0) (c .before .before .before .before .before .before .before .before .before .before .before .before .before .before .before .before .before .before .before .before .before .before .before .join .ensures) (c .before .before .before .before .before .before .before .before .before .before .before .before .before .before .before .before .before .before .before .serve .ensures) (c .before .before .before .before .before .before .before .before .before .before .before .count .result) (c .before .before .before .before .before .before .before .before .before .before .before .count .ensures) (c .before .before .before .before .before .before .before .before .before .before .before .count .kept .1 .1 .1 .1 .1 .1 .1 .1 .0 ∙ length-set (l .loop .list) (a .k) (l .loop .y)) (c .before .before .before .before .before .before .before .before .before .before .before .count .kept .1 .1 .1 .1 .1 .1 .1 .1 .1 .1 .1 .1 .1 .0) (c .before .before .before .before .before .before .before .before .before .before .before .count .kept .1 .1 .1 .1 .1 .1 .1 .1 .1 .1 .1 .1 .1 .1 .0) (c .before .before .before .before .before .before .before .before .before .before .before .count .kept .1 .1 .1 .1 .1 .1 .1 .1 .1 .1 .1 .1 .1 .1 .1 .0) _ (c .before .below .given .1)
 
 count-enum-told : (t : ℕ) → count-lts.Need-enum-told (calls t) (count-at t) count.Post count-Inv-loop count-μ-loop
 count-enum-told t c = search needs
@@ -342,7 +342,7 @@ count-returns-5 t c = let s = c .before .before .before .before .before .before 
     let room = s .pre .1 in
     let l = c .before .before .before .before .before .before .before .before .before .before .before .before .before .before .before .before .before .before .before .before .before .before .before .before .before .before .before .before in
     let space : a .k < a .total = omega (arith, room .left, c .before .before .before .before .before .before .before .before .before .before .before .before .before .before .before .before .before .before .before .before .before .before .before .before .before .before .before .before .before .before .before .before .before .before .before .before .if1 .left) in
-    counts-over (tables (a .n) (a .total) (a .operations .now) (a .reads .now) (a .partners .now) (a .own .now) (a .fed .now) (a .rivals .now)) (a .list .now) (a .k) (a .placed .now) (a .served .now) (a .left) (a .sets .now) (a .serves .now) (a .counts .now) room space (l .loop .y) (l .loop .used) (l .loop .list) (l .loop .sets) (l .loop .serves) (l .loop .counts) (l .loop .inv) (c .before .before .before .before .before .before .before .before .before .before .before .before .before .before .before .before .before .before .before .before .before .before .before .before .before .before .before .loop-test .taken) (c .before .before .before .before .before .before .before .before .before .before .before .before .before .before .before .before .before .before .before .before .before .before .before .before .before .before .next .ensures .0 (c .before .before .before .before .before .before .before .before .before .before .before .before .before .before .before .before .before .before .before .before .before .before .before .before .before .if3 .taken)) (omega (arith, l .loop .inv .budget, c .before .before .before .before .before .before .before .before .before .before .before .before .before .before .before .before .before .before .before .before .before .before .before .before .if4 .left)) (c .before .before .before .before .before .before .before .before .before .before .before .before .before .before .before .before .before .before .before .before .before .before .join .last .1 .1 .0) (c .before .before .before .before .before .before .before .before .before .before .before .before .before .before .before .before .before .before .serve .last .1 .1 .1 .1 .1 .0) (c .before .before .before .before .before .before .before .before .before .before .count .last .1 .1 .1 .1 .1 .1 .1 .1 .0) (c .before .before .before .before .before .before .before .before .before .before .count .last .1 .1 .1 .1 .1 .1 .1 .1 .1 .1 .1 .1 .1 .0) (c .before .before .before .before .before .before .before .before .before .before .count .last .1 .1 .1 .1 .1 .1 .1 .1 .1 .1 .1 .1 .1 .1 .0) (c .before .before .before .before .before .before .before .before .before .before .count .last .1 .1 .1 .1 .1 .1 .1 .1 .1 .1 .1 .1 .1 .1 .1 .0) (c .before .before .before .before .before .before .before .before .before .before .before .before .before .before .before .before .before .before .before .before .before .before .join .ensures) (c .before .before .before .before .before .before .before .before .before .before .before .before .before .before .before .before .before .before .serve .ensures) (c .before .before .before .before .before .before .before .before .before .before .count .result) (c .before .before .before .before .before .before .before .before .before .before .count .ensures) (c .before .before .before .before .before .before .before .before .before .before .count .kept .1 .1 .1 .1 .1 .1 .1 .1 .0 ∙ length-set (l .loop .list) (a .k) (l .loop .y)) (c .before .before .before .before .before .before .before .before .before .before .count .kept .1 .1 .1 .1 .1 .1 .1 .1 .1 .1 .1 .1 .1 .0) (c .before .before .before .before .before .before .before .before .before .before .count .kept .1 .1 .1 .1 .1 .1 .1 .1 .1 .1 .1 .1 .1 .1 .0) (c .before .before .before .before .before .before .before .before .before .before .count .kept .1 .1 .1 .1 .1 .1 .1 .1 .1 .1 .1 .1 .1 .1 .1 .0) (c .enum-told .given .1)
+    counts-over (countingTables (a .n) (a .total) (a .operations .now) (a .reads .now) (a .partners .now) (a .own .now) (a .fed .now) (a .rivals .now)) (a .list .now) (a .k) (a .placed .now) (a .served .now) (a .left) (a .sets .now) (a .serves .now) (a .counts .now) room space (l .loop .y) (l .loop .used) (l .loop .list) (l .loop .sets) (l .loop .serves) (l .loop .counts) (l .loop .inv) (c .before .before .before .before .before .before .before .before .before .before .before .before .before .before .before .before .before .before .before .before .before .before .before .before .before .before .before .loop-test .taken) (c .before .before .before .before .before .before .before .before .before .before .before .before .before .before .before .before .before .before .before .before .before .before .before .before .before .before .next .ensures .0 (c .before .before .before .before .before .before .before .before .before .before .before .before .before .before .before .before .before .before .before .before .before .before .before .before .before .if3 .taken)) (omega (arith, l .loop .inv .budget, c .before .before .before .before .before .before .before .before .before .before .before .before .before .before .before .before .before .before .before .before .before .before .before .before .if4 .left)) (c .before .before .before .before .before .before .before .before .before .before .before .before .before .before .before .before .before .before .before .before .before .before .join .last .1 .1 .0) (c .before .before .before .before .before .before .before .before .before .before .before .before .before .before .before .before .before .before .serve .last .1 .1 .1 .1 .1 .0) (c .before .before .before .before .before .before .before .before .before .before .count .last .1 .1 .1 .1 .1 .1 .1 .1 .0) (c .before .before .before .before .before .before .before .before .before .before .count .last .1 .1 .1 .1 .1 .1 .1 .1 .1 .1 .1 .1 .1 .0) (c .before .before .before .before .before .before .before .before .before .before .count .last .1 .1 .1 .1 .1 .1 .1 .1 .1 .1 .1 .1 .1 .1 .0) (c .before .before .before .before .before .before .before .before .before .before .count .last .1 .1 .1 .1 .1 .1 .1 .1 .1 .1 .1 .1 .1 .1 .1 .0) (c .before .before .before .before .before .before .before .before .before .before .before .before .before .before .before .before .before .before .before .before .before .before .join .ensures) (c .before .before .before .before .before .before .before .before .before .before .before .before .before .before .before .before .before .before .serve .ensures) (c .before .before .before .before .before .before .before .before .before .before .count .result) (c .before .before .before .before .before .before .before .before .before .before .count .ensures) (c .before .before .before .before .before .before .before .before .before .before .count .kept .1 .1 .1 .1 .1 .1 .1 .1 .0 ∙ length-set (l .loop .list) (a .k) (l .loop .y)) (c .before .before .before .before .before .before .before .before .before .before .count .kept .1 .1 .1 .1 .1 .1 .1 .1 .1 .1 .1 .1 .1 .0) (c .before .before .before .before .before .before .before .before .before .before .count .kept .1 .1 .1 .1 .1 .1 .1 .1 .1 .1 .1 .1 .1 .1 .0) (c .before .before .before .before .before .before .before .before .before .before .count .kept .1 .1 .1 .1 .1 .1 .1 .1 .1 .1 .1 .1 .1 .1 .1 .0) (c .enum-told .given .1)
 
 count-enum-known-below-2 : (t : ℕ) → count-lts.Need-enum-known-below-2 (calls t) (count-at t) count.Post count-Inv-loop count-μ-loop
 count-enum-known-below-2 t c = search needs
@@ -361,7 +361,7 @@ count-add-used-2 t c = let s = c .before .before .before .before .before .before
     let room = s .pre .1 in
     let l = c .before .before .before .before .before .before .before .before .before .before .before .before .before .before .before .before .before .before .before .before .before .before .before .before .before .before .before .before .before in
     let space : a .k < a .total = omega (arith, room .left, c .before .before .before .before .before .before .before .before .before .before .before .before .before .before .before .before .before .before .before .before .before .before .before .before .before .before .before .before .before .before .before .before .before .before .before .before .before .if1 .left) in
-    let h : c .before .below2 .given .0 .0 ≤ a .left - l .loop .used - 1 = subst (Fits (a .left - l .loop .used - 1)) (c .before .below2 .given .1) (c .before .before .before .before .before .before .before .before .before .before .before .count .ensures .within) in
+    let h : c .before .below2 .given .0 .0 ≤ a .left - l .loop .used - 1 = subst (FitsBudget (a .left - l .loop .used - 1)) (c .before .below2 .given .1) (c .before .before .before .before .before .before .before .before .before .before .before .count .ensures .within) in
     omega (arith, l .loop .inv .budget, c .before .before .before .before .before .before .before .before .before .before .before .before .before .before .before .before .before .before .before .before .before .before .before .before .before .if4 .left, s .fits .left)
 
 count-add-y : (t : ℕ) → count-lts.Need-add-y (calls t) (count-at t) count.Post count-Inv-loop count-μ-loop
@@ -389,7 +389,7 @@ count-loop-again t c = let s = c .before .before .before .before .before .before
     let e3 : c .if3 .counts ≡ w .15 .last .1 .1 .1 .1 .1 .1 .1 .1 .1 .1 .1 .1 .1 .1 .1 .0 = w .30 in
     let e4 : c .if3 .used ≡ l .loop .used + 1 + w .25 .given .0 .0 = w .31 in
     rw (e0, e1, e2, e3, e4)
-    (going-failed (tables (a .n) (a .total) (a .operations .now) (a .reads .now) (a .partners .now) (a .own .now) (a .fed .now) (a .rivals .now)) (a .list .now) (a .k) (a .placed .now) (a .served .now) (a .left) (a .sets .now) (a .serves .now) (a .counts .now) room space (l .loop .y) (l .loop .used) (l .loop .list) (l .loop .sets) (l .loop .serves) (l .loop .counts) (l .loop .inv) (c .before .before .loop-test .taken) (c .before .next .ensures .0 (w .0 .taken)) (omega (arith, l .loop .inv .budget, w .1 .left))
+    (going-failed (countingTables (a .n) (a .total) (a .operations .now) (a .reads .now) (a .partners .now) (a .own .now) (a .fed .now) (a .rivals .now)) (a .list .now) (a .k) (a .placed .now) (a .served .now) (a .left) (a .sets .now) (a .serves .now) (a .counts .now) room space (l .loop .y) (l .loop .used) (l .loop .list) (l .loop .sets) (l .loop .serves) (l .loop .counts) (l .loop .inv) (c .before .before .loop-test .taken) (c .before .next .ensures .0 (w .0 .taken)) (omega (arith, l .loop .inv .budget, w .1 .left))
     (w .3 .last .1 .1 .0) (w .7 .last .1 .1 .1 .1 .1 .0) (w .15 .last .1 .1 .1 .1 .1 .1 .1 .1 .0) (w .15 .last .1 .1 .1 .1 .1 .1 .1 .1 .1 .1 .1 .1 .1 .0) (w .15 .last .1 .1 .1 .1 .1 .1 .1 .1 .1 .1 .1 .1 .1 .1 .0) (w .15 .last .1 .1 .1 .1 .1 .1 .1 .1 .1 .1 .1 .1 .1 .1 .1 .0) (w .3 .ensures) (w .7 .ensures) (w .15 .result) (w .15 .ensures)
     (w .15 .kept .1 .1 .1 .1 .1 .1 .1 .1 .0 ∙ length-set (l .loop .list) (a .k) (l .loop .y)) (w .15 .kept .1 .1 .1 .1 .1 .1 .1 .1 .1 .1 .1 .1 .1 .0) (w .15 .kept .1 .1 .1 .1 .1 .1 .1 .1 .1 .1 .1 .1 .1 .1 .0) (w .15 .kept .1 .1 .1 .1 .1 .1 .1 .1 .1 .1 .1 .1 .1 .1 .1 .0) _ (w .25 .given .1)))
     (λ w.
@@ -398,7 +398,7 @@ count-loop-again t c = let s = c .before .before .before .before .before .before
     let e2 : c .if3 .serves ≡ l .loop .serves = w .3 in
     let e3 : c .if3 .counts ≡ l .loop .counts = w .4 in
     let e4 : c .if3 .used ≡ l .loop .used = w .5 in
-    rw (e0, e1, e2, e3, e4) (going-skip (tables (a .n) (a .total) (a .operations .now) (a .reads .now) (a .partners .now) (a .own .now) (a .fed .now) (a .rivals .now)) (a .list .now) (a .k) (a .placed .now) (a .served .now) (a .left) (a .sets .now) (a .serves .now) (a .counts .now) room space (l .loop .y) (l .loop .used) (l .loop .list) (l .loop .sets) (l .loop .serves) (l .loop .counts) (l .loop .inv) (c .before .before .loop-test .taken) (λ r. false≢true (sym (w .0 .left) ∙ c .before .next .ensures .1 r))))
+    rw (e0, e1, e2, e3, e4) (going-skip (countingTables (a .n) (a .total) (a .operations .now) (a .reads .now) (a .partners .now) (a .own .now) (a .fed .now) (a .rivals .now)) (a .list .now) (a .k) (a .placed .now) (a .served .now) (a .left) (a .sets .now) (a .serves .now) (a .counts .now) room space (l .loop .y) (l .loop .used) (l .loop .list) (l .loop .sets) (l .loop .serves) (l .loop .counts) (l .loop .inv) (c .before .before .loop-test .taken) (λ r. false≢true (sym (w .0 .left) ∙ c .before .next .ensures .1 r))))
     (c .if3 .came)
 
 count-put-at-requires : (t : ℕ) → count-lts.Need-put-at-requires (calls t) (count-at t) count.Post count-Inv-loop count-μ-loop
@@ -451,7 +451,7 @@ count-returns-6 t c = let s = c .before .before .before .before .before .before 
     let room = s .pre .1 in
     let l = c .before .before .before .before .before .before .before .before .before in
     let space : a .k < a .total = omega (arith, room .left, c .before .before .before .before .before .before .before .before .before .before .before .before .before .before .before .before .before .if1 .left) in
-    counts-end (tables (a .n) (a .total) (a .operations .now) (a .reads .now) (a .partners .now) (a .own .now) (a .fed .now) (a .rivals .now)) (a .list .now) (a .k) (a .placed .now) (a .served .now) (a .left) (a .sets .now) (a .serves .now) (a .counts .now) room space (l .loop .y) (l .loop .used) (l .loop .list) (l .loop .sets) (l .loop .serves) (l .loop .counts) (l .loop .inv) (omega (arith, c .before .before .before .before .before .before .before .before .loop-test .left)) (c .before .before .before .before .before .before .before .before .before .before .before .before .before .before .before .mix2 .result) (c .before .before .before .before .before .before .before .before .before .before .before .before .before .before .before .mix2 .ensures) (c .before .before .before .before .before .before .put-at .last .0) (c .before .before .put-at2 .last .0) (c .before .before .before .before .before .before .put-at .ensures) (c .before .before .put-at2 .ensures)
+    counts-end (countingTables (a .n) (a .total) (a .operations .now) (a .reads .now) (a .partners .now) (a .own .now) (a .fed .now) (a .rivals .now)) (a .list .now) (a .k) (a .placed .now) (a .served .now) (a .left) (a .sets .now) (a .serves .now) (a .counts .now) room space (l .loop .y) (l .loop .used) (l .loop .list) (l .loop .sets) (l .loop .serves) (l .loop .counts) (l .loop .inv) (omega (arith, c .before .before .before .before .before .before .before .before .loop-test .left)) (c .before .before .before .before .before .before .before .before .before .before .before .before .before .before .before .mix2 .result) (c .before .before .before .before .before .before .before .before .before .before .before .before .before .before .before .mix2 .ensures) (c .before .before .before .before .before .before .put-at .last .0) (c .before .before .put-at2 .last .0) (c .before .before .before .before .before .before .put-at .ensures) (c .before .before .put-at2 .ensures)
 
 pub +count-spec : {M : Type 1} → statement M
 +count-spec = close μ-count λ t. count-lts.spec (calls t)

@@ -8,12 +8,12 @@ use borrow.Author.Needs.{needs}
 use Rattle.laws.specs.Latest.{lastOf}
 use Rattle.laws.proofs.Latest.{last-none, last-on, last-off, last-all}
 use Rattle.trace.specs.Bounds.{RECORDS}
-use Rattle.counting.specs.Counting.{waiting, lastWaiting}
+use Rattle.counting.specs.inner.NextTests.{waitingOwn, lastWaiting}
 use Rattle.counting.proofs.walk.last_waiting.Statement.{statement}
 use Rattle.counting.proofs.walk.last_waiting.Tie as tie
 
 abbrev Inv-loop : tie.InvT-loop
-Inv-loop n own placed c last₀ s₀ last s = (s ≤ n) × (last ≡ lastOf (waiting own placed c) (λ S. S) RECORDS s)
+Inv-loop n own placed c last₀ s₀ last s = (s ≤ n) × (last ≡ lastOf (waitingOwn own placed c) (λ S. S) RECORDS s)
 
 abbrev μ-loop : tie.MeasureT-loop
 μ-loop n own placed c last₀ s₀ last s = n - s
@@ -34,7 +34,7 @@ loop-less : tie.Need-loop-less Inv-loop μ-loop
 loop-less c = search needs
 
 loop-again : tie.Need-loop-again Inv-loop μ-loop
-unfolding waiting
+unfolding waitingOwn
 loop-again c =
     let l = c .before .before .before .before .loop in
     let e = ap₂ (λ a b. a && not b) (sym (c .before .before .test .ensures)) (sym (c .before .test2 .ensures)) in (

@@ -6,7 +6,7 @@ use borrow.Author.Needs.{needs}
 use Rattle.rows.specs.AddRow.{addRowOf}
 use Rattle.rows.specs.DropRow.{dropRowOf}
 use Rattle.rows.proofs.Whole.{copy-same}
-use Rattle.counting.specs.Counting.{Fed}
+use Rattle.counting.specs.inner.NextTests.{Fed}
 use Rattle.counting.proofs.Feeding.{fed-of}
 use Rattle.counting.proofs.walk.serve.Statement.{statement}
 use Rattle.counting.proofs.walk.serve.Tie as tie

@@ -8,7 +8,7 @@ use lib.ListN.{length, take, length-map}
 use Rattle.trace.specs.Bounds.{RECORDS}
 use Rattle.text.specs.Room.{putAt}
 use Rattle.reader.specs.TextOf.{renderTrace}
-use Rattle.desk.specs.Verdict.{wide}
+use Rattle.desk.specs.VerdictBytes.{wide}
 use Rattle.desk.specs.Cuts.{leftBytes}
 use Rattle.desk.proofs.Leaving.{lines-there, no-space, space}
 use borrow.Author.Needs.{needs}

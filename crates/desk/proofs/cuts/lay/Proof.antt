@@ -4,7 +4,7 @@ use mathlib.Core.List.{List}
 use Prim.Native.Nat.{ℕ}
 use lib.ListN.{length}
 use Rattle.text.specs.Room.{putAt}
-use Rattle.desk.specs.Verdict.{wide}
+use Rattle.desk.specs.VerdictBytes.{wide}
 use Rattle.desk.specs.Cuts.{LEFT}
 use Rattle.desk.proofs.Leaving.{left-laid}
 use borrow.Author.Needs.{needs}

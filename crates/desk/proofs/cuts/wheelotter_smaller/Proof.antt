@@ -5,8 +5,8 @@ use borrow.Author.Tests.{not-true, not-false}
 use Rattle.reader.specs.Whole.{readWhole}
 use Rattle.reader.specs.declared.Reading.{Reading}
 use Rattle.reader.proofs.Whole.{whole-well}
-use Rattle.smaller.specs.Smaller.{Told}
-use Rattle.desk.specs.Text.{numberIn, numberOf}
+use Rattle.smaller.specs.Smaller.{ToldSmaller}
+use Rattle.desk.specs.Text.{numberIn, textNumber}
 use Rattle.desk.proofs.Ranked.{ranked-wrong, ranked-model}
 use Rattle.desk.proofs.Leaving.{heading-few, left-said}
 use borrow.Author.Needs.{needs}
@@ -20,7 +20,7 @@ number-in-requires : tie.Need-number-in-requires
 number-in-requires c κs = search needs
 
 -- the number in what the reader answers
-numbered : (c : tie.After-number-in) → c .number-in .result ≡ numberOf (c .before .before .before .before .args .text .now)
+numbered : (c : tie.After-number-in) → c .number-in .result ≡ textNumber (c .before .before .before .before .args .text .now)
 numbered c = c .number-in .ensures ∙ ap (λ (r : Reading). numberIn (r .answer)) (c .before .read-whole .ensures)
 
 returns : tie.Need-returns
@@ -43,11 +43,11 @@ smaller-requires : tie.Need-smaller-requires
 smaller-requires c κs = search needs
 
 -- what is left of the trace that the text writes
-told : (c : tie.After-smaller) → let a = c .before .before .before .before .before .before .before .before .args in Told (readWhole (a .text .now) .trace) (a .model) (c .smaller .result)
+told : (c : tie.After-smaller) → let a = c .before .before .before .before .before .before .before .before .args in ToldSmaller (readWhole (a .text .now) .trace) (a .model) (c .smaller .result)
 told c =
     let r = c .before .before .before .before .before in
     let a = r .before .before .before .args in
-    subst (λ (r : Reading). Told (r .trace) (a .model) (c .smaller .result)) (r .read-whole .ensures) (c .smaller .ensures)
+    subst (λ (r : Reading). ToldSmaller (r .trace) (a .model) (c .smaller .result)) (r .read-whole .ensures) (c .smaller .ensures)
 
 hand-over-requires : tie.Need-hand-over-requires
 hand-over-requires c κs =

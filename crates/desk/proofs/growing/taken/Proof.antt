@@ -7,9 +7,9 @@ use Rattle.session.specs.Numbers.{adds}
 use Rattle.session.specs.declared.Reply.{Reply}
 use Rattle.session.proofs.Forcing.{closings-some}
 use Rattle.session.proofs.Lasting.{act-intact}
-use Rattle.desk.specs.Head.{Fit, bytesOf}
-use Rattle.desk.specs.Acts.{codeOf}
-use Rattle.desk.proofs.Laying.{intact-fit}
+use Rattle.desk.specs.SessionHead.{Fit, sessionBytes}
+use Rattle.desk.specs.SessionCalls.{codeOf}
+use Rattle.desk.proofs.HeadBytes.{intact-fit}
 use Rattle.desk.proofs.Grown.{taken-not, taken-done}
 use borrow.Author.Needs.{needs}
 use Rattle.desk.proofs.growing.taken.Statement.{statement}
@@ -49,7 +49,7 @@ returns-2 c C =
     let t = k .before in
     let a = t .before .before .args in
     taken-done C (a .s) (a .op) (a .session .now) _ (told C k) (i .if1 .left) _
-    (l .placed .ensures .1 ∙ ap (λ (r : Reply). putAt (bytesOf (r .session)) (a .session .now) 0) (t .add .ensures C))
+    (l .placed .ensures .1 ∙ ap (λ (r : Reply). putAt (sessionBytes (r .session)) (a .session .now) 0) (t .add .ensures C))
 
 pub taken-spec : {M : Type 1} → statement M
 taken-spec = tie.close (tie.spec add-requires code-requires returns placed-requires same-length returns-2)

@@ -13,7 +13,7 @@ use Rattle.packed.specs.declared.Entry.{Entry}
 use Rattle.session.specs.Closings.{Closings}
 use Rattle.session.specs.Session.{Intact}
 use Rattle.session.specs.declared.Session.{Session}
-use Rattle.desk.specs.Kept.{like}
+use Rattle.desk.specs.SessionBytes.{like}
 use Rattle.desk.specs.Grown.{shorter, addAnswer, addBytes}
 use Rattle.desk.proofs.Keeping.{named-intact}
 use Rattle.desk.proofs.Acting.{lent-like, lent-session}

@@ -12,9 +12,9 @@ use Rattle.session.specs.Entries.{waitingOf}
 use Rattle.session.specs.declared.Reply.{Reply}
 use Rattle.session.specs.declared.Session.{Session}
 use Rattle.session.proofs.Forcing.{closings-some}
-use Rattle.desk.specs.Verdict.{wide}
+use Rattle.desk.specs.VerdictBytes.{wide}
 use Rattle.desk.specs.Runs.{PLACE}
-use Rattle.desk.specs.Kept.{sessionIn}
+use Rattle.desk.specs.SessionBytes.{sessionIn}
 use Rattle.desk.specs.Grown.{recordIn}
 use Rattle.desk.proofs.Hosted.{place-laid}
 use Rattle.desk.proofs.Acting.{lent-like, lent-session}

@@ -2,7 +2,7 @@
 use mathlib.Core.Path.{refl}
 use native.Mathlib.Omega.{arith}
 use borrow.Author.Needs.{needs}
-use Rattle.desk.specs.Head.{byteOf}
+use Rattle.desk.specs.SessionHead.{byteOf}
 use Rattle.desk.proofs.heads.byte.Statement.{statement}
 use Rattle.desk.proofs.heads.byte.Tie as tie
 

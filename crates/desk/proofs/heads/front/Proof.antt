@@ -2,7 +2,7 @@
 use mathlib.Core.Path.{sym, _∙_}
 use native.Mathlib.Omega.{arith}
 use borrow.Author.Needs.{needs}
-use Rattle.desk.proofs.Laying.{count-room, front-model, front-count, front-pair, front-word}
+use Rattle.desk.proofs.HeadBytes.{count-room, front-model, front-count, front-pair, front-word}
 use Rattle.desk.proofs.heads.front.Statement.{statement}
 use Rattle.desk.proofs.heads.front.Tie as tie
 

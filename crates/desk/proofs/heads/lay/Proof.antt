@@ -8,7 +8,7 @@ use borrow.Author.Needs.{needs}
 use Rattle.rows.specs.Bounds.{CELLS}
 use Rattle.desk.proofs.heads.lay.Statement.{statement}
 use Rattle.desk.proofs.heads.lay.Tie as tie
-use Rattle.desk.proofs.Laying.{room-behind, laid}
+use Rattle.desk.proofs.HeadBytes.{room-behind, laid}
 
 -- the rows have all their words, which is told by owning them
 full : (c : tie.Start) → length (c .args .s .held) ≡ CELLS

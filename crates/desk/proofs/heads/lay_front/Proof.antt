@@ -5,9 +5,9 @@ use Prim.Native.Nat.{ℕ, _≤_, _-_}
 use native.Mathlib.Omega.{arith}
 use lib.ListN.{length, set, drop, length-set}
 use borrow.Author.Needs.{needs}
-use Rattle.laws.specs.Warshall.{row}
+use Rattle.laws.specs.ListOf.{row}
 use Rattle.laws.proofs.Rows.{row-more}
-use Rattle.desk.specs.Head.{FRONT, frontAt}
+use Rattle.desk.specs.SessionHead.{FRONT, frontAt}
 use Rattle.desk.proofs.heads.lay_front.Statement.{statement}
 use Rattle.desk.proofs.heads.lay_front.Tie as tie
 

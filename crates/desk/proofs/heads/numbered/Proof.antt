@@ -1,7 +1,7 @@
 -- `desk::heads::numbered`: the first record of a pair at an even place, the second at an odd one.
 use mathlib.Core.Path.{sym}
 use borrow.Author.Needs.{needs}
-use Rattle.desk.proofs.Laying.{number-first, number-second}
+use Rattle.desk.proofs.HeadBytes.{number-first, number-second}
 use Rattle.desk.proofs.heads.numbered.Statement.{statement}
 use Rattle.desk.proofs.heads.numbered.Tie as tie
 

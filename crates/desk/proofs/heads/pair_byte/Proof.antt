@@ -3,8 +3,8 @@ use mathlib.Core.Path.{sym, ap, _∙_}
 use Prim.Native.Nat.{ℕ, _/_, _%_}
 use native.Mathlib.Omega.{arith}
 use borrow.Author.Needs.{needs}
-use Rattle.desk.specs.Head.{BYTE}
-use Rattle.desk.proofs.Laying.{byte-lower, byte-upper, number-below}
+use Rattle.packed.specs.Layout.{BYTE}
+use Rattle.desk.proofs.HeadBytes.{byte-lower, byte-upper, number-below}
 use Rattle.desk.proofs.heads.pair_byte.Statement.{statement}
 use Rattle.desk.proofs.heads.pair_byte.Tie as tie
 

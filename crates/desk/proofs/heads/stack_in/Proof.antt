@@ -5,12 +5,12 @@ use Prim.Native.Nat.{ℕ, _≤_, _-_}
 use native.Mathlib.Omega.{arith}
 use lib.ListN.{set, drop, replicate}
 use borrow.Author.Needs.{needs}
-use Rattle.laws.specs.Warshall.{row}
+use Rattle.laws.specs.ListOf.{row}
 use Rattle.laws.proofs.Rows.{row-more}
 use Rattle.session.specs.Bounds.{PAIRS}
 use Rattle.session.specs.Stack.{unused}
 use Rattle.session.specs.declared.Pair.{Pair}
-use Rattle.desk.specs.Kept.{pairIn, stackIn}
+use Rattle.desk.specs.SessionBytes.{pairIn, stackIn}
 use Rattle.desk.proofs.heads.stack_in.Statement.{statement}
 use Rattle.desk.proofs.heads.stack_in.Tie as tie
 

@@ -3,8 +3,8 @@ use Prim.Native.Nat.{_+_, _<_}
 use native.Mathlib.Omega.{arith}
 use lib.ListN.{getD}
 use borrow.Author.Needs.{needs}
-use Rattle.desk.specs.Head.{BYTE}
-use Rattle.desk.specs.Kept.{twoIn}
+use Rattle.packed.specs.Layout.{BYTE}
+use Rattle.desk.specs.SessionBytes.{twoBytesIn}
 use Rattle.desk.proofs.heads.two.Statement.{statement}
 use Rattle.desk.proofs.heads.two.Tie as tie
 
@@ -37,7 +37,7 @@ add-result : tie.Need-add-result
 add-result c = omega (arith, c .before .before .wide .ensures, low-byte c, c .wide2 .ensures, high-byte c)
 
 returns : tie.Need-returns
-unfolding twoIn
+unfolding twoBytesIn
 returns c = cc
 
 pub two-spec : {M : Type 1} → statement M

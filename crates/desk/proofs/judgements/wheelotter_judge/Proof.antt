@@ -9,10 +9,10 @@ use Rattle.trace.specs.Bounds.{RECORDS}
 use Rattle.reader.specs.Whole.{readWhole}
 use Rattle.reader.specs.declared.Reading.{Reading}
 use Rattle.reader.proofs.Whole.{whole-well}
-use Rattle.orders.specs.Judged.{judgedOf}
-use Rattle.desk.specs.Text.{numberIn, numberOf}
-use Rattle.desk.specs.Verdict.{wide}
-use Rattle.desk.specs.Judged.{JUDGEMENT, judgementNumber, concerns, second}
+use Rattle.judge.specs.Judged.{judgedOf}
+use Rattle.desk.specs.Text.{numberIn, textNumber}
+use Rattle.desk.specs.VerdictBytes.{wide}
+use Rattle.desk.specs.JudgeCall.{JUDGEMENT, judgementNumber, concerns, second}
 use Rattle.desk.proofs.Ranked.{ranked-wrong, ranked-model, ranked-short, ranked-says}
 use Rattle.desk.proofs.Judging.{judged-below, judged-laid}
 use borrow.Author.Needs.{needs}
@@ -26,7 +26,7 @@ number-in-requires : tie.Need-number-in-requires
 number-in-requires c κs = search needs
 
 -- the number in what the reader answers
-numbered : (c : tie.After-number-in) → c .number-in .result ≡ numberOf (c .before .before .before .before .before .args .text .now)
+numbered : (c : tie.After-number-in) → c .number-in .result ≡ textNumber (c .before .before .before .before .before .args .text .now)
 numbered c = c .number-in .ensures ∙ ap (λ (r : Reading). numberIn (r .answer)) (c .before .read-whole .ensures)
 
 returns : tie.Need-returns

@@ -11,11 +11,11 @@ use Rattle.reader.specs.Whole.{readWhole}
 use Rattle.reader.specs.declared.Reading.{Reading}
 use Rattle.reader.proofs.Whole.{whole-well}
 use Rattle.verdict.specs.declared.Verdict.{Verdict}
-use Rattle.limited.specs.Told.{Told}
-use Rattle.desk.specs.Text.{numberIn, numberOf}
-use Rattle.desk.specs.Verdict.{VERDICT}
-use Rattle.desk.specs.Spelled.{lacking, spelled, laidOut}
-use Rattle.desk.specs.Limits.{LIMITED, eight, shown, Answered}
+use Rattle.limited.specs.LimitedVerdict.{ToldLimited}
+use Rattle.desk.specs.Text.{numberIn, textNumber}
+use Rattle.desk.specs.VerdictBytes.{VERDICT}
+use Rattle.desk.specs.inner.SpelledVerdict.{lacking, spelled, laidOut}
+use Rattle.desk.specs.Limits.{LIMITED, eight, shown, LimitAnswered}
 use Rattle.desk.proofs.Ranked.{ranked-wrong, ranked-model, ranked-short}
 use Rattle.desk.proofs.Spelling.{spelled-fits}
 use Rattle.desk.proofs.Limiting.{shown-below, laid-behind, limited-good}
@@ -24,16 +24,16 @@ use Rattle.desk.proofs.limits.wheelotter_limited.Statement.{statement}
 use Rattle.desk.proofs.limits.wheelotter_limited.Tie as tie
 
 -- the number in what the reader answers
-numbered : (c : tie.After-number-in) → c .number-in .result ≡ numberOf (c .before .before .before .before .args .text .now)
+numbered : (c : tie.After-number-in) → c .number-in .result ≡ textNumber (c .before .before .before .before .args .text .now)
 numbered c = c .number-in .ensures ∙ ap (λ (r : Reading). numberIn (r .answer)) (c .before .read-whole .ensures)
 
 -- the answer on the trace that the text writes
 told : (c : tie.After-limited-verdict)
-    → let a = c .before .before .before .before .before .before .before .before .before .before .args in Told (readWhole (a .text .now) .trace) (a .model) (a .limit) (c .limited-verdict .result)
+    → let a = c .before .before .before .before .before .before .before .before .before .before .args in ToldLimited (readWhole (a .text .now) .trace) (a .model) (a .limit) (c .limited-verdict .result)
 told c =
     let r = c .before .before .before .before .before .before .before in
     let a = r .before .before .before .args in
-    subst (λ (r : Reading). Told (r .trace) (a .model) (a .limit) (c .limited-verdict .result)) (r .read-whole .ensures) (c .limited-verdict .ensures)
+    subst (λ (r : Reading). ToldLimited (r .trace) (a .model) (a .limit) (c .limited-verdict .result)) (r .read-whole .ensures) (c .limited-verdict .ensures)
 
 read-whole-requires : tie.Need-read-whole-requires
 read-whole-requires c κs = search needs

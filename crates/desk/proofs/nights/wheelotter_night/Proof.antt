@@ -2,14 +2,14 @@
 use mathlib.Core.Path.{_≡_, sym, ap, _∙_}
 use native.Mathlib.Omega.{arith}
 use Rattle.reader.specs.declared.Reading.{Reading}
-use Rattle.desk.specs.Text.{numberIn, numberOf}
+use Rattle.desk.specs.Text.{numberIn, textNumber}
 use Rattle.desk.proofs.Nightly.{night-wrong, night-good}
 use borrow.Author.Needs.{needs}
 use Rattle.desk.proofs.nights.wheelotter_night.Statement.{statement}
 use Rattle.desk.proofs.nights.wheelotter_night.Tie as tie
 
 -- the number in what the reader answers
-numbered : (c : tie.After-number-in) → c .number-in .result ≡ numberOf (c .before .before .before .before .before .args .text .now)
+numbered : (c : tie.After-number-in) → c .number-in .result ≡ textNumber (c .before .before .before .before .before .args .text .now)
 numbered c = c .number-in .ensures ∙ ap (λ (r : Reading). numberIn (r .answer)) (c .before .read-whole .ensures)
 
 read-whole-requires : tie.Need-read-whole-requires

@@ -10,15 +10,15 @@ use Rattle.trace.specs.WellFormed.{wellFormed}
 use Rattle.packed.specs.Layout.{fileOf}
 use Rattle.reader.specs.declared.Reading.{Reading}
 use Rattle.reader.proofs.Whole.{whole-well}
-use Rattle.desk.specs.Text.{numberIn, numberOf}
-use Rattle.desk.specs.Packs.{answerFor, bytesFor, packOf}
+use Rattle.desk.specs.Text.{numberIn, textNumber}
+use Rattle.desk.specs.Packs.{answerFor, bytesFor, textPacked}
 use Rattle.desk.proofs.Counted.{for-wrong, for-good}
 use borrow.Author.Needs.{needs}
 use Rattle.desk.proofs.packs.wheelotter_pack.Statement.{statement}
 use Rattle.desk.proofs.packs.wheelotter_pack.Tie as tie
 
 -- the number in what the reader answers
-numbered : (c : tie.After-number-in) → c .number-in .result ≡ numberOf (c .before .before .before .before .args .text .now)
+numbered : (c : tie.After-number-in) → c .number-in .result ≡ textNumber (c .before .before .before .before .args .text .now)
 numbered c = c .number-in .ensures ∙ ap (λ (r : Reading). numberIn (r .answer)) (c .before .read-whole .ensures)
 
 read-whole-requires : tie.Need-read-whole-requires
@@ -31,7 +31,7 @@ returns : tie.Need-returns
 returns c =
     let n = c .before in
     let a = n .before .before .before .before .args in
-    rw (numbered n) (for-wrong (numberOf (a .text .now)) (packOf (a .text .now)) (a .out .now) (λ z. let h = c .if1 .taken in omega (arith, numbered n, z)))
+    rw (numbered n) (for-wrong (textNumber (a .text .now)) (textPacked (a .text .now)) (a .out .now) (λ z. let h = c .if1 .taken in omega (arith, numbered n, z)))
 
 slice-aggregate-lay-file : tie.Need-slice-aggregate-lay-file
 slice-aggregate-lay-file c = search needs
@@ -62,8 +62,8 @@ returns-2 c =
     let e = l .before .before in
     let n = e .before in
     let a = n .before .before .before .before .args in
-    let g = for-good (numberOf (a .text .now)) (packOf (a .text .now)) (a .out .now) (omega (arith, numbered n, e .if1 .left)) in
-    let q : take (l .lay-file .result) (l .lay-file .last .1 .0) ≡ packOf (a .text .now) = l .lay-file .ensures .front ∙ ap (λ (r : Reading). fileOf (r .trace)) (n .before .read-whole .ensures) in
+    let g = for-good (textNumber (a .text .now)) (textPacked (a .text .now)) (a .out .now) (omega (arith, numbered n, e .if1 .left)) in
+    let q : take (l .lay-file .result) (l .lay-file .last .1 .0) ≡ textPacked (a .text .now) = l .lay-file .ensures .front ∙ ap (λ (r : Reading). fileOf (r .trace)) (n .before .read-whole .ensures) in
     (t .tell .ensures .0 ∙ ap (λ (bs : List ℕ). answerFor 0 bs (a .out .now)) q ∙ g .0, t .tell .ensures .1 ∙ ap (λ (bs : List ℕ). bytesFor 0 bs (a .out .now)) q ∙ g .1)
 
 pub wheelotter-pack-spec : {M : Type 1} → statement M

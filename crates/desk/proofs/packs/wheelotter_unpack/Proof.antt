@@ -9,9 +9,9 @@ use lib.Seq.{length-take-le}
 use Rattle.trace.specs.WellFormed.{wellFormed}
 use Rattle.reader.specs.TextOf.{renderTrace}
 use Rattle.packed.specs.declared.Reading.{Reading}
-use Rattle.packed.proofs.Whole.{whole-well}
+use Rattle.packed.proofs.WholeFile.{whole-well}
 use Rattle.desk.specs.File.{fileNumberIn}
-use Rattle.desk.specs.Packs.{answerFor, bytesFor, unpackOf, wholeNumber}
+use Rattle.desk.specs.Packs.{answerFor, bytesFor, fileUnpacked, wholeNumber}
 use Rattle.desk.proofs.Counted.{for-wrong, for-good}
 use borrow.Author.Needs.{needs}
 use Rattle.desk.proofs.packs.wheelotter_unpack.Statement.{statement}
@@ -31,7 +31,7 @@ returns : tie.Need-returns
 returns c =
     let n = c .before in
     let a = n .before .before .before .before .args in
-    rw (numbered n) (for-wrong (wholeNumber (a .file .now)) (unpackOf (a .file .now)) (a .out .now) (λ z. let h = c .if1 .taken in omega (arith, numbered n, z)))
+    rw (numbered n) (for-wrong (wholeNumber (a .file .now)) (fileUnpacked (a .file .now)) (a .out .now) (λ z. let h = c .if1 .taken in omega (arith, numbered n, z)))
 
 slice-aggregate-lay-text : tie.Need-slice-aggregate-lay-text
 slice-aggregate-lay-text c = search needs
@@ -62,8 +62,8 @@ returns-2 c =
     let e = l .before .before in
     let n = e .before in
     let a = n .before .before .before .before .args in
-    let g = for-good (wholeNumber (a .file .now)) (unpackOf (a .file .now)) (a .out .now) (omega (arith, numbered n, e .if1 .left)) in
-    let q : take (l .lay-text .result) (l .lay-text .last .1 .0) ≡ unpackOf (a .file .now) = l .lay-text .ensures .front ∙ ap (λ (r : Reading). renderTrace (r .trace)) (n .before .read-whole .ensures) in
+    let g = for-good (wholeNumber (a .file .now)) (fileUnpacked (a .file .now)) (a .out .now) (omega (arith, numbered n, e .if1 .left)) in
+    let q : take (l .lay-text .result) (l .lay-text .last .1 .0) ≡ fileUnpacked (a .file .now) = l .lay-text .ensures .front ∙ ap (λ (r : Reading). renderTrace (r .trace)) (n .before .read-whole .ensures) in
     (t .tell .ensures .0 ∙ ap (λ (bs : List ℕ). answerFor 0 bs (a .out .now)) q ∙ g .0, t .tell .ensures .1 ∙ ap (λ (bs : List ℕ). bytesFor 0 bs (a .out .now)) q ∙ g .1)
 
 pub wheelotter-unpack-spec : {M : Type 1} → statement M

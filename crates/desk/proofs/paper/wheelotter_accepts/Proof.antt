@@ -4,7 +4,7 @@ use native.Mathlib.Omega.{arith}
 use Rattle.reader.specs.Whole.{readWhole}
 use Rattle.reader.specs.declared.Reading.{Reading}
 use Rattle.papers.specs.Accepts.{Accepts}
-use Rattle.desk.specs.Text.{numberIn, numberOf}
+use Rattle.desk.specs.Text.{numberIn, textNumber}
 use borrow.Author.Needs.{needs}
 use Rattle.desk.proofs.paper.wheelotter_accepts.Statement.{statement}
 use Rattle.desk.proofs.paper.wheelotter_accepts.Tie as tie
@@ -16,7 +16,7 @@ number-in-requires : tie.Need-number-in-requires
 number-in-requires c κs = search needs
 
 -- the number in what the reader answers
-numbered : (c : tie.After-number-in) → c .number-in .result ≡ numberOf (c .before .before .before .before .args .text .now)
+numbered : (c : tie.After-number-in) → c .number-in .result ≡ textNumber (c .before .before .before .before .args .text .now)
 numbered c = c .number-in .ensures ∙ ap (λ (r : Reading). numberIn (r .answer)) (c .before .read-whole .ensures)
 
 returns : tie.Need-returns

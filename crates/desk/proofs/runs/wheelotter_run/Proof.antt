@@ -8,11 +8,11 @@ use borrow.Author.Tests.{not-true, not-false}
 use lib.ListN.{drop}
 use Rattle.reader.specs.Whole.{readWhole}
 use Rattle.reader.specs.declared.Reading.{Reading}
-use Rattle.machine.specs.Machine.{answer, placeOf}
+use Rattle.machine.specs.Machine.{answer, stuckAt}
 use Rattle.machine.specs.Replay.{STEPS}
 use Rattle.machine.proofs.Equal.{place-below}
-use Rattle.desk.specs.Text.{numberIn, numberOf}
-use Rattle.desk.specs.Verdict.{wide}
+use Rattle.desk.specs.Text.{numberIn, textNumber}
+use Rattle.desk.specs.VerdictBytes.{wide}
 use Rattle.desk.specs.Runs.{PLACE, ranNumber, hosted}
 use Rattle.desk.proofs.Ranked.{ranked-wrong, ranked-model, ranked-short, ranked-says}
 use Rattle.desk.proofs.Hosted.{hosted-is, place-laid}
@@ -27,7 +27,7 @@ number-in-requires : tie.Need-number-in-requires
 number-in-requires c κs = search needs
 
 -- the number in what the reader answers
-numbered : (c : tie.After-number-in) → c .number-in .result ≡ numberOf (c .before .before .before .before .before .args .text .now)
+numbered : (c : tie.After-number-in) → c .number-in .result ≡ textNumber (c .before .before .before .before .before .args .text .now)
 numbered c = c .number-in .ensures ∙ ap (λ (r : Reading). numberIn (r .answer)) (c .before .read-whole .ensures)
 
 returns : tie.Need-returns
@@ -98,7 +98,7 @@ returns-4 c =
       c .ran-number .ensures ∙ ap ranNumber (ran j),
       p .put-wide .ensures
           ∙ place-laid (o .place-of .result) (a .out .now) (omega (arith, e .if3 .left))
-          ∙ ap (λ (x : ℕ). wide (x ∷ []) ++ drop PLACE (a .out .now)) (o .place-of .ensures ∙ ap placeOf (ran j)),
+          ∙ ap (λ (x : ℕ). wide (x ∷ []) ++ drop PLACE (a .out .now)) (o .place-of .ensures ∙ ap stuckAt (ran j)),
     )
 
 pub wheelotter-run-spec : {M : Type 1} → statement M

@@ -11,7 +11,7 @@ use Rattle.reader.specs.declared.Reading.{Reading}
 use Rattle.machine.specs.Replay.{STEPS, stepsOf}
 use Rattle.machine.specs.declared.Steps.{Steps}
 use Rattle.machine.proofs.Few.{steps-few}
-use Rattle.desk.specs.Text.{numberIn, numberOf}
+use Rattle.desk.specs.Text.{numberIn, textNumber}
 use Rattle.desk.specs.Runs.{REPLAY, givenNumber, spread, hosted}
 use Rattle.desk.proofs.Ranked.{ranked-wrong, ranked-model, ranked-short, ranked-says}
 use Rattle.desk.proofs.Hosted.{hosted-is}
@@ -26,7 +26,7 @@ number-in-requires : tie.Need-number-in-requires
 number-in-requires c κs = search needs
 
 -- the number in what the reader answers
-numbered : (c : tie.After-number-in) → c .number-in .result ≡ numberOf (c .before .before .before .before .before .args .text .now)
+numbered : (c : tie.After-number-in) → c .number-in .result ≡ textNumber (c .before .before .before .before .before .args .text .now)
 numbered c = c .number-in .ensures ∙ ap (λ (r : Reading). numberIn (r .answer)) (c .before .read-whole .ensures)
 
 returns : tie.Need-returns

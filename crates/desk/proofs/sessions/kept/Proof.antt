@@ -7,18 +7,18 @@ use lib.ListN.{getD}
 use borrow.Author.Tests.{not-true, not-false}
 use Rattle.laws.proofs.Tests.{off}
 use Rattle.trace.specs.declared.Trace.{Trace}
-use Rattle.packed.specs.Read.{readFile}
+use Rattle.packed.specs.FileRead.{readFile}
 use Rattle.packed.specs.declared.Reading.{Reading}
 use Rattle.session.specs.Closings.{Closings}
 use Rattle.session.specs.Entries.{afreshOf}
 use Rattle.session.specs.declared.Stack.{Stack}
 use Rattle.session.specs.declared.Reply.{Reply}
 use Rattle.desk.specs.File.{fileNumberIn, fileNumber}
-use Rattle.desk.specs.Head.{Fit, headOf}
-use Rattle.desk.specs.Kept.{fileIn, madeIn}
-use Rattle.desk.specs.Acts.{codeOf}
+use Rattle.desk.specs.SessionHead.{Fit, sessionHead}
+use Rattle.desk.specs.SessionBytes.{fileIn, madeIn}
+use Rattle.desk.specs.SessionCalls.{codeOf}
 use Rattle.session.proofs.Forcing.{closings-some}
-use Rattle.desk.proofs.Laying.{intact-fit}
+use Rattle.desk.proofs.HeadBytes.{intact-fit}
 use Rattle.desk.proofs.Keeping.{like-parts, behind, kept-like, kept-unlike, unlike-short, unlike-file, unlike-made, unlike-head, named-intact}
 use Rattle.desk.proofs.Acting.{code-done, done-code}
 use borrow.Author.Needs.{needs}
@@ -111,7 +111,7 @@ returns-4 c C =
     let g = c .before .before in
     let a = g .before .before .before .before in
     let b = lent (a .before .before .before .before .before .before .before .before .before) in
-    kept-unlike C b (unlike-head C b (λ q. false≢true (sym (not-true _ (c .before .if4 .taken)) ∙ g .agrees .ensures .1 (ap (λ (r : Reply). headOf (r .session)) (named C a) ∙ q)))) _ (c .unlike4 .ensures .0, c .unlike4 .ensures .1 C)
+    kept-unlike C b (unlike-head C b (λ q. false≢true (sym (not-true _ (c .before .if4 .taken)) ∙ g .agrees .ensures .1 (ap (λ (r : Reply). sessionHead (r .session)) (named C a) ∙ q)))) _ (c .unlike4 .ensures .0, c .unlike4 .ensures .1 C)
 
 returns-5 : tie.Need-returns-5
 returns-5 c C =
@@ -126,7 +126,7 @@ returns-5 c C =
       long = e .if1 .left;
       good = sym (told (t .before)) ∙ t .if2 .left;
       done = code-done (madeIn C b .answer) (sym (d .code .ensures ∙ ap (λ (r : Reply). codeOf (r .answer)) same) ∙ g .before .before .if3 .left);
-      head = sym (ap (λ (r : Reply). headOf (r .session)) same) ∙ g .agrees .ensures .0 (not-false _ (c .if4 .left));
+      head = sym (ap (λ (r : Reply). sessionHead (r .session)) same) ∙ g .agrees .ensures .0 (not-false _ (c .if4 .left));
     })) _ (ap (λ (r : Reply). r .session) same)
 
 pub kept-spec : {M : Type 1} → statement M

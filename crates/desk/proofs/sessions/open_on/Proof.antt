@@ -7,9 +7,9 @@ use Rattle.text.specs.Room.{putAt}
 use Rattle.session.specs.Closings.{Closings}
 use Rattle.session.specs.declared.Session.{Session}
 use Rattle.session.proofs.Forcing.{closings-some}
-use Rattle.desk.specs.Head.{Fit, bytesOf}
-use Rattle.desk.specs.Opened.{openSession, openBytes}
-use Rattle.desk.proofs.Laying.{intact-fit}
+use Rattle.desk.specs.SessionHead.{Fit, sessionBytes}
+use Rattle.desk.specs.OpenedBytes.{openSession, openBytes}
+use Rattle.desk.proofs.HeadBytes.{intact-fit}
 use Rattle.desk.proofs.Opens.{session-intact, open-turned, open-done, no-room}
 use borrow.Author.Needs.{needs}
 use Rattle.desk.proofs.sessions.open_on.Statement.{statement}
@@ -28,15 +28,15 @@ unfolding openBytes
 laid c C =
     let o = c .before .before in
     let a = o .before .before .args in
-    c .placed .ensures .1 ∙ ap (λ (s : Session). putAt (bytesOf s) (a .session .now) 0) (o .opening .ensures .1 C)
+    c .placed .ensures .1 ∙ ap (λ (s : Session). putAt (sessionBytes s) (a .session .now) 0) (o .opening .ensures .1 C)
 
 -- whether there was room
 room : (c : tie.After-placed) → let a = c .before .before .before .before .args in
-    leb (length (bytesOf (openSession closings-some (a .number) (a .t) (a .model)))) (length (a .session .now)) ≡ c .placed .result
+    leb (length (sessionBytes (openSession closings-some (a .number) (a .t) (a .model)))) (length (a .session .now)) ≡ c .placed .result
 room c =
     let o = c .before .before in
     let a = o .before .before .args in
-    sym (c .placed .ensures .0 ∙ ap (λ (s : Session). leb (length (bytesOf s)) (length (a .session .now))) (o .opening .ensures .1 closings-some))
+    sym (c .placed .ensures .0 ∙ ap (λ (s : Session). leb (length (sessionBytes s)) (length (a .session .now))) (o .opening .ensures .1 closings-some))
 
 opening-requires : tie.Need-opening-requires
 opening-requires c κs = search needs

@@ -3,7 +3,7 @@ use mathlib.Core.Path.{sym, ap, _∙_}
 use Rattle.session.specs.Entries.{openOf}
 use Rattle.session.specs.declared.Reply.{Reply}
 use Rattle.session.proofs.Forcing.{closings-some}
-use Rattle.desk.specs.Acts.{codeOf}
+use Rattle.desk.specs.SessionCalls.{codeOf}
 use Rattle.desk.proofs.Opens.{bad-number, bad-session, good-number, good-session}
 use borrow.Author.Needs.{needs}
 use Rattle.desk.proofs.sessions.opening.Statement.{statement}

@@ -3,7 +3,7 @@ use mathlib.Core.Path.{ap, _∙_}
 use Prim.Native.Nat.{ℕ}
 use Rattle.packed.specs.declared.Reading.{Reading}
 use Rattle.desk.specs.File.{fileNumberIn}
-use Rattle.desk.specs.Opened.{openAnswer, openBytes}
+use Rattle.desk.specs.OpenedBytes.{openAnswer, openBytes}
 use borrow.Author.Needs.{needs}
 use Rattle.desk.proofs.sessions.wheelotter_open_file.Statement.{statement}
 use Rattle.desk.proofs.sessions.wheelotter_open_file.Tie as tie

@@ -1,6 +1,6 @@
 -- `desk::signatures::code`: by the answer.
 use mathlib.Core.Path.{_≡_, sym, ap, _∙_}
-use Rattle.desk.specs.Signed.{codeOf}
+use Rattle.desk.specs.Signed.{signedCode}
 use borrow.Author.Needs.{needs}
 use Rattle.desk.proofs.signatures.code.Statement.{statement}
 use Rattle.desk.proofs.signatures.code.Tie as tie
@@ -36,10 +36,10 @@ returns-3 : tie.Need-returns-3
 returns-3 c = search needs
 
 returns-4 : tie.Need-returns-4
-returns-4 c = c .with-place .ensures ∙ sym (ap codeOf (c .before .before .answer .given .1))
+returns-4 c = c .with-place .ensures ∙ sym (ap signedCode (c .before .before .answer .given .1))
 
 returns-5 : tie.Need-returns-5
-returns-5 c = c .with-place2 .ensures ∙ sym (ap codeOf (c .before .before .answer2 .given .1))
+returns-5 c = c .with-place2 .ensures ∙ sym (ap signedCode (c .before .before .answer2 .given .1))
 
 pub code-spec : {M : Type 1} → statement M
 code-spec =

@@ -1,7 +1,7 @@
 -- `desk::signatures::wheelotter_loads`: of the trace that the text writes.
 use mathlib.Core.Path.{_≡_, sym, ap, _∙_}
 use Rattle.reader.specs.declared.Reading.{Reading}
-use Rattle.signature.specs.Answers.{loadsIn}
+use Rattle.signature.specs.SignatureAnswers.{loadsIn}
 use borrow.Author.Needs.{needs}
 use Rattle.desk.proofs.signatures.wheelotter_loads.Statement.{statement}
 use Rattle.desk.proofs.signatures.wheelotter_loads.Tie as tie

@@ -2,15 +2,15 @@
 use mathlib.Core.Path.{_≡_, sym, ap, _∙_}
 use native.Mathlib.Omega.{arith}
 use Rattle.reader.specs.declared.Reading.{Reading}
-use Rattle.desk.specs.Text.{numberIn, numberOf}
-use Rattle.desk.specs.Signed.{codeOf}
+use Rattle.desk.specs.Text.{numberIn, textNumber}
+use Rattle.desk.specs.Signed.{signedCode}
 use Rattle.desk.proofs.Signing.{unpack-wrong, unpack-good}
 use borrow.Author.Needs.{needs}
 use Rattle.desk.proofs.signatures.wheelotter_reads.Statement.{statement}
 use Rattle.desk.proofs.signatures.wheelotter_reads.Tie as tie
 
 -- the number in what the reader answers
-numbered : (c : tie.After-number-in) → c .number-in .result ≡ numberOf (c .before .before .before .before .before .args .text .now)
+numbered : (c : tie.After-number-in) → c .number-in .result ≡ textNumber (c .before .before .before .before .before .args .text .now)
 numbered c = c .number-in .ensures ∙ ap (λ (r : Reading). numberIn (r .answer)) (c .before .read-whole .ensures)
 
 read-whole-requires : tie.Need-read-whole-requires
@@ -44,7 +44,7 @@ returns-2 c =
     let e = p .before .before .before in
     let n = e .before in
     let a = n .before .before .before .before .before .args in
-    unpack-good (a .text .now) (a .words .now) (a .reads .now) (omega (arith, numbered n, e .if1 .left)) (n .before .read-whole .result .trace) (ap (λ (r : Reading). r .trace) (n .before .read-whole .ensures)) _ _ (c .code .ensures ∙ ap codeOf (p .unpack .ensures .0)) (p .unpack .ensures .1)
+    unpack-good (a .text .now) (a .words .now) (a .reads .now) (omega (arith, numbered n, e .if1 .left)) (n .before .read-whole .result .trace) (ap (λ (r : Reading). r .trace) (n .before .read-whole .ensures)) _ _ (c .code .ensures ∙ ap signedCode (p .unpack .ensures .0)) (p .unpack .ensures .1)
 
 pub wheelotter-reads-spec : {M : Type 1} → statement M
 wheelotter-reads-spec =

@@ -1,7 +1,7 @@
 -- `desk::signatures::wheelotter_words`: of the trace that the text writes.
 use mathlib.Core.Path.{_≡_, sym, ap, _∙_}
 use Rattle.reader.specs.declared.Reading.{Reading}
-use Rattle.signature.specs.Answers.{wordsIn}
+use Rattle.signature.specs.SignatureAnswers.{wordsIn}
 use borrow.Author.Needs.{needs}
 use Rattle.desk.proofs.signatures.wheelotter_words.Statement.{statement}
 use Rattle.desk.proofs.signatures.wheelotter_words.Tie as tie

@@ -1,6 +1,6 @@
 -- `desk::texts::wheelotter_end`: the end that the reader gives.
 use mathlib.Core.Path.{ap}
-use Rattle.reader.specs.Part.{placeOf}
+use Rattle.reader.specs.BadLine.{placeOf}
 use Rattle.reader.specs.declared.Place.{Place}
 use borrow.Author.Needs.{needs}
 use Rattle.desk.proofs.texts.wheelotter_end.Statement.{statement}

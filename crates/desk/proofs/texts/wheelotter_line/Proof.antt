@@ -1,7 +1,7 @@
 -- `desk::texts::wheelotter_line`: the line in what the reader answers.
 use mathlib.Core.Path.{ap, _∙_}
 use Rattle.reader.specs.declared.Reading.{Reading}
-use Rattle.reader.specs.Part.{lineIn}
+use Rattle.reader.specs.BadLine.{lineIn}
 use borrow.Author.Needs.{needs}
 use Rattle.desk.proofs.texts.wheelotter_line.Statement.{statement}
 use Rattle.desk.proofs.texts.wheelotter_line.Tie as tie

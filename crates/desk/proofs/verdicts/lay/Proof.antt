@@ -7,8 +7,8 @@ use lib.ListN.{length, length-map}
 use Rattle.trace.specs.Bounds.{RECORDS}
 use Rattle.text.specs.Room.{putAt}
 use Rattle.text.proofs.Put.{length-put}
-use Rattle.desk.specs.Verdict.{wide}
-use Rattle.desk.specs.Spelled.{laidOut}
+use Rattle.desk.specs.VerdictBytes.{wide}
+use Rattle.desk.specs.inner.SpelledVerdict.{laidOut}
 use Rattle.desk.proofs.Spelling.{laid-down}
 use borrow.Author.Needs.{needs}
 use Rattle.desk.proofs.verdicts.lay.Statement.{statement}

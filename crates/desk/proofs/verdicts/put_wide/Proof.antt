@@ -7,7 +7,7 @@ use lib.ListN.{length, getD, take}
 use lib.Seq.{paste-zero, take-length, length-take-le}
 use Rattle.text.specs.Room.{putAt}
 use Rattle.text.proofs.Put.{put-paste, put-then, length-put}
-use Rattle.desk.specs.Verdict.{wide}
+use Rattle.desk.specs.VerdictBytes.{wide}
 use Rattle.desk.proofs.Spelling.{wide-long, wide-more}
 use borrow.Author.Needs.{needs}
 use Rattle.desk.proofs.verdicts.put_wide.Statement.{statement}

@@ -3,7 +3,7 @@ use mathlib.Core.Path.{subst}
 use Prim.Native.Nat.{_<_}
 use Rattle.trace.specs.Bounds.{RECORDS}
 use Rattle.verdict.specs.declared.Outcome.{Outcome}
-use Rattle.desk.specs.Spelled.{lacking}
+use Rattle.desk.specs.inner.SpelledVerdict.{lacking}
 use Rattle.desk.proofs.Spelling.{spelled-by}
 use borrow.Author.Needs.{needs}
 use Rattle.desk.proofs.verdicts.spelled.Statement.{statement}

@@ -7,10 +7,10 @@ use Rattle.trace.specs.Bounds.{RECORDS}
 use Rattle.reader.specs.Whole.{readWhole}
 use Rattle.reader.specs.declared.Reading.{Reading}
 use Rattle.reader.proofs.Whole.{whole-well}
-use Rattle.verdict.specs.Told.{Told}
+use Rattle.verdict.specs.VerdictOf.{Told}
 use Rattle.verdict.specs.declared.Verdict.{Verdict}
-use Rattle.desk.specs.Text.{numberIn, numberOf}
-use Rattle.desk.specs.Verdict.{VERDICT}
+use Rattle.desk.specs.Text.{numberIn, textNumber}
+use Rattle.desk.specs.VerdictBytes.{VERDICT}
 use Rattle.desk.proofs.Ranked.{ranked-wrong, ranked-model, ranked-short}
 use Rattle.desk.proofs.Spelling.{spelled-fits, source-below, told-good}
 use borrow.Author.Needs.{needs}
@@ -24,7 +24,7 @@ number-in-requires : tie.Need-number-in-requires
 number-in-requires c κs = search needs
 
 -- the number in what the reader answers
-numbered : (c : tie.After-number-in) → c .number-in .result ≡ numberOf (c .before .before .before .before .args .text .now)
+numbered : (c : tie.After-number-in) → c .number-in .result ≡ textNumber (c .before .before .before .before .args .text .now)
 numbered c = c .number-in .ensures ∙ ap (λ (r : Reading). numberIn (r .answer)) (c .before .read-whole .ensures)
 
 returns : tie.Need-returns

@@ -7,10 +7,10 @@ use Rattle.rows.specs.Bounds.{CELLS}
 use Rattle.rows.specs.Empty.{emptyOf}
 use Rattle.rows.proofs.Whole.{copy-same}
 use Rattle.laws.specs.Relation.{Rel}
-use Rattle.edges.specs.Adds.{Union}
-use Rattle.edges.specs.Drawn.{SettledFor}
-use Rattle.edges.specs.Turns.{stays, grows}
-use Rattle.edges.proofs.Ended.{stayed-at, grown-at}
+use Rattle.edges.specs.inner.PairSets.{Union}
+use Rattle.edges.specs.inner.DrawnEdges.{SettledFor}
+use Rattle.edges.specs.inner.RoundStep.{stays, grows}
+use Rattle.edges.proofs.LastRound.{stayed-at, grown-at}
 use borrow.Author.Needs.{needs}
 use Rattle.edges.proofs.force.advance.Statement.{statement}
 use Rattle.edges.proofs.force.advance.Tie as tie

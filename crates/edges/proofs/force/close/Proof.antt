@@ -1,5 +1,5 @@
 -- `edges::force::close`: the edges are copied, closed and looked through.
-use Rattle.edges.proofs.Ended.{closed}
+use Rattle.edges.proofs.LastRound.{closed}
 use borrow.Author.Needs.{needs}
 use Rattle.edges.proofs.force.close.Statement.{statement}
 use Rattle.edges.proofs.force.close.Tie as tie

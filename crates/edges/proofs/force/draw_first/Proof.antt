@@ -3,7 +3,7 @@ use mathlib.Core.Path.{_∙_, ap}
 use lib.ListN.{length}
 use Rattle.trace.proofs.WellFormed.{form-iff}
 use Rattle.rows.proofs.Whole.{empty-long}
-use Rattle.edges.proofs.Ended.{begun}
+use Rattle.edges.proofs.LastRound.{begun}
 use borrow.Author.Needs.{needs}
 use Rattle.edges.proofs.force.draw_first.Statement.{statement}
 use Rattle.edges.proofs.force.draw_first.Tie as tie

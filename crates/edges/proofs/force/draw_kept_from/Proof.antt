@@ -7,15 +7,16 @@ use native.Mathlib.Omega.{arith}
 use Rattle.trace.specs.Op.{thread}
 use Rattle.trace.specs.Trace.{at}
 use Rattle.pairs.specs.Kept.{fenced, keptOf}
-use Rattle.edges.specs.Adds.{Adds, Only, Union}
-use Rattle.edges.proofs.Adds.{adds-if, adds-only, union-more, union-skip}
-use Rattle.edges.proofs.Drawn.{fenced-none, fenced-apart, fenced-same, kept-none, kept-apart, kept-at}
+use Rattle.edges.specs.inner.PairSets.{Only, Union}
+use Rattle.rows.specs.inner.AddedPairs.{Added}
+use Rattle.edges.proofs.PairSets.{adds-if, adds-only, union-more, union-skip}
+use Rattle.edges.proofs.DrawnEdges.{fenced-none, fenced-apart, fenced-same, kept-none, kept-apart, kept-at}
 use borrow.Author.Needs.{needs}
 use Rattle.edges.proofs.force.draw_kept_from.Statement.{statement}
 use Rattle.edges.proofs.force.draw_kept_from.Tie as tie
 
 abbrev Inv-loop : tie.InvT-loop
-Inv-loop model x edges₀ t n a passed₀ y₀ edges passed y = (x < y) × (y ≤ n) × (passed ≡ fenced t x y) × Adds edges₀ (Union y (λ z. Only (keptOf model t x z) x z)) edges
+Inv-loop model x edges₀ t n a passed₀ y₀ edges passed y = (x < y) × (y ≤ n) × (passed ≡ fenced t x y) × Added edges₀ (Union y (λ z. Only (keptOf model t x z) x z)) edges
 
 abbrev μ-loop : tie.MeasureT-loop
 μ-loop model x edges₀ t n a passed₀ y₀ edges passed y = n - y

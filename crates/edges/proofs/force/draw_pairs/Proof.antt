@@ -2,16 +2,17 @@
 use mathlib.Core.Path.{_≡_, _∙_}
 use Prim.Native.Nat.{_≤_, _-_}
 use native.Mathlib.Omega.{arith}
-use Rattle.edges.specs.Adds.{Adds, Only, Union}
-use Rattle.edges.specs.Drawn.{paired}
-use Rattle.edges.proofs.Adds.{adds-then, union-none, union-more}
-use Rattle.edges.proofs.Drawn.{paired-both}
+use Rattle.edges.specs.inner.PairSets.{Only, Union}
+use Rattle.rows.specs.inner.AddedPairs.{Added}
+use Rattle.edges.specs.inner.DrawnEdges.{paired}
+use Rattle.edges.proofs.PairSets.{adds-then, union-none, union-more}
+use Rattle.edges.proofs.DrawnEdges.{paired-both}
 use borrow.Author.Needs.{needs}
 use Rattle.edges.proofs.force.draw_pairs.Statement.{statement}
 use Rattle.edges.proofs.force.draw_pairs.Tie as tie
 
 abbrev Inv-loop : tie.InvT-loop
-Inv-loop t model supposed edges₀ n x₀ edges x = (x ≤ n) × Adds edges₀ (Union x (λ z. Union n (λ y. Only (paired model t supposed z y) z y))) edges
+Inv-loop t model supposed edges₀ n x₀ edges x = (x ≤ n) × Added edges₀ (Union x (λ z. Union n (λ y. Only (paired model t supposed z y) z y))) edges
 
 abbrev μ-loop : tie.MeasureT-loop
 μ-loop t model supposed edges₀ n x₀ edges x = n - x

@@ -4,15 +4,16 @@ use mathlib.Core.Logic.{⊎-elim}
 use Prim.Native.Nat.{_≤_, _-_}
 use native.Mathlib.Omega.{arith}
 use lib.ListN.{getD}
-use Rattle.edges.specs.Adds.{Adds, Union}
-use Rattle.edges.specs.Drawn.{SettledBy, SettledFor}
-use Rattle.edges.proofs.Adds.{adds-as, union-none, union-more, union-skip}
+use Rattle.edges.specs.inner.PairSets.{Union}
+use Rattle.rows.specs.inner.AddedPairs.{Added}
+use Rattle.edges.specs.inner.DrawnEdges.{SettledBy, SettledFor}
+use Rattle.edges.proofs.PairSets.{adds-as, union-none, union-more, union-skip}
 use borrow.Author.Needs.{needs}
 use Rattle.edges.proofs.force.draw_settled.Statement.{statement}
 use Rattle.edges.proofs.force.draw_settled.Tie as tie
 
 abbrev Inv-loop : tie.InvT-loop
-Inv-loop n sources writers chains edges₀ load₀ edges load = (load ≤ n) × Adds edges₀ (Union load (SettledFor n sources writers chains)) edges
+Inv-loop n sources writers chains edges₀ load₀ edges load = (load ≤ n) × Added edges₀ (Union load (SettledFor n sources writers chains)) edges
 
 abbrev μ-loop : tie.MeasureT-loop
 μ-loop n sources writers chains edges₀ load₀ edges load = n - load
@@ -44,7 +45,7 @@ loop-again c =
       omega arith,
       ⊎-elim
           (λ w.
-          let done : Adds (l .loop .edges) (Union (a .n) (SettledBy (a .writers .now) (a .chains .now) (getD (a .sources .now) (l .loop .load) 0) (l .loop .load))) (c .if1 .edges)
+          let done : Added (l .loop .edges) (Union (a .n) (SettledBy (a .writers .now) (a .chains .now) (getD (a .sources .now) (l .loop .load) 0) (l .loop .load))) (c .if1 .edges)
           = rw (w .5) (w .2 .ensures) in
           union-more _ (l .loop .load) (l .loop .inv .1) (adds-as _ done (λ x y. (λ u. (w .0 .taken, u), λ u. u .1))))
           (λ w.

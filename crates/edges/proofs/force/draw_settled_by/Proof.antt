@@ -1,7 +1,7 @@
 -- `edges::force::draw_settled_by`: the two rules, one after the other.
 use mathlib.Core.Path.{_∙_}
-use Rattle.edges.proofs.Adds.{adds-if}
-use Rattle.edges.proofs.Drawn.{settled-at}
+use Rattle.edges.proofs.PairSets.{adds-if}
+use Rattle.edges.proofs.DrawnEdges.{settled-at}
 use borrow.Author.Needs.{needs}
 use Rattle.edges.proofs.force.draw_settled_by.Statement.{statement}
 use Rattle.edges.proofs.force.draw_settled_by.Tie as tie

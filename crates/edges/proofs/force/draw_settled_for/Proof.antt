@@ -6,16 +6,17 @@ use Prim.Native.Nat.{ℕ, _≤_, _<_, _-_}
 use native.Mathlib.Omega.{arith}
 use Rattle.trace.specs.Bounds.{RECORDS}
 use Rattle.rows.specs.Rows.{bit}
-use Rattle.edges.specs.Adds.{Adds, Union, Swept}
-use Rattle.edges.specs.Drawn.{Settled, SettledBy}
-use Rattle.edges.proofs.Adds.{adds-none, adds-as, adds-then, swept-none, swept-more, swept-all}
-use Rattle.edges.proofs.Drawn.{settled-by, settled-other, settled-none, next-on, next-at}
+use Rattle.edges.specs.inner.PairSets.{Union, Swept}
+use Rattle.rows.specs.inner.AddedPairs.{Added}
+use Rattle.edges.specs.inner.DrawnEdges.{Settled, SettledBy}
+use Rattle.edges.proofs.PairSets.{adds-none, adds-as, adds-then, swept-none, swept-more, swept-all}
+use Rattle.edges.proofs.DrawnEdges.{settled-by, settled-other, settled-none, next-on, next-at}
 use borrow.Author.Needs.{needs}
 use Rattle.edges.proofs.force.draw_settled_for.Statement.{statement}
 use Rattle.edges.proofs.force.draw_settled_for.Tie as tie
 
 abbrev Inv-loop : tie.InvT-loop
-Inv-loop n writers chains source load edges₀ x₀ edges x = (So (bit writers load x) ⊎ (x ≡ RECORDS)) × Adds edges₀ (Swept n x (SettledBy writers chains source load)) edges
+Inv-loop n writers chains source load edges₀ x₀ edges x = (So (bit writers load x) ⊎ (x ≡ RECORDS)) × Added edges₀ (Swept n x (SettledBy writers chains source load)) edges
 
 abbrev μ-loop : tie.MeasureT-loop
 μ-loop n writers chains source load edges₀ x₀ edges x = n - x
@@ -60,7 +61,7 @@ loop-again c =
       next-at (a .writers .now) (a .load) _ _ further,
       ⊎-elim
           (λ w.
-          let done : Adds (l .loop .edges) (Settled (a .chains .now) (a .source) (a .load) x) (c .before .if1 .edges) = rw (w .5) (w .2 .ensures) in
+          let done : Added (l .loop .edges) (Settled (a .chains .now) (a .source) (a .load) x) (c .before .if1 .edges) = rw (w .5) (w .2 .ensures) in
           adds-then _ (l .loop .inv .1) (settled-by (a .writers .now) (a .chains .now) (a .source) (a .load) x here (w .0 .taken) done) step)
           (λ w.
           let e : c .before .if1 .edges ≡ l .loop .edges = w .1 in

@@ -2,16 +2,17 @@
 use mathlib.Core.Path.{_≡_, _∙_}
 use Prim.Native.Nat.{_≤_, _-_}
 use native.Mathlib.Omega.{arith}
-use Rattle.edges.specs.Adds.{Adds, Only, Union}
+use Rattle.edges.specs.inner.PairSets.{Only, Union}
+use Rattle.rows.specs.inner.AddedPairs.{Added}
 use Rattle.edges.specs.Supposed.{supposedOf}
-use Rattle.edges.proofs.Adds.{adds-none, adds-if, adds-only, union-none, union-more}
-use Rattle.edges.proofs.Drawn.{supposed-none, supposed-at}
+use Rattle.edges.proofs.PairSets.{adds-none, adds-if, adds-only, union-none, union-more}
+use Rattle.edges.proofs.DrawnEdges.{supposed-none, supposed-at}
 use borrow.Author.Needs.{needs}
 use Rattle.edges.proofs.force.draw_supposed_from.Statement.{statement}
 use Rattle.edges.proofs.force.draw_supposed_from.Tie as tie
 
 abbrev Inv-loop : tie.InvT-loop
-Inv-loop supposed x edges₀ t n a y₀ edges y = (y ≤ n) × Adds edges₀ (Union y (λ z. Only (supposedOf t supposed x z) x z)) edges
+Inv-loop supposed x edges₀ t n a y₀ edges y = (y ≤ n) × Added edges₀ (Union y (λ z. Only (supposedOf t supposed x z) x z)) edges
 
 abbrev μ-loop : tie.MeasureT-loop
 μ-loop supposed x edges₀ t n a y₀ edges y = n - y

@@ -2,8 +2,8 @@
 use mathlib.Core.Path.{_∙_}
 use mathlib.Core.Bool.{not, _&&_}
 use lib.Dec.{eqb}
-use Rattle.edges.proofs.Adds.{adds-if}
-use Rattle.edges.proofs.Drawn.{third-small, valued-at}
+use Rattle.edges.proofs.PairSets.{adds-if}
+use Rattle.edges.proofs.DrawnEdges.{third-small, valued-at}
 use borrow.Author.Needs.{needs}
 use Rattle.edges.proofs.force.draw_value.Statement.{statement}
 use Rattle.edges.proofs.force.draw_value.Tie as tie

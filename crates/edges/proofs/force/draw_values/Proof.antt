@@ -5,10 +5,11 @@ use Prim.Native.Nat.{ℕ, _<_, _≤_, _-_}
 use native.Mathlib.Omega.{arith}
 use Rattle.trace.specs.Bounds.{RECORDS}
 use Rattle.trace.specs.Meaning.{frameOf}
-use Rattle.rules.specs.Tests.{writer?}
-use Rattle.edges.specs.Adds.{Adds, Only, Union}
-use Rattle.edges.specs.Drawn.{Stored, ValuedFor, Loaded}
-use Rattle.edges.proofs.Drawn.{reads-at, stored, loaded-none, loaded-more, loaded-skip}
+use Rattle.rules.specs.RuleTests.{writer?}
+use Rattle.edges.specs.inner.PairSets.{Only, Union}
+use Rattle.rows.specs.inner.AddedPairs.{Added}
+use Rattle.edges.specs.inner.DrawnEdges.{Stored, ValuedFor, Loaded}
+use Rattle.edges.proofs.DrawnEdges.{reads-at, stored, loaded-none, loaded-more, loaded-skip}
 use borrow.Author.Needs.{needs}
 use Rattle.edges.proofs.force.draw_values.Statement.{statement}
 use Rattle.edges.proofs.force.draw_values.Tie as tie
@@ -77,8 +78,8 @@ loop-again c =
     let reads = reads-at (a .t1) load load (search needs) _ (c .before .reads .ensures) in
     ⊎-elim
     (λ w.
-    let writers : Adds (l .loop .writers) (Union (a .t1 .len) (λ x. Only (writer? f x load) load x)) (c .if1 .writers) = rw (w .9) (w .4 .ensures .0) in
-    let edges : Adds (l .loop .edges) (Union (a .t1 .len) (ValuedFor f load)) (c .if1 .edges) = rw (w .10) (w .4 .ensures .1) in (
+    let writers : Added (l .loop .writers) (Union (a .t1 .len) (λ x. Only (writer? f x load) load x)) (c .if1 .writers) = rw (w .9) (w .4 .ensures .0) in
+    let edges : Added (l .loop .edges) (Union (a .t1 .len) (ValuedFor f load)) (c .if1 .edges) = rw (w .10) (w .4 .ensures .1) in (
       omega arith,
       loaded-more f (a .t1 .len) load (l .loop .sources) (a .writers .now) (l .loop .writers) (a .edges .now) (l .loop .edges) (s .source-of .result) small (s .source-of .ensures)
           (l .loop .inv .1) (c .if1 .writers) (c .if1 .edges) (sym reads ∙ w .0 .taken) writers edges,

@@ -9,17 +9,18 @@ use Rattle.trace.specs.Trace.{first}
 use Rattle.trace.specs.Meaning.{frameOf}
 use Rattle.rows.specs.Rows.{bit}
 use Rattle.rows.specs.Put.{putOf}
-use Rattle.rules.specs.Tests.{writer?}
-use Rattle.edges.specs.Adds.{Adds, Only, Swept}
-use Rattle.edges.specs.Drawn.{Valued, ValuedFor}
-use Rattle.edges.proofs.Adds.{adds-none, adds-as, adds-then, swept-none, swept-more, swept-all}
-use Rattle.edges.proofs.Drawn.{address-at, earlier-at, early-at, valued-for, noted, not-writer, store-writer, store-own, store-none, next-on, next-at}
+use Rattle.rules.specs.RuleTests.{writer?}
+use Rattle.edges.specs.inner.PairSets.{Only, Swept}
+use Rattle.rows.specs.inner.AddedPairs.{Added}
+use Rattle.edges.specs.inner.DrawnEdges.{Valued, ValuedFor}
+use Rattle.edges.proofs.PairSets.{adds-none, adds-as, adds-then, swept-none, swept-more, swept-all}
+use Rattle.edges.proofs.DrawnEdges.{address-at, earlier-at, early-at, valued-for, noted, not-writer, store-writer, store-own, store-none, next-on, next-at}
 use borrow.Author.Needs.{needs}
 use Rattle.edges.proofs.force.draw_values_for.Statement.{statement}
 use Rattle.edges.proofs.force.draw_values_for.Tie as tie
 
 abbrev Inv-loop : tie.InvT-loop
-Inv-loop stores load source writers₀ edges₀ t n b addr early row x₀ writers edges x = (So (bit stores row x) ⊎ (x ≡ RECORDS)) × Adds writers₀ (Swept n x (λ z. Only (writer? (frameOf t) z load) load z)) writers × Adds edges₀ (Swept n x (ValuedFor (frameOf t) load)) edges
+Inv-loop stores load source writers₀ edges₀ t n b addr early row x₀ writers edges x = (So (bit stores row x) ⊎ (x ≡ RECORDS)) × Added writers₀ (Swept n x (λ z. Only (writer? (frameOf t) z load) load z)) writers × Added edges₀ (Swept n x (ValuedFor (frameOf t) load)) edges
 
 abbrev μ-loop : tie.MeasureT-loop
 μ-loop stores load source writers₀ edges₀ t n b addr early row x₀ writers edges x = n - x
@@ -116,7 +117,7 @@ loop-again c =
     ⊎-elim
     (λ w.
     let put : c .before .if1 .writers ≡ putOf (l .loop .writers) (a .load) x = w .12 ∙ w .2 .ensures in
-    let drawn : Adds (l .loop .edges) (Valued _ _ (a .source) x (a .load)) (c .before .if1 .edges) = rw (w .13) (w .9 .ensures) in
+    let drawn : Added (l .loop .edges) (Valued _ _ (a .source) x (a .load)) (c .before .if1 .edges) = rw (w .13) (w .9 .ensures) in
     let earlier = earlier-at (a .t1) x (a .load) _ _ (w .6 .ensures) (w .7 .ensures) in
     let is = store-writer f (a .stores .now) (a .load) _ same (s .pre .1 .0) x here (w .0 .taken) in (
       next-at (a .stores .now) _ _ _ further,

@@ -4,7 +4,7 @@ use mathlib.Core.Bool.{true, _&&_}
 use Rattle.laws.proofs.Tests.{and-iff, same-iff}
 use Rattle.trace.specs.WellFormed.{wellFormed}
 use Rattle.pairs.specs.Kept.{modelled}
-use Rattle.edges.proofs.Answers.{forces-grew, forces-none}
+use Rattle.edges.proofs.ForcedPairs.{forces-grew, forces-none}
 use borrow.Author.Needs.{needs}
 use Rattle.edges.proofs.force.forced.Statement.{statement}
 use Rattle.edges.proofs.force.forced.Tie as tie

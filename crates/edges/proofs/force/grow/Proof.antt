@@ -3,7 +3,7 @@ use mathlib.Core.Path.{refl, sym, _∙_}
 use mathlib.Core.Bool.{false≢true}
 use Prim.Native.Nat.{_*_, _-_}
 use lib.ListN.{length}
-use Rattle.laws.specs.Growth.{pairs}
+use Rattle.laws.proofs.GrowingTables.{pairs}
 use Rattle.trace.specs.Bounds.{RECORDS}
 use Rattle.trace.specs.Meaning.{frameOf}
 use Rattle.trace.proofs.WellFormed.{form-iff}
@@ -11,15 +11,15 @@ use Rattle.trace.proofs.Good.{good}
 use Rattle.rows.specs.Rows.{bit}
 use Rattle.pairs.specs.Kept.{keptOf}
 use Rattle.edges.specs.Supposed.{supposedOf}
-use Rattle.edges.specs.Settling.{Settling}
-use Rattle.edges.proofs.Ended.{kept-within, supposed-within}
+use Rattle.edges.specs.inner.Settling.{SettlingRows}
+use Rattle.edges.proofs.LastRound.{kept-within, supposed-within}
 use Rattle.edges.proofs.Settling.{settling-first, settling-next, settling-fewer, settling-end, settling-circle}
 use borrow.Author.Needs.{needs}
 use Rattle.edges.proofs.force.grow.Statement.{statement}
 use Rattle.edges.proofs.force.grow.Tie as tie
 
 abbrev Inv-loop : tie.InvT-loop
-Inv-loop t model supposed edges₀ sources writers edges = Settling (frameOf t) (keptOf model t) (supposedOf t supposed) edges
+Inv-loop t model supposed edges₀ sources writers edges = SettlingRows (frameOf t) (keptOf model t) (supposedOf t supposed) edges
 
 abbrev μ-loop : tie.MeasureT-loop
 μ-loop t model supposed edges₀ sources writers edges = RECORDS * RECORDS - pairs RECORDS (bit edges)

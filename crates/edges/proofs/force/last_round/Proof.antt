@@ -4,7 +4,7 @@ use mathlib.Core.Bool.{true, _&&_}
 use Rattle.laws.proofs.Tests.{and-iff, same-iff}
 use Rattle.trace.specs.WellFormed.{wellFormed}
 use Rattle.pairs.specs.Kept.{modelled}
-use Rattle.edges.proofs.Answers.{rounded-some, rounded-none}
+use Rattle.edges.proofs.ForcedPairs.{rounded-some, rounded-none}
 use borrow.Author.Needs.{needs}
 use Rattle.edges.proofs.force.last_round.Statement.{statement}
 use Rattle.edges.proofs.force.last_round.Tie as tie

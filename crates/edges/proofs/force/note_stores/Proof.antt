@@ -3,15 +3,16 @@ use mathlib.Core.Path.{_≡_, _∙_}
 use Prim.Native.Nat.{_≤_, _-_}
 use native.Mathlib.Omega.{arith}
 use Rattle.trace.specs.Meaning.{frameOf}
-use Rattle.edges.specs.Adds.{Adds, Only, Union}
-use Rattle.edges.proofs.Adds.{adds-if, union-none, union-more}
-use Rattle.edges.proofs.Drawn.{stored-at}
+use Rattle.edges.specs.inner.PairSets.{Only, Union}
+use Rattle.rows.specs.inner.AddedPairs.{Added}
+use Rattle.edges.proofs.PairSets.{adds-if, union-none, union-more}
+use Rattle.edges.proofs.DrawnEdges.{stored-at}
 use borrow.Author.Needs.{needs}
 use Rattle.edges.proofs.force.note_stores.Statement.{statement}
 use Rattle.edges.proofs.force.note_stores.Tie as tie
 
 abbrev Inv-loop : tie.InvT-loop
-Inv-loop stores₀ t n x₀ stores x = (x ≤ n) × Adds stores₀ (Union x (λ z. Only (frameOf t .writes z) (frameOf t .address z) z)) stores
+Inv-loop stores₀ t n x₀ stores x = (x ≤ n) × Added stores₀ (Union x (λ z. Only (frameOf t .writes z) (frameOf t .address z) z)) stores
 
 abbrev μ-loop : tie.MeasureT-loop
 μ-loop stores₀ t n x₀ stores x = n - x

@@ -6,7 +6,7 @@ use native.Mathlib.Numerals.{add-one}
 use native.Mathlib.Omega.{arith}
 use lib.ListN.{length}
 use borrow.Author.Tests.{not-true, not-false}
-use Rattle.laws.specs.Growth.{pairs}
+use Rattle.laws.proofs.GrowingTables.{pairs}
 use Rattle.laws.proofs.Growth.{pairs-bound}
 use Rattle.trace.specs.Bounds.{RECORDS}
 use Rattle.trace.specs.Meaning.{frameOf}
@@ -16,8 +16,8 @@ use Rattle.rows.specs.Bounds.{CELLS}
 use Rattle.rows.specs.Rows.{bit}
 use Rattle.pairs.specs.Kept.{keptOf}
 use Rattle.edges.specs.Supposed.{supposedOf}
-use Rattle.edges.specs.Turns.{Closed}
-use Rattle.edges.proofs.Ended.{kept-within, supposed-within, stayed, grown, fewer, turns, Stands, stands-first, stands-next, ended-circle, ended-last}
+use Rattle.edges.specs.inner.RoundStep.{Closed}
+use Rattle.edges.proofs.LastRound.{kept-within, supposed-within, stayed, grown, fewer, turns, Stands, stands-first, stands-next, ended-circle, ended-last}
 use borrow.Author.Needs.{needs}
 use Rattle.edges.proofs.force.run.Statement.{statement}
 use Rattle.edges.proofs.force.run.Tie as tie

@@ -4,16 +4,16 @@ use mathlib.Core.Logic.{⊎-elim}
 use Prim.Native.Nat.{_≤_, _-_}
 use native.Mathlib.Omega.{arith}
 use lib.ListN.{getD}
-use Rattle.edges.specs.Adds.{Union}
-use Rattle.edges.specs.Drawn.{SettledBy, SettledFor}
-use Rattle.edges.specs.Takes.{Takes, Written, Noted}
+use Rattle.edges.specs.inner.PairSets.{Union}
+use Rattle.edges.specs.inner.DrawnEdges.{SettledBy, SettledFor}
+use Rattle.edges.specs.inner.Takes.{Takes, AskWritten, AskNoted}
 use Rattle.edges.proofs.Takes.{turns-none, turns-more, turns-skip, load-turn}
 use borrow.Author.Needs.{needs}
 use Rattle.edges.proofs.force.settle.Statement.{statement}
 use Rattle.edges.proofs.force.settle.Tie as tie
 
 abbrev Inv-loop : tie.InvT-loop
-Inv-loop n sources writers edges₀ load₀ edges load = (load ≤ n) × Takes (Noted n sources writers) edges₀ (Union load (SettledFor n sources writers edges₀)) edges
+Inv-loop n sources writers edges₀ load₀ edges load = (load ≤ n) × Takes (AskNoted n sources writers) edges₀ (Union load (SettledFor n sources writers edges₀)) edges
 
 abbrev μ-loop : tie.MeasureT-loop
 μ-loop n sources writers edges₀ load₀ edges load = n - load
@@ -45,7 +45,7 @@ loop-again c =
       omega arith,
       ⊎-elim
           (λ w.
-          let done : Takes (Written (a .n) (a .writers .now) (getD (a .sources .now) (l .loop .load) 0) (l .loop .load)) (l .loop .edges) (Union (a .n) (SettledBy (a .writers .now) (l .loop .edges) (getD (a .sources .now) (l .loop .load) 0) (l .loop .load))) (c .if1 .edges)
+          let done : Takes (AskWritten (a .n) (a .writers .now) (getD (a .sources .now) (l .loop .load) 0) (l .loop .load)) (l .loop .edges) (Union (a .n) (SettledBy (a .writers .now) (l .loop .edges) (getD (a .sources .now) (l .loop .load) 0) (l .loop .load))) (c .if1 .edges)
           = rw (w .5) (w .2 .ensures) in
           turns-more _ _ (l .loop .load) (l .loop .inv .1) (load-turn (a .n) (a .sources .now) (a .writers .now) (a .edges .now) (l .loop .edges) (c .if1 .edges) (l .loop .load) (omega arith) (l .loop .inv .1 .keeps) (w .0 .taken) done))
           (λ w.

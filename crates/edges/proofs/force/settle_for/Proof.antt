@@ -6,18 +6,18 @@ use Prim.Native.Nat.{ℕ, _≤_, _<_, _-_}
 use native.Mathlib.Omega.{arith}
 use Rattle.trace.specs.Bounds.{RECORDS}
 use Rattle.rows.specs.Rows.{bit}
-use Rattle.edges.specs.Adds.{Union, Swept}
-use Rattle.edges.specs.Drawn.{Settled, SettledBy}
-use Rattle.edges.specs.Takes.{Takes, Sourced, Written}
-use Rattle.edges.proofs.Adds.{swept-none, swept-more, swept-all}
-use Rattle.edges.proofs.Drawn.{turned, settled-other, settled-none, next-on, next-at}
+use Rattle.edges.specs.inner.PairSets.{Union, Swept}
+use Rattle.edges.specs.inner.DrawnEdges.{Settled, SettledBy}
+use Rattle.edges.specs.inner.Takes.{Takes, AskSourced, AskWritten}
+use Rattle.edges.proofs.PairSets.{swept-none, swept-more, swept-all}
+use Rattle.edges.proofs.DrawnEdges.{turned, settled-other, settled-none, next-on, next-at}
 use Rattle.edges.proofs.Takes.{takes-old, takes-then, takes-ask, settled-turn}
 use borrow.Author.Needs.{needs}
 use Rattle.edges.proofs.force.settle_for.Statement.{statement}
 use Rattle.edges.proofs.force.settle_for.Tie as tie
 
 abbrev Inv-loop : tie.InvT-loop
-Inv-loop n writers source load edges₀ x₀ edges x = (So (bit writers load x) ⊎ (x ≡ RECORDS)) × Takes (Written n writers source load) edges₀ (Swept n x (SettledBy writers edges₀ source load)) edges
+Inv-loop n writers source load edges₀ x₀ edges x = (So (bit writers load x) ⊎ (x ≡ RECORDS)) × Takes (AskWritten n writers source load) edges₀ (Swept n x (SettledBy writers edges₀ source load)) edges
 
 abbrev μ-loop : tie.MeasureT-loop
 μ-loop n writers source load edges₀ x₀ edges x = n - x
@@ -62,7 +62,7 @@ loop-again c =
       next-at (a .writers .now) (a .load) _ _ further,
       ⊎-elim
           (λ w.
-          let done : Takes (Sourced (a .n) (a .source) (a .load) x) (l .loop .edges) (Settled (l .loop .edges) (a .source) (a .load) x) (c .before .if1 .edges) = rw (w .5) (w .2 .ensures) in
+          let done : Takes (AskSourced (a .n) (a .source) (a .load) x) (l .loop .edges) (Settled (l .loop .edges) (a .source) (a .load) x) (c .before .if1 .edges) = rw (w .5) (w .2 .ensures) in
           takes-then _ _ (l .loop .inv .1)
           (settled-turn (a .n) (a .writers .now) (a .edges .now) (l .loop .edges) (c .before .if1 .edges) (a .source) (a .load) x (l .loop .inv .1 .keeps)
           (turned (a .writers .now) (a .edges .now) (a .source) (a .load) x .1 (here, w .0 .taken)) done)

@@ -5,11 +5,12 @@ use mathlib.Core.Bool.{Bool, So, _||_}
 use Prim.Native.Nat.{ℕ, _≤_, _-_}
 use native.Mathlib.Omega.{arith}
 use lib.Dec.{eqb}
-use Rattle.laws.specs.Joined.{From}
+use Rattle.laws.specs.inner.Joined.{From}
 use Rattle.rows.specs.Rows.{bit, Edges, Words}
-use Rattle.edges.specs.Adds.{Adds, Union}
-use Rattle.edges.specs.Takes.{Lead}
-use Rattle.edges.proofs.Adds.{union-none, union-more, union-skip}
+use Rattle.edges.specs.inner.PairSets.{Union}
+use Rattle.rows.specs.inner.AddedPairs.{Added}
+use Rattle.edges.specs.inner.Takes.{Lead}
+use Rattle.edges.proofs.PairSets.{union-none, union-more, union-skip}
 use Rattle.edges.proofs.Takes.{lead-row, span-row, span-none}
 use borrow.Author.Needs.{needs}
 use Rattle.edges.proofs.force.span.Statement.{statement}
@@ -17,7 +18,7 @@ use Rattle.edges.proofs.force.span.Tie as tie
 
 -- what the row has is what the pair gives
 abbrev Inv-loop : tie.InvT-loop
-Inv-loop n edges₀ a b row x₀ edges x = (x ≤ n) × Words row × ((y : ℕ) → So (bit row 0 y) ↔ From (Edges edges₀) b y) × Adds edges₀ (Union x (Lead (Edges edges₀) a b)) edges
+Inv-loop n edges₀ a b row x₀ edges x = (x ≤ n) × Words row × ((y : ℕ) → So (bit row 0 y) ↔ From (Edges edges₀) b y) × Added edges₀ (Union x (Lead (Edges edges₀) a b)) edges
 
 abbrev μ-loop : tie.MeasureT-loop
 μ-loop n edges₀ a b row x₀ edges x = n - x
@@ -67,7 +68,7 @@ loop-again c =
     let there = ap (λ (v : Bool). eqb (l .loop .x) (a .a) || v) (sym (c .before .test .ensures)) in
     ⊎-elim
     (λ w.
-    let done : Adds (l .loop .edges) (Lead (Edges (a .edges .now)) (a .a) (a .b) (l .loop .x)) (c .if1 .edges)
+    let done : Added (l .loop .edges) (Lead (Edges (a .edges .now)) (a .a) (a .b) (l .loop .x)) (c .if1 .edges)
     = span-row (a .edges .now) (l .loop .edges) (a .a) (a .b) (l .loop .x) (now .3) _ _ (now .1) (now .2) (omega arith) (now .3 .long ∙ s .pre .2) (there ∙ w .0 .taken) (w .6 ∙ w .3 .ensures) in
     (omega arith, now .1, now .2, union-more _ (l .loop .x) (now .3) done))
     (λ w.

@@ -1,9 +1,9 @@
 -- `limited::tell::circle_or_count`: each answer by what the part beneath promises.
 use mathlib.Core.Path.{sym, subst}
 use native.Mathlib.Omega.{arith}
-use Rattle.limited.specs.Told.{Told}
+use Rattle.limited.specs.LimitedVerdict.{ToldLimited}
 use Rattle.limited.specs.declared.Limit.{Limit}
-use Rattle.limited.proofs.Laying.{told-circle, told-order, told-none, told-over}
+use Rattle.limited.proofs.LaidOut.{told-circle, told-order, told-none, told-over}
 use borrow.Author.Needs.{needs}
 use Rattle.limited.proofs.tell.circle_or_count.Statement.{statement}
 use Rattle.limited.proofs.tell.circle_or_count.Tie as tie
@@ -47,7 +47,7 @@ returns-3 c =
     let s = c .before .before .before .before .before .before .before in
     let k = c .before .before .before .before .before .before .circle-of in
     let p = c .before .before .before .before .plain-search in
-    subst (λ (r : Limit). Told (s .args .t) (s .args .model) (s .args .limit) r) (sym (c .bare .ensures))
+    subst (λ (r : Limit). ToldLimited (s .args .t) (s .args .model) (s .args .limit) r) (sym (c .bare .ensures))
     (told-none (s .args .t) (s .args .model) (s .args .limit) (s .pre) (k .result) (k .ensures) (omega (arith, c .before .before .before .before .before .if1 .left)) (p .result) (p .ensures) _ (c .before .before .walked2 .given .1))
 
 returns-4 : tie.Need-returns-4
@@ -55,7 +55,7 @@ returns-4 c =
     let s = c .before .before .before .before .before .before in
     let k = c .before .before .before .before .before .circle-of in
     let p = c .before .before .before .plain-search in
-    subst (λ (r : Limit). Told (s .args .t) (s .args .model) (s .args .limit) r) (sym (c .bare2 .ensures))
+    subst (λ (r : Limit). ToldLimited (s .args .t) (s .args .model) (s .args .limit) r) (sym (c .bare2 .ensures))
     (told-over (s .args .t) (s .args .model) (s .args .limit) (s .pre) (k .result) (k .ensures) (omega (arith, c .before .before .before .before .if1 .left)) (p .result) (p .ensures) (c .before .enum-told .given .1))
 
 pub circle-or-count-spec : {M : Type 1} → statement M

@@ -1,9 +1,9 @@
 -- `limited::tell::limited_verdict`: 9 before 10, then a missing source, then the rest.
 use mathlib.Core.Path.{sym, _∙_, subst}
 use borrow.Author.Tests.{not-true, not-false}
-use Rattle.limited.specs.Told.{Told}
+use Rattle.limited.specs.LimitedVerdict.{ToldLimited}
 use Rattle.limited.specs.declared.Limit.{Limit}
-use Rattle.limited.proofs.Laying.{told-model, told-form, told-source}
+use Rattle.limited.proofs.LaidOut.{told-model, told-form, told-source}
 use borrow.Author.Needs.{needs}
 use Rattle.limited.proofs.tell.limited_verdict.Statement.{statement}
 use Rattle.limited.proofs.tell.limited_verdict.Tie as tie
@@ -16,7 +16,7 @@ bare-requires c κs = search needs
 
 returns : tie.Need-returns
 returns c = let s = c .before .before .before in
-    subst (λ (r : Limit). Told (s .args .t) (s .args .model) (s .args .limit) r) (sym (c .bare .ensures)) (told-model (s .args .t) (s .args .model) (s .args .limit) (sym (c .before .before .modelled .ensures) ∙ not-true _ (c .before .if1 .taken)))
+    subst (λ (r : Limit). ToldLimited (s .args .t) (s .args .model) (s .args .limit) r) (sym (c .bare .ensures)) (told-model (s .args .t) (s .args .model) (s .args .limit) (sym (c .before .before .modelled .ensures) ∙ not-true _ (c .before .if1 .taken)))
 
 well-formed-requires : tie.Need-well-formed-requires
 well-formed-requires c κs = search needs
@@ -27,7 +27,7 @@ bare-requires-2 c κs = search needs
 returns-2 : tie.Need-returns-2
 returns-2 c = let w = c .before .before in
     let s = w .before .before .before in
-    subst (λ (r : Limit). Told (s .args .t) (s .args .model) (s .args .limit) r) (sym (c .bare2 .ensures))
+    subst (λ (r : Limit). ToldLimited (s .args .t) (s .args .model) (s .args .limit) r) (sym (c .bare2 .ensures))
     (told-form (s .args .t) (s .args .model) (s .args .limit) (sym (w .before .before .modelled .ensures) ∙ not-false _ (w .before .if1 .left)) (sym (w .well-formed .ensures) ∙ not-true _ (c .before .if2 .taken)))
 
 missing-requires : tie.Need-missing-requires
@@ -52,7 +52,7 @@ returns-3 : tie.Need-returns-3
 returns-3 c = let m = c .before .before .before .before in
     let w = m .before .before in
     let s = w .before .before .before in
-    subst (λ (r : Limit). Told (s .args .t) (s .args .model) (s .args .limit) r) (sym (c .bare3 .ensures))
+    subst (λ (r : Limit). ToldLimited (s .args .t) (s .args .model) (s .args .limit) r) (sym (c .bare3 .ensures))
     (told-source (s .args .t) (s .args .model) (s .args .limit) (sym (w .before .before .modelled .ensures) ∙ not-false _ (w .before .if1 .left)) (sym (w .well-formed .ensures) ∙ not-false _ (m .before .if2 .left)) _ (sym (c .before .before .x .given .1) ∙ m .missing .ensures))
 
 returns-4 : tie.Need-returns-4

@@ -6,7 +6,7 @@ use native.Mathlib.Omega.{arith}
 use lib.Dec.{eqb}
 use lib.ListN.{length, getD}
 use Rattle.laws.proofs.LowestLoops.{NoneBelow, none-below, more-below, lowest-found, lowest-nothing}
-use Rattle.orders.specs.MissingOf.{found}
+use Rattle.pairs.specs.MissingOf.{asFound}
 use Rattle.machine.specs.Machine.{due}
 use borrow.Author.Needs.{needs}
 use Rattle.machine.proofs.cores.next.Statement.{statement}
@@ -35,7 +35,7 @@ thread-requires c κs = search needs
 
 returns : tie.Need-returns Inv-loop μ-loop
 unfolding due
-returns c = sym (ap found (lowest-found _ _ (c .before .before .before .before .before .loop .i) (c .before .before .before .before .before .loop .inv) (c .before .before .before .before .loop-test .taken) (cc)))
+returns c = sym (ap asFound (lowest-found _ _ (c .before .before .before .before .before .loop .i) (c .before .before .before .before .before .loop .inv) (c .before .before .before .before .loop-test .taken) (cc)))
 
 add-i : tie.Need-add-i Inv-loop μ-loop
 add-i c = search needs
@@ -48,7 +48,7 @@ unfolding due
 loop-again c = more-below _ (c .before .before .before .before .before .loop .i) (c .before .before .before .before .before .loop .inv) (cc)
 
 returns-2 : tie.Need-returns-2 Inv-loop μ-loop
-returns-2 c = sym (ap found (lowest-nothing _ _ _ (c .before .loop .inv) (c .loop-test .left)))
+returns-2 c = sym (ap asFound (lowest-nothing _ _ _ (c .before .loop .inv) (c .loop-test .left)))
 
 pub next-spec : {M : Type 1} → statement M
 next-spec =

@@ -5,15 +5,15 @@ use Prim.Native.Nat.{_≤_, _-_}
 use native.Mathlib.Omega.{arith}
 use lib.ListN.{length, drop}
 use borrow.Author.Needs.{needs}
-use Rattle.orders.proofs.Accepted.{well-fits}
+use Rattle.pairs.proofs.ValidOrders.{well-fits}
 use Rattle.machine.specs.declared.Built.{Built}
-use Rattle.machine.specs.Replay.{swept, placing, blank, builtOf}
+use Rattle.machine.specs.Replay.{swept, placing, noneBuilt, builtOf}
 use Rattle.machine.proofs.ByCases.{core-fits, placing-more, placing-end}
 use Rattle.machine.proofs.replaying.built.Statement.{statement}
 use Rattle.machine.proofs.replaying.built.Tie as tie
 
 abbrev Inv-loop : tie.InvT-loop
-Inv-loop t model order b₀ i₀ b i = (i ≤ length order) × (placing t model blank order ≡ placing t model b (drop i order))
+Inv-loop t model order b₀ i₀ b i = (i ≤ length order) × (placing t model noneBuilt order ≡ placing t model b (drop i order))
 
 abbrev μ-loop : tie.MeasureT-loop
 μ-loop t model order b₀ i₀ b i = length order - i

@@ -7,16 +7,16 @@ use lib.ListN.{length, drop, getD}
 use borrow.Author.Needs.{needs}
 use borrow.Author.Tests.{not-true, not-false}
 use Rattle.trace.specs.WellFormed.{wellFormed}
-use Rattle.orders.proofs.Accepted.{well-fits}
+use Rattle.pairs.proofs.ValidOrders.{well-fits}
 use Rattle.machine.specs.declared.Machine.{Machine}
 use Rattle.machine.specs.declared.Ran.the-variants.{Through}
-use Rattle.machine.specs.Machine.{machined, startOf, step, run}
+use Rattle.machine.specs.Machine.{machined, machineStart, step, run}
 use Rattle.machine.proofs.ByCases.{answer-model, answer-form, answer-runs, run-stuck, run-more, run-end, stepped-no, stepped-yes}
 use Rattle.machine.proofs.running.run.Statement.{statement}
 use Rattle.machine.proofs.running.run.Tie as tie
 
 abbrev Inv-loop : tie.InvT-loop
-Inv-loop t model steps m₀ i₀ m i = ((So (machined model) × So (wellFormed t)) × (i ≤ length steps)) × (run t model (startOf t) steps 0 ≡ run t model m (drop i steps) i)
+Inv-loop t model steps m₀ i₀ m i = ((So (machined model) × So (wellFormed t)) × (i ≤ length steps)) × (run t model (machineStart t) steps 0 ≡ run t model m (drop i steps) i)
 
 abbrev μ-loop : tie.MeasureT-loop
 μ-loop t model steps m₀ i₀ m i = length steps - i

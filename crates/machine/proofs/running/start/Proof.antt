@@ -5,13 +5,13 @@ use Prim.Native.Nat.{ℕ, _≤_, _-_}
 use native.Mathlib.Omega.{arith}
 use lib.ListN.{set, drop, replicate}
 use borrow.Author.Needs.{needs}
-use Rattle.laws.specs.Warshall.{row}
+use Rattle.laws.specs.ListOf.{row}
 use Rattle.laws.proofs.Rows.{row-more}
 use mathlib.Core.Bool.{false}
 use Rattle.machine.proofs.ByCases.{made}
 use Rattle.trace.specs.Bounds.{RECORDS, ADDRESSES}
 use Rattle.trace.specs.Trace.{first}
-use Rattle.machine.specs.Machine.{startOf}
+use Rattle.machine.specs.Machine.{machineStart}
 use Rattle.machine.proofs.running.start.Statement.{statement}
 use Rattle.machine.proofs.running.start.Tie as tie
 
@@ -49,7 +49,7 @@ loop-again c =
     (omega arith, ap₂ (λ (o : List ℕ) (v : ℕ). set o (l .addr) v) (l .inv .1) (c .first .ensures) ∙ row-more (first (c .before .before .before .args .t)) (replicate ADDRESSES 0) (l .addr) (omega arith))
 
 returns : tie.Need-returns Inv-loop μ-loop
-unfolding startOf
+unfolding machineStart
 returns c =
     let l = c .before .loop in
     let e : l .addr ≡ ADDRESSES = omega arith in

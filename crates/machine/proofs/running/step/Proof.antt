@@ -1,6 +1,6 @@
 -- `machine::running::step`.
 use mathlib.Core.Path.{sym, _∙_}
-use Rattle.orders.proofs.Accepted.{well-fits}
+use Rattle.pairs.proofs.ValidOrders.{well-fits}
 use Rattle.machine.proofs.ByCases.{found-fits, step-runs, step-blocked, step-idle, step-empties, step-dry, yes-step, no-step}
 use borrow.Author.Needs.{needs}
 use Rattle.machine.proofs.running.step.Statement.{statement}

@@ -7,7 +7,7 @@ use native.Mathlib.Omega.{arith}
 use borrow.Author.Needs.{needs}
 use lib.ListN.{length, getD, set, length-map, length-set}
 use Rattle.trace.specs.Bounds.{RECORDS}
-use Rattle.night.specs.Block.{BLOCK, kindIn, laidOut}
+use Rattle.night.specs.Block.{BLOCK, kindIn, blockIn}
 use Rattle.night.proofs.Block.{Laid, laid-start, laid-more, laid-end}
 use Rattle.night.proofs.blocks.lay.Statement.{statement}
 use Rattle.night.proofs.blocks.lay.Tie as tie
@@ -99,7 +99,7 @@ same-length : tie.Need-same-length Inv-loop μ-loop
 same-length c = long c ∙ sym (c .before .before .before .before .before .before .before .pre .1)
 
 returns : tie.Need-returns Inv-loop μ-loop
-unfolding laidOut
+unfolding blockIn
 returns c =
     let k = c .before in
     let l = k .before .before in

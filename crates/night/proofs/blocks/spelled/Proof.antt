@@ -3,7 +3,7 @@ use mathlib.Core.Path.{subst}
 use Prim.Native.Nat.{_<_}
 use Rattle.trace.specs.Bounds.{RECORDS}
 use Rattle.verdict.specs.declared.Outcome.{Outcome}
-use Rattle.night.specs.Block.{lacking}
+use Rattle.night.specs.Block.{lackingIn}
 use Rattle.night.proofs.Block.{spelled-by}
 use borrow.Author.Needs.{needs}
 use Rattle.night.proofs.blocks.spelled.Statement.{statement}
@@ -15,7 +15,7 @@ enum-known-outcome c = search needs
 cast-operations : tie.Need-cast-operations
 cast-operations c =
     let o = c .before .outcome .given in
-    let h : o .0 .0 < RECORDS = subst (λ (o : Outcome). lacking o < RECORDS) (o .1) (c .before .before .before .pre) in
+    let h : o .0 .0 < RECORDS = subst (λ (o : Outcome). lackingIn o < RECORDS) (o .1) (c .before .before .before .pre) in
     search needs
 
 array-write-operations : tie.Need-array-write-operations

@@ -8,7 +8,7 @@ use borrow.Author.Needs.{needs}
 use lib.ListN.{length}
 use Rattle.signature.specs.Signature.{tops}
 use Rattle.night.specs.Night.{wordsAt, largeFrom}
-use Rattle.night.specs.Large.{Largest}
+use Rattle.night.specs.inner.Large.{Largest}
 use Rattle.night.proofs.Many.{run-fits, part-words, words-long, large-here, large-on, large-over}
 use Rattle.night.proofs.runs.first_large.Statement.{statement}
 use Rattle.night.proofs.runs.first_large.Tie as tie

@@ -9,7 +9,7 @@ use lib.ListN.{length}
 use lib.Seq.{length-take-le}
 use Rattle.trace.specs.Bounds.{RECORDS}
 use Rattle.signature.specs.Reads.{loads}
-use Rattle.signature.specs.Answers.{unpackOf}
+use Rattle.signature.specs.SignatureAnswers.{unpackOf}
 use Rattle.night.proofs.Many.{largest-of, loads-told, loads-few}
 use Rattle.night.proofs.runs.large_at.Statement.{statement}
 use Rattle.night.proofs.runs.large_at.Tie as tie

@@ -8,11 +8,11 @@ use borrow.Author.Needs.{needs}
 use lib.ListN.{length}
 use Rattle.signature.specs.Signature.{tops}
 use Rattle.signature.specs.Reads.{loads}
-use Rattle.signature.specs.Answers.{unpackOf}
+use Rattle.signature.specs.SignatureAnswers.{unpackOf}
 use Rattle.signature.specs.declared.Answer.the-variants as words
 use Rattle.night.specs.Block.{BLOCK}
-use Rattle.night.specs.Night.{wordsAt, Judged}
-use Rattle.night.specs.Large.{Unpacks}
+use Rattle.night.specs.Night.{wordsAt, JudgedRun}
+use Rattle.night.specs.inner.Large.{RunUnpacks}
 use Rattle.night.proofs.Many.{block-part, run-fits, part-words, words-long, large-none, Judging, judging-more}
 use Rattle.night.proofs.runs.put_runs.Statement.{statement}
 use Rattle.night.proofs.runs.put_runs.Tie as tie
@@ -71,7 +71,7 @@ part-put-run-end-2 : tie.Need-part-put-run-end-2 Inv-loop μ-loop
 part-put-run-end-2 c = omega (arith, below (c .before))
 
 -- unpacking takes the words of run i
-taken : (c : tie.In-loop Inv-loop μ-loop) → let s = c .before .before .before .before in Unpacks (s .args .t) (s .args .model) (wordsAt (s .args .t) (s .args .words .now) (c .before .loop .i))
+taken : (c : tie.In-loop Inv-loop μ-loop) → let s = c .before .before .before .before in RunUnpacks (s .args .t) (s .args .model) (wordsAt (s .args .t) (s .args .words .now) (c .before .loop .i))
 taken c =
     let s = c .before .before .before .before in
     let t = s .args .t in
@@ -91,7 +91,7 @@ put-run-requires c κs =
     let s = j .before .before .before .before in
     let i = j .before .loop .i in
     let n = s .args .each in
-    (subst (Unpacks (s .args .t) (s .args .model)) (sym (part-words (s .args .t) (s .args .words .now) n (s .pre .1 .each) _ i (same j))) (taken j), block-part (j .before .loop .out) i _ (let z : i * BLOCK + BLOCK - i * BLOCK ≡ BLOCK = omega arith in z) (below j))
+    (subst (RunUnpacks (s .args .t) (s .args .model)) (sym (part-words (s .args .t) (s .args .words .now) n (s .pre .1 .each) _ i (same j))) (taken j), block-part (j .before .loop .out) i _ (let z : i * BLOCK + BLOCK - i * BLOCK ≡ BLOCK = omega arith in z) (below j))
 
 add-i : tie.Need-add-i Inv-loop μ-loop
 add-i c = search needs
@@ -109,7 +109,7 @@ loop-again c =
     let n = s .args .each in (
       omega arith,
       judging-more (s .args .t) (s .args .model) (s .args .words .now) (l .loop .out) _ (s .args .runs) i _ (l .loop .inv .1) (j .loop-test .taken) (r .put-run .ensures .0) (let z : i * BLOCK + BLOCK - i * BLOCK ≡ BLOCK = omega arith in z)
-          (subst (λ (p : List ℕ). Judged (s .args .t) (s .args .model) p (r .put-run .last .1 .1 .1 .0)) (part-words (s .args .t) (s .args .words .now) n (s .pre .1 .each) _ i (same j)) (r .put-run .ensures .1)),
+          (subst (λ (p : List ℕ). JudgedRun (s .args .t) (s .args .model) p (r .put-run .last .1 .1 .1 .0)) (part-words (s .args .t) (s .args .words .now) n (s .pre .1 .each) _ i (same j)) (r .put-run .ensures .1)),
     )
 
 same-length : tie.Need-same-length Inv-loop μ-loop

@@ -6,16 +6,16 @@ use lib.ListN.{length}
 use Rattle.trace.specs.Bounds.{RECORDS}
 use Rattle.trace.specs.declared.Trace.{Trace}
 use Rattle.trace.proofs.WellFormed.{form-iff}
-use Rattle.verdict.specs.Told.{Told}
+use Rattle.verdict.specs.VerdictOf.{Told}
 use Rattle.verdict.specs.declared.Verdict.{Verdict}
 use Rattle.signature.specs.Reads.{loads}
 use Rattle.signature.specs.Unpack.{readOf, readsOf}
-use Rattle.signature.specs.Answers.{unpackOf}
+use Rattle.signature.specs.SignatureAnswers.{unpackOf}
 use Rattle.signature.proofs.Lists.{each-long}
-use Rattle.night.specs.Seen.{seen}
-use Rattle.night.specs.Block.{laidOut}
-use Rattle.night.specs.Night.{Judged}
-use Rattle.night.proofs.Seen.{seen-well, read-small}
+use Rattle.night.specs.FilledReads.{filledReads}
+use Rattle.night.specs.Block.{blockIn}
+use Rattle.night.specs.Night.{JudgedRun}
+use Rattle.night.proofs.FilledReads.{seen-well, read-small}
 use Rattle.night.proofs.Block.{spelled-fits, source-below}
 use Rattle.night.proofs.Many.{left-done, told-judged}
 use borrow.Author.Needs.{needs}
@@ -32,11 +32,11 @@ left u =
     u .unpack .ensures .1 ∙ left-done (s .args .t) (s .args .words .now) (s .args .reads .now) (ap (unpackOf (s .args .t) (s .args .words .now)) (s .pre .1) ∙ s .pre .0 .taken)
 
 -- the program with these reads
-saw : (c : tie.After-seen) → let s = start (c .before .before .before .before) in c .seen .result ≡ seen (s .args .t) (readsOf (s .args .t) (s .args .words .now))
-saw c = let u = c .before .before .before .before in c .seen .ensures ∙ ap (seen (start u .args .t)) (left u)
+saw : (c : tie.After-seen) → let s = start (c .before .before .before .before) in c .seen .result ≡ filledReads (s .args .t) (readsOf (s .args .t) (s .args .words .now))
+saw c = let u = c .before .before .before .before in c .seen .ensures ∙ ap (filledReads (start u .args .t)) (left u)
 
 -- its verdict
-told : (c : tie.After-verdict-of) → let s = start (c .before .before .before .before .before) in Told (seen (s .args .t) (readsOf (s .args .t) (s .args .words .now))) (s .args .model) (c .verdict-of .result)
+told : (c : tie.After-verdict-of) → let s = start (c .before .before .before .before .before) in Told (filledReads (s .args .t) (readsOf (s .args .t) (s .args .words .now))) (s .args .model) (c .verdict-of .result)
 told c = let s = start (c .before .before .before .before .before) in subst (λ (u : Trace). Told u (s .args .model) (c .verdict-of .result)) (saw (c .before)) (c .verdict-of .ensures)
 
 unpack-requires : tie.Need-unpack-requires
@@ -53,7 +53,7 @@ spelled-requires c κs =
     let s = start (c .before .before .before .before .before) in
     let t = s .args .t in
     let vs = readsOf t (s .args .words .now) in
-    source-below (s .args .model) (seen t vs) (seen-well t vs (read-small t (form-iff t .0 (s .pre .0 .well)) (s .args .words .now)) (s .pre .0 .well)) (c .verdict-of .result) (told c)
+    source-below (s .args .model) (filledReads t vs) (seen-well t vs (read-small t (form-iff t .0 (s .pre .0 .well)) (s .args .words .now)) (s .pre .0 .well)) (c .verdict-of .result) (told c)
 
 lay-requires : tie.Need-lay-requires
 lay-requires c κs =
@@ -80,7 +80,7 @@ returns c =
     let v = p .before in
     let s = start (v .before .before .before .before .before) in (
       l .lay .ensures .1,
-      subst (Judged (s .args .t) (s .args .model) (s .args .words .now)) (sym (l .lay .ensures .0 ∙ ap laidOut (p .spelled .ensures)))
+      subst (JudgedRun (s .args .t) (s .args .model) (s .args .words .now)) (sym (l .lay .ensures .0 ∙ ap blockIn (p .spelled .ensures)))
           (told-judged (s .args .t) (s .args .model) (s .args .words .now) (s .pre .0 .well) (s .pre .0 .model) (v .verdict-of .result) (told v)),
     )
 

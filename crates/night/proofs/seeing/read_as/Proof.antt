@@ -1,7 +1,7 @@
 -- `night::seeing::read_as`: by the kind of the operation.
 use mathlib.Core.Path.{_≡_, sym, ap}
 use Rattle.trace.specs.declared.Op.{Op}
-use Rattle.night.specs.Seen.{readAs}
+use Rattle.night.specs.FilledReads.{readAs}
 use borrow.Author.Needs.{needs}
 use Rattle.night.proofs.seeing.read_as.Statement.{statement}
 use Rattle.night.proofs.seeing.read_as.Tie as tie

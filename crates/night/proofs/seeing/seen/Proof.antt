@@ -8,8 +8,8 @@ use Rattle.trace.specs.Bounds.{RECORDS}
 use Rattle.trace.specs.Trace.{at}
 use Rattle.trace.specs.declared.Op.{Op}
 use Rattle.trace.specs.declared.Trace.{Trace}
-use Rattle.night.specs.Seen.{readAs}
-use Rattle.night.proofs.Seen.{Filled, filled-start, filled-read, filled-pass, filled-end}
+use Rattle.night.specs.FilledReads.{readAs}
+use Rattle.night.proofs.FilledReads.{Filled, filled-start, filled-read, filled-pass, filled-end}
 use borrow.Author.Needs.{needs}
 use Rattle.night.proofs.seeing.seen.Statement.{statement}
 use Rattle.night.proofs.seeing.seen.Tie as tie

@@ -1,6 +1,6 @@
 -- `packed::packing::lay`: head, first values and records, one behind the other.
 use native.Mathlib.Omega.{arith}
-use Rattle.packed.proofs.Laying.{len-fits, many-fits, room-firsts, room-records, laid}
+use Rattle.packed.proofs.FileLaid.{len-fits, many-fits, room-firsts, room-records, laid}
 use borrow.Author.Needs.{needs}
 use Rattle.packed.proofs.packing.lay.Statement.{statement}
 use Rattle.packed.proofs.packing.lay.Tie as tie

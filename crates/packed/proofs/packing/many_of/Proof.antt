@@ -7,7 +7,7 @@ use lib.ListN.{length, getD, take, length-map}
 use lib.Seq.{take-all}
 use Rattle.trace.specs.Bounds.{ADDRESSES}
 use Rattle.packed.specs.Layout.{many}
-use Rattle.packed.proofs.Laying.{many-zero, many-other}
+use Rattle.packed.proofs.FileLaid.{many-zero, many-other}
 use borrow.Author.Needs.{needs}
 use Rattle.packed.proofs.packing.many_of.Statement.{statement}
 use Rattle.packed.proofs.packing.many_of.Tie as tie

@@ -1,5 +1,5 @@
 -- `packed::packing::put_first`: nothing for a 0, else its three bytes.
-use Rattle.packed.proofs.Laying.{first-still, first-down}
+use Rattle.packed.proofs.FileLaid.{first-still, first-down}
 use borrow.Author.Needs.{needs}
 use Rattle.packed.proofs.packing.put_first.Statement.{statement}
 use Rattle.packed.proofs.packing.put_first.Tie as tie

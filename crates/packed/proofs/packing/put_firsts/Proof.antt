@@ -8,7 +8,7 @@ use Rattle.text.specs.Room.{putAt}
 use Rattle.text.proofs.Put.{length-put}
 use Rattle.trace.specs.Bounds.{ADDRESSES}
 use Rattle.packed.specs.Layout.{HEAD, firstsOf}
-use Rattle.packed.proofs.Laying.{put-nothing, firsts-fit, firsts-step}
+use Rattle.packed.proofs.FileLaid.{put-nothing, firsts-fit, firsts-step}
 use borrow.Author.Needs.{needs}
 use Rattle.packed.proofs.packing.put_firsts.Statement.{statement}
 use Rattle.packed.proofs.packing.put_firsts.Tie as tie

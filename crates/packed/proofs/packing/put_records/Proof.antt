@@ -7,14 +7,14 @@ use lib.ListN.{length, take, length-map}
 use Rattle.text.specs.Room.{putAt}
 use Rattle.text.proofs.Put.{length-put}
 use Rattle.trace.specs.Bounds.{RECORDS}
-use Rattle.packed.specs.Layout.{RECORD, recordsOf}
-use Rattle.packed.proofs.Laying.{put-nothing, records-step}
+use Rattle.packed.specs.Layout.{RECORD, recordBytes}
+use Rattle.packed.proofs.FileLaid.{put-nothing, records-step}
 use borrow.Author.Needs.{needs}
 use Rattle.packed.proofs.packing.put_records.Statement.{statement}
 use Rattle.packed.proofs.packing.put_records.Tie as tie
 
 abbrev Inv-loop : tie.InvT-loop
-Inv-loop out₀ from t n i₀ out i = (i ≤ n) × (out ≡ putAt (recordsOf (take i (t .records))) out₀ from)
+Inv-loop out₀ from t n i₀ out i = (i ≤ n) × (out ≡ putAt (recordBytes (take i (t .records))) out₀ from)
 
 abbrev μ-loop : tie.MeasureT-loop
 μ-loop out₀ from t n i₀ out i = n - i
@@ -24,7 +24,7 @@ full : (c : tie.Start Inv-loop μ-loop) → length (c .args .t1 .records) ≡ RE
 full c = sym (length-map (c .args .t1 .records) _) ∙ c .good .0 .1 .1 .0 .1 .0 .1
 
 loop-holds : tie.Need-loop-holds Inv-loop μ-loop
-unfolding recordsOf
+unfolding recordBytes
 loop-holds c = let s = c .before in (omega arith, put-nothing (s .args .out .now) (s .args .from) (omega (arith, s .pre .1)))
 
 mul-record : tie.Need-mul-record Inv-loop μ-loop
@@ -69,7 +69,7 @@ same-length : tie.Need-same-length Inv-loop μ-loop
 same-length c =
     let l = c .before in
     let s = l .before .before in
-    ap length (l .loop .inv .1) ∙ length-put (recordsOf (take (l .loop .i) (s .args .t1 .records))) (s .args .out .now) (s .args .from)
+    ap length (l .loop .inv .1) ∙ length-put (recordBytes (take (l .loop .i) (s .args .t1 .records))) (s .args .out .now) (s .args .from)
 
 returns : tie.Need-returns Inv-loop μ-loop
 returns c =

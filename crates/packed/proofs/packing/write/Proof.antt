@@ -6,7 +6,7 @@ use native.Mathlib.Omega.{arith}
 use borrow.Author.Tests.{not-true, not-false}
 use Rattle.trace.specs.WellFormed.{wellFormed}
 use Rattle.packed.specs.Layout.{sizeOf}
-use Rattle.packed.proofs.Laying.{len-fits, wrote-ten, wrote-short, wrote-done}
+use Rattle.packed.proofs.FileLaid.{len-fits, wrote-ten, wrote-short, wrote-done}
 use borrow.Author.Needs.{needs}
 use Rattle.packed.proofs.packing.write.Statement.{statement}
 use Rattle.packed.proofs.packing.write.Tie as tie

@@ -1,7 +1,7 @@
 -- `packed::packing::write_whole`: 10 and 22 where a core is lost, else what `write` answers.
 use mathlib.Core.Path.{sym, _∙_}
 use borrow.Author.Needs.{needs}
-use Rattle.packed.proofs.Whole.{written-lost, written-ten, written-on}
+use Rattle.packed.proofs.WholeFile.{written-lost, written-ten, written-on}
 use Rattle.packed.proofs.packing.write_whole.Statement.{statement}
 use Rattle.packed.proofs.packing.write_whole.Tie as tie
 

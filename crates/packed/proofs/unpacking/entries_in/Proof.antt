@@ -5,7 +5,7 @@ use native.Mathlib.Omega.{arith}
 use lib.ListN.{drop, replicate}
 use Rattle.trace.specs.Bounds.{ADDRESSES}
 use Rattle.packed.specs.Layout.{HEAD, FIRST}
-use Rattle.packed.specs.Read.{thenRecords, readEntries}
+use Rattle.packed.specs.FileRead.{thenRecords, readEntries}
 use Rattle.packed.specs.declared.Answer.{Answer}
 use Rattle.packed.specs.declared.Reading.{Reading}
 use Rattle.packed.proofs.Framing.{firsts-bare}

@@ -7,7 +7,7 @@ use lib.ListN.{getD, set, drop, replicate}
 use Rattle.trace.specs.Bounds.{ADDRESSES}
 use Rattle.trace.specs.declared.Trace.{Trace}
 use Rattle.packed.specs.Layout.{HEAD, FIRST}
-use Rattle.packed.specs.Read.{begun, good, readFirsts}
+use Rattle.packed.specs.FileRead.{begunFile, good, readFirsts}
 use Rattle.packed.proofs.Steps.{first-bad, first-past, first-next, first-over}
 use borrow.Author.Needs.{needs}
 use Rattle.packed.proofs.unpacking.firsts_in.Statement.{statement}
@@ -15,7 +15,7 @@ use Rattle.packed.proofs.unpacking.firsts_in.Tie as tie
 
 abbrev Inv-loop : tie.InvT-loop
 Inv-loop bytes count trace₀ low₀ i₀ trace low i =
-    (i ≤ count) × (low ≤ ADDRESSES) × (trace ≡ begun (trace .firsts))
+    (i ≤ count) × (low ≤ ADDRESSES) × (trace ≡ begunFile (trace .firsts))
     × (readFirsts (count - i) low (trace .firsts) (drop (HEAD + FIRST * i) bytes) ≡ readFirsts count 0 (replicate ADDRESSES 0) (drop HEAD bytes))
 
 abbrev μ-loop : tie.MeasureT-loop

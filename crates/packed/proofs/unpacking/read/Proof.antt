@@ -5,7 +5,7 @@ use borrow.Author.Tests.{not-true, not-false}
 use lib.ListN.{length, getD}
 use Prim.Native.Nat.{_+_, _*_}
 use Rattle.packed.specs.Layout.{HEAD, FIRST, RECORD, twoIn, sizeOf}
-use Rattle.packed.specs.Read.{readEntries, marked}
+use Rattle.packed.specs.FileRead.{readEntries, marked}
 use Rattle.packed.proofs.Framing.{marked-long, file-unmarked, file-version, file-size, file-many, file-entries}
 use borrow.Author.Needs.{needs}
 use Rattle.packed.proofs.unpacking.read.Statement.{statement}

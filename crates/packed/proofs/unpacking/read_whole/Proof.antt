@@ -1,7 +1,7 @@
 -- `packed::unpacking::read_whole`: what `read` answers, and then number 22.
 use mathlib.Core.Path.{sym, _∙_}
 use borrow.Author.Needs.{needs}
-use Rattle.packed.proofs.Whole.{whole-lost, whole-good, whole-refused}
+use Rattle.packed.proofs.WholeFile.{whole-lost, whole-good, whole-refused}
 use Rattle.packed.proofs.unpacking.read_whole.Statement.{statement}
 use Rattle.packed.proofs.unpacking.read_whole.Tie as tie
 

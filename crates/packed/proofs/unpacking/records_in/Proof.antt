@@ -10,7 +10,7 @@ use Rattle.trace.specs.Trace.{pushed}
 use Rattle.trace.specs.declared.Trace.{Trace}
 use Rattle.trace.proofs.Places.{pushed-room}
 use Rattle.packed.specs.Layout.{RECORD}
-use Rattle.packed.specs.Read.{readRecords}
+use Rattle.packed.specs.FileRead.{readRecords}
 use Rattle.packed.proofs.Steps.{record-taken, record-back, record-over}
 use borrow.Author.Needs.{needs}
 use Rattle.packed.proofs.unpacking.records_in.Statement.{statement}

@@ -6,7 +6,7 @@ use borrow.Author.Tests.{not-true, not-false}
 use Rattle.pairs.specs.Kept.{modelled}
 use Rattle.trace.specs.WellFormed.{wellFormed}
 use Rattle.trace.proofs.WellFormed.{form-iff}
-use Rattle.papers.proofs.Told.{told-form, told-yes, told-no}
+use Rattle.papers.proofs.ReaderAnswers.{told-form, told-yes, told-no}
 use Rattle.papers.proofs.reading.accepts.Statement.{statement}
 use Rattle.papers.proofs.reading.accepts.Tie as tie
 

@@ -10,8 +10,8 @@ use Rattle.laws.proofs.Tests.{no-iff, so-eq}
 use Rattle.trace.specs.Meaning.{frameOf}
 use Rattle.pairs.specs.Kept.{keptOf}
 use Rattle.papers.specs.Paper.{BRANCH}
-use Rattle.papers.specs.Reading.{goalsOf, Taken}
-use Rattle.papers.specs.Accepts.{Shows}
+use Rattle.papers.specs.inner.ReaderBranch.{goalsOf, Taken}
+use Rattle.papers.specs.Accepts.{PaperShows}
 use Rattle.papers.proofs.Showing.{entryAt, shows-long, as-entry, shows-goes, shows-wrong, shows-closed, went-short, goals-none}
 use Rattle.papers.proofs.reading.closing.Statement.{statement}
 use Rattle.papers.proofs.reading.closing.Tie as tie
@@ -22,7 +22,7 @@ use Rattle.papers.proofs.reading.wide.Reads as wide-reads
 
 abbrev Inv-loop : tie.InvT-loop
 Inv-loop t model list from₀ to₀ other₀ n count₀ at₀ from to other count at =
-    (Shows (frameOf t) (keptOf model t) ([] ∷ []) list ↔ Shows (frameOf t) (keptOf model t) (goalsOf from to other count) (drop at list))
+    (PaperShows (frameOf t) (keptOf model t) ([] ∷ []) list ↔ PaperShows (frameOf t) (keptOf model t) (goalsOf from to other count) (drop at list))
     × (at ≤ length list) × (count ≤ BRANCH) × (length from ≡ BRANCH) × (length to ≡ BRANCH) × (length other ≡ BRANCH)
 
 abbrev μ-loop : tie.MeasureT-loop
@@ -33,7 +33,7 @@ loop-holds : tie.Need-loop-holds Inv-loop μ-loop
 loop-holds c =
     let s = c .before .before .before .before .args in
     let p = c .before .before .before .before .pre in
-    (subst (λ Es. Shows (frameOf (s .t)) (keptOf (s .model) (s .t)) ([] ∷ []) (s .list .now) ↔ Shows (frameOf (s .t)) (keptOf (s .model) (s .t)) Es (s .list .now)) (sym (goals-none (s .from .now) (s .to .now) (s .other .now))) (λ x. x, λ x. x), omega arith, omega arith, p .1, p .2, p .3)
+    (subst (λ Es. PaperShows (frameOf (s .t)) (keptOf (s .model) (s .t)) ([] ∷ []) (s .list .now) ↔ PaperShows (frameOf (s .t)) (keptOf (s .model) (s .t)) Es (s .list .now)) (sym (goals-none (s .from .now) (s .to .now) (s .other .now))) (λ x. x, λ x. x), omega arith, omega arith, p .1, p .2, p .3)
 
 -- src/reading/mod.rt:179:16
 sub-loop : tie.Need-sub-loop Inv-loop μ-loop

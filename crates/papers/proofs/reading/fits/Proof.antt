@@ -6,13 +6,13 @@ use borrow.Author.Tests.{not-true, not-false}
 use Rattle.trace.specs.Meaning.{frameOf}
 use Rattle.pairs.specs.Kept.{keptOf}
 use Rattle.rules.specs.Rules.{nothing}
-use Rattle.rules.specs.Tests.{gives?}
+use Rattle.rules.specs.RuleTests.{gives?}
 use Rattle.rows.specs.Bounds.{CELLS}
 use Rattle.rows.specs.Rows.{bit}
 use Rattle.rows.specs.Put.{putOf}
 use Rattle.rows.specs.Empty.{emptyOf}
-use Rattle.papers.specs.Paper.{bare}
-use Rattle.papers.specs.Reading.{joins}
+use Rattle.papers.specs.Paper.{mayRest}
+use Rattle.papers.specs.inner.ReaderBranch.{linkJoins}
 use Rattle.papers.specs.declared.reading.Link.the-variants.{Between}
 use Rattle.papers.proofs.Branches.{joins-bit, no-bit}
 use borrow.Author.Needs.{needs}
@@ -35,7 +35,7 @@ returns : tie.Need-returns
 returns c =
     let s = c .before .before .args in
     let d = c .before in
-    sym (ap (λ b. b && gives? (frameOf (s .t)) (keptOf (s .model) (s .t)) nothing (joins (s .l)) (s .x) (s .y) (s .rule)) (sym (d .bare .ensures) ∙ not-true (d .bare .result) (c .if1 .taken)))
+    sym (ap (λ b. b && gives? (frameOf (s .t)) (keptOf (s .model) (s .t)) nothing (linkJoins (s .l)) (s .x) (s .y) (s .rule)) (sym (d .bare .ensures) ∙ not-true (d .bare .result) (c .if1 .taken)))
 
 -- src/reading/mod.rt:87:21
 empty-requires : tie.Need-empty-requires
@@ -91,8 +91,8 @@ returns-2 c =
     let e : c .before .before .before .put .last .0 ≡ putOf (emptyOf CELLS) w v = c .before .before .before .put .ensures ∙ ap (λ r. putOf r w v) (c .before .before .before .before .before .before .before .before .before .before .empty .ensures) in
     let k : s .l ≡ Between w v = c .before .before .before .before .before .before .before .before .l .given .1 ∙ ap₂ Between (sym (c .before .before .before .before .before .wide .ensures)) (sym (c .before .before .before .before .wide2 .ensures)) in
     c .gives .ensures
-    ∙ ap (λ C. gives? (frameOf (s .t)) (keptOf (s .model) (s .t)) nothing C (s .x) (s .y) (s .rule)) (fun-ext (λ x. fun-ext (λ y. ap (λ r. bit r x y) e ∙ joins-bit w v CELLS (omega arith) x y ∙ ap (λ l. joins l x y) (sym k))))
-    ∙ sym (ap (λ b. b && gives? (frameOf (s .t)) (keptOf (s .model) (s .t)) nothing (joins (s .l)) (s .x) (s .y) (s .rule)) (sym (i .before .bare .ensures) ∙ not-false (i .before .bare .result) (i .if1 .left)))
+    ∙ ap (λ C. gives? (frameOf (s .t)) (keptOf (s .model) (s .t)) nothing C (s .x) (s .y) (s .rule)) (fun-ext (λ x. fun-ext (λ y. ap (λ r. bit r x y) e ∙ joins-bit w v CELLS (omega arith) x y ∙ ap (λ l. linkJoins l x y) (sym k))))
+    ∙ sym (ap (λ b. b && gives? (frameOf (s .t)) (keptOf (s .model) (s .t)) nothing (linkJoins (s .l)) (s .x) (s .y) (s .rule)) (sym (i .before .bare .ensures) ∙ not-false (i .before .bare .result) (i .if1 .left)))
 
 -- src/reading/mod.rt:81:1
 returns-3 : tie.Need-returns-3
@@ -101,8 +101,8 @@ returns-3 c =
     let i = c .before .before .before .before .before in
     c .gives2 .ensures
     ∙ ap (λ C. gives? (frameOf (s .t)) (keptOf (s .model) (s .t)) nothing C (s .x) (s .y) (s .rule))
-    (fun-ext (λ x. fun-ext (λ y. ap (λ r. bit r x y) (c .before .before .before .before .empty .ensures) ∙ no-bit CELLS x y ∙ ap (λ l. joins l x y) (sym (c .before .before .enum-told .given .1)))))
-    ∙ sym (ap (λ b. b && gives? (frameOf (s .t)) (keptOf (s .model) (s .t)) nothing (joins (s .l)) (s .x) (s .y) (s .rule)) (sym (i .before .bare .ensures) ∙ not-false (i .before .bare .result) (i .if1 .left)))
+    (fun-ext (λ x. fun-ext (λ y. ap (λ r. bit r x y) (c .before .before .before .before .empty .ensures) ∙ no-bit CELLS x y ∙ ap (λ l. linkJoins l x y) (sym (c .before .before .enum-told .given .1)))))
+    ∙ sym (ap (λ b. b && gives? (frameOf (s .t)) (keptOf (s .model) (s .t)) nothing (linkJoins (s .l)) (s .x) (s .y) (s .rule)) (sym (i .before .bare .ensures) ∙ not-false (i .before .bare .result) (i .if1 .left)))
 
 pub fits-spec : {M : Type 1} → statement M
 fits-spec =

@@ -4,7 +4,7 @@ use Prim.Native.Nat.{_-_, _≤_}
 use native.Mathlib.Omega.{arith}
 use borrow.Author.Needs.{needs}
 use lib.ListN.{length}
-use Rattle.papers.specs.Reading.{latestOf}
+use Rattle.papers.specs.inner.ReaderBranch.{latestOf}
 use Rattle.papers.proofs.Branches.{latest-zero, latest-on, latest-here}
 use Rattle.papers.proofs.reading.latest.Statement.{statement}
 use Rattle.papers.proofs.reading.latest.Tie as tie

@@ -10,9 +10,9 @@ use lib.ListN.{length}
 use Rattle.trace.specs.Meaning.{frameOf}
 use Rattle.pairs.specs.Kept.{keptOf}
 use Rattle.rules.specs.Rules.{nothing}
-use Rattle.rules.specs.Tests.{gives?}
-use Rattle.papers.specs.Paper.{BRANCH, Entry, bare}
-use Rattle.papers.specs.Reading.{joins, linked}
+use Rattle.rules.specs.RuleTests.{gives?}
+use Rattle.papers.specs.Paper.{BRANCH, Entry, mayRest}
+use Rattle.papers.specs.inner.ReaderBranch.{linkJoins, linked}
 use Rattle.papers.proofs.Taking.{circle-wrong, circle-closed, circle-goes, full-wrong, split-wrong, split-goes, edge-wrong, edge-goes}
 use borrow.Author.Needs.{needs}
 use Rattle.papers.proofs.reading.take_entry.Statement.{statement}
@@ -247,8 +247,8 @@ returns-7 c =
     let m : s .count < BRANCH = omega (arith, g .if4 .left) in
     let p = c .before .before .before .before .before .before .before .before .before .before .before .before .before .before .pre in
     edge-wrong (s .t) (p .0) K (s .from .now) (s .to .now) (s .other .now) (s .count) e (g .before .if1 .left) (d .before .before .before .if5 .left) m (d .fits2 .result)
-    (d .fits2 .ensures ∙ ap₂ (λ a b. bare (s .rule) (length (s .rests .now)) && gives? f K nothing (joins (g .before .before .lead .result)) a b (s .rule)) (d .before .before .wide3 .ensures) (d .before .wide4 .ensures)
-    ∙ ap (λ l. bare (s .rule) (length (s .rests .now)) && gives? f K nothing (joins l) (s .x) (s .y) (s .rule)) (g .before .before .lead .ensures))
+    (d .fits2 .ensures ∙ ap₂ (λ a b. mayRest (s .rule) (length (s .rests .now)) && gives? f K nothing (linkJoins (g .before .before .lead .result)) a b (s .rule)) (d .before .before .wide3 .ensures) (d .before .wide4 .ensures)
+    ∙ ap (λ l. mayRest (s .rule) (length (s .rests .now)) && gives? f K nothing (linkJoins l) (s .x) (s .y) (s .rule)) (g .before .before .lead .ensures))
     (not-true (d .fits2 .result) (c .if7 .taken)) _ _ _
 
 -- src/reading/mod.rt:193:5
@@ -299,8 +299,8 @@ returns-8 c =
     let m : s .count < BRANCH = omega (arith, g .if4 .left) in
     let p = c .before .before .before .before .before .before .before .before .before .before .before .before .before .before .pre in
     edge-goes (s .t) (p .0) K (s .from .now) (s .to .now) (s .other .now) (s .count) e (g .before .if1 .left) (d .before .before .before .if5 .left) m (d .fits2 .result)
-    (d .fits2 .ensures ∙ ap₂ (λ a b. bare (s .rule) (length (s .rests .now)) && gives? f K nothing (joins (g .before .before .lead .result)) a b (s .rule)) (d .before .before .wide3 .ensures) (d .before .wide4 .ensures)
-    ∙ ap (λ l. bare (s .rule) (length (s .rests .now)) && gives? f K nothing (joins l) (s .x) (s .y) (s .rule)) (g .before .before .lead .ensures))
+    (d .fits2 .ensures ∙ ap₂ (λ a b. mayRest (s .rule) (length (s .rests .now)) && gives? f K nothing (linkJoins (g .before .before .lead .result)) a b (s .rule)) (d .before .before .wide3 .ensures) (d .before .wide4 .ensures)
+    ∙ ap (λ l. mayRest (s .rule) (length (s .rests .now)) && gives? f K nothing (linkJoins l) (s .x) (s .y) (s .rule)) (g .before .before .lead .ensures))
     (not-false (d .fits2 .result) (c .if7 .left)) (omega (arith, m, p .2)) (omega (arith, m, p .3)) (omega (arith, m, p .4))
 
 pub take-entry-spec : {M : Type 1} → statement M

@@ -1,7 +1,7 @@
 -- `reader::forms::behind`: by the first byte.
 use mathlib.Core.Path.{ap, _∙_}
 use borrow.Author.Tests.{ne-eqb}
-use Rattle.reader.specs.Form.{cutForm}
+use Rattle.reader.specs.LineForms.{cutForm}
 use Rattle.text.proofs.Fits.{begins-at}
 use Rattle.reader.proofs.Chosen.{plain-first, swap-first, fence-first, none-first}
 use borrow.Author.Needs.{needs}

@@ -1,7 +1,7 @@
 -- `reader::forms::fence_at`: a fence or nothing.
 use mathlib.Core.Path.{sym, ap}
 use lib.ListN.{drop}
-use Rattle.reader.specs.Form.{cutForm, sync, fenceOf}
+use Rattle.reader.specs.LineForms.{cutForm, sync, fenceOf}
 use Rattle.reader.specs.declared.Form.the-variants.{Nothing}
 use Rattle.reader.proofs.Chosen.{fence-makes, fit-taken, fit-left}
 use borrow.Author.Needs.{needs}

@@ -9,8 +9,8 @@ use lib.ListN.{length, drop}
 use lib.Seq.{drop-drop}
 use Rattle.text.specs.Number.{digits, value, cut}
 use Rattle.text.specs.Template.{begins}
-use Rattle.reader.specs.Form.{cutForm}
-use Rattle.reader.specs.Behind.{behindOf}
+use Rattle.reader.specs.LineForms.{cutForm}
+use Rattle.reader.specs.inner.AfterThread.{behindOf}
 use Rattle.text.proofs.Numbers.{number-known, number-unknown}
 use Rattle.reader.proofs.Chosen.{thread-cut, colon-inside, no-thread, no-colon, with-thread}
 use borrow.Author.Needs.{needs}

@@ -1,11 +1,11 @@
 -- `reader::forms::plain_at`: a store, or else a load.
 use mathlib.Core.Path.{_≡_, sym, ap, _∙_}
 use lib.ListN.{drop}
-use Rattle.reader.specs.Form.{cutForm, storeRest, loadRest, storeOf, loadOf, orElse}
+use Rattle.reader.specs.LineForms.{cutForm, storeRest, loadRest, storeOf, loadOf, orElse}
 use Rattle.text.specs.Template.{also, found}
 use Rattle.reader.specs.declared.Form.the-variants.{Nothing}
 use Rattle.reader.proofs.Chosen.{store-makes, load-makes, fit-taken, fit-left}
-use Rattle.reader.specs.Behind.{plainOf}
+use Rattle.reader.specs.inner.AfterThread.{plainOf}
 use Rattle.reader.specs.declared.Form.{Form}
 use mathlib.Core.List.{List}
 use Prim.Native.Nat.{ℕ}

@@ -1,7 +1,7 @@
 -- `reader::forms::swap_at`: a swap or nothing.
 use mathlib.Core.Path.{sym, ap}
 use lib.ListN.{drop}
-use Rattle.reader.specs.Form.{cutForm, swapRest, swapOf}
+use Rattle.reader.specs.LineForms.{cutForm, swapRest, swapOf}
 use Rattle.reader.specs.declared.Form.the-variants.{Nothing}
 use Rattle.reader.proofs.Chosen.{swap-makes, fit-taken, fit-left}
 use borrow.Author.Needs.{needs}

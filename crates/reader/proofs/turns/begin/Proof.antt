@@ -8,8 +8,8 @@ use borrow.Author.Tests.{lt-ltb, le-ltb, not-true, not-false}
 use Rattle.laws.proofs.Tests.{and-iff, so-lt}
 use Rattle.trace.specs.Bounds.{ADDRESSES, VALUES}
 use Rattle.reader.specs.Bounds.{LINE}
-use Rattle.reader.specs.Form.{initOf}
-use Rattle.reader.specs.Answer.{beginning, begins}
+use Rattle.reader.specs.LineForms.{initOf}
+use Rattle.reader.specs.Answer.{beginning, initGiven}
 use Rattle.reader.specs.declared.Init.the-variants as init
 use Rattle.reader.proofs.Bounded.{beginning-cut, beginning-none}
 use borrow.Author.Needs.{needs}
@@ -17,11 +17,11 @@ use Rattle.reader.proofs.turns.begin.Statement.{statement}
 use Rattle.reader.proofs.turns.begin.Tie as tie
 
 returns : tie.Need-returns
-unfolding begins
+unfolding initGiven
 returns c = rw (lt-ltb LINE _ (c .if1 .taken)) refl
 
 returns-2 : tie.Need-returns-2
-unfolding begins
+unfolding initGiven
 returns-2 c = rw (le-ltb LINE _ (c .before .if1 .left), not-true (c .before .before .before .args .ended) (c .if2 .taken)) refl
 
 init-requires : tie.Need-init-requires
@@ -34,8 +34,8 @@ enum-told : tie.Need-enum-told
 enum-told c = search needs
 
 -- behind the tests of length and ending, the init line decides
-decides : (c : tie.After-init) → begins (c .before .before .before .before .args .given .now) (record { bytes = c .before .before .before .before .args .bytes .now; ended = c .before .before .before .before .args .ended }) ≡ beginning (c .before .before .before .before .args .given .now) (initOf (c .before .before .before .before .args .bytes .now))
-unfolding begins
+decides : (c : tie.After-init) → initGiven (c .before .before .before .before .args .given .now) (record { bytes = c .before .before .before .before .args .bytes .now; ended = c .before .before .before .before .args .ended }) ≡ beginning (c .before .before .before .before .args .given .now) (initOf (c .before .before .before .before .args .bytes .now))
+unfolding initGiven
 decides c =
     let a = c .before .before .before .before .args in
     rw (le-ltb LINE _ (c .before .before .if1 .left), not-false (a .ended) (c .before .if2 .left)) refl

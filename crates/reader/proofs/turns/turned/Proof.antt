@@ -2,7 +2,7 @@
 use mathlib.Core.Path.{sym, _∙_}
 use borrow.Author.Tests.{lt-ltb, le-ltb, not-true, not-false}
 use Rattle.reader.specs.Bounds.{LINE}
-use Rattle.reader.specs.Form.{formOf, initOf}
+use Rattle.reader.specs.LineForms.{formOf, initOf}
 use Rattle.reader.specs.Answer.{turned}
 use Rattle.reader.proofs.Bounded.{form-checked, form-nothing}
 use borrow.Author.Needs.{needs}

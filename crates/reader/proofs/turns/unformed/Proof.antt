@@ -1,6 +1,6 @@
 -- `reader::turns::unformed`: an init line, or a line of no form.
 use mathlib.Core.Path.{sym, _∙_}
-use Rattle.reader.specs.Form.{initOf}
+use Rattle.reader.specs.LineForms.{initOf}
 use Rattle.reader.proofs.Bounded.{init-late, init-nothing}
 use borrow.Author.Needs.{needs}
 use Rattle.reader.proofs.turns.unformed.Statement.{statement}

@@ -4,7 +4,7 @@ use mathlib.Core.Bool.{true, false, _||_}
 use borrow.Author.Tests.{not-true, not-false}
 use Rattle.trace.specs.Meaning.{frameOf}
 use Rattle.rows.specs.Rows.{bit}
-use Rattle.reasons.specs.Writing.{readFrom}
+use Rattle.reasons.specs.inner.Writing.{readFrom}
 use Rattle.reasons.proofs.Places.{open-off₁, open-off₂, open-on}
 use borrow.Author.Needs.{needs}
 use Rattle.reasons.proofs.choice.open.Statement.{statement}

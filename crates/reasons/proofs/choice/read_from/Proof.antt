@@ -8,8 +8,8 @@ use Rattle.laws.specs.Tests.{any}
 use Rattle.laws.proofs.Loops.{any-more, any-stops, any-fewer}
 use Rattle.trace.specs.Bounds.{RECORDS}
 use Rattle.trace.specs.Meaning.{frameOf}
-use Rattle.rules.specs.SourceOf.{sourceOf}
-use Rattle.reasons.specs.Writing.{readFrom}
+use Rattle.pairs.specs.SourceOf.{sourceOf}
+use Rattle.reasons.specs.inner.Writing.{readFrom}
 use borrow.Author.Needs.{needs}
 use Rattle.reasons.proofs.choice.read_from.Statement.{statement}
 use Rattle.reasons.proofs.choice.read_from.Tie as tie

@@ -1,6 +1,6 @@
 -- `choice::rivals`: the test of the definition.
 use Rattle.trace.specs.Meaning.{frameOf}
-use Rattle.rules.specs.Tests.{writer?}
+use Rattle.rules.specs.RuleTests.{writer?}
 use borrow.Author.Needs.{needs}
 use Rattle.reasons.proofs.choice.rivals.Statement.{statement}
 use Rattle.reasons.proofs.choice.rivals.Tie as tie

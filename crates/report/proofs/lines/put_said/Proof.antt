@@ -33,8 +33,11 @@ by-outcome v o e = ap (λ (o : Outcome). sayingAs o (take (v .len) (v .operation
 enum-known-outcome : tie.Need-enum-known-outcome
 enum-known-outcome c = search needs
 
-put-source-requires : tie.Need-put-source-requires
-put-source-requires c κs = search needs
+slice-aggregate-put-after : tie.Need-slice-aggregate-put-after
+slice-aggregate-put-after c = search needs
+
+put-after-requires : tie.Need-put-after-requires
+put-after-requires c κs = search needs
 
 enum-told : tie.Need-enum-told
 enum-told c = search needs
@@ -78,14 +81,20 @@ put-word-requires c κs = search needs
 enum-told-4 : tie.Need-enum-told-4
 enum-told-4 c = search needs
 
-put-refused-requires : tie.Need-put-refused-requires
-put-refused-requires c κs = search needs
+slice-aggregate-put-after-2 : tie.Need-slice-aggregate-put-after-2
+slice-aggregate-put-after-2 c = search needs
+
+put-after-requires-2 : tie.Need-put-after-requires-2
+put-after-requires-2 c κs = search needs
 
 enum-told-5 : tie.Need-enum-told-5
 enum-told-5 c = search needs
 
-put-refused-requires-2 : tie.Need-put-refused-requires-2
-put-refused-requires-2 c κs = search needs
+slice-aggregate-put-after-3 : tie.Need-slice-aggregate-put-after-3
+slice-aggregate-put-after-3 c = search needs
+
+put-after-requires-3 : tie.Need-put-after-requires-3
+put-after-requires-3 c κs = search needs
 
 same-length : tie.Need-same-length
 same-length c = search needs
@@ -93,8 +102,8 @@ same-length c = search needs
 returns : tie.Need-returns
 unfolding sayingAs
 returns c = let p = c .before .before in
-    let s = p .before .before .before .before .before .before .before .before in
-    (wrote-as (by-outcome (s .args .v) _ (p .before .before .before .outcome .given .1)) (p .put-source .ensures .0), p .put-source .ensures .1)
+    let s = p .before .before .before .before .before .before .before .before .before in
+    (wrote-as (by-outcome (s .args .v) _ (p .before .before .before .before .outcome .given .1)) (p .put-after .ensures .0), omega (arith, p .put-after .ensures .1))
 
 same-length-2 : tie.Need-same-length-2
 same-length-2 c = search needs
@@ -129,8 +138,8 @@ same-length-5 c = search needs
 returns-5 : tie.Need-returns-5
 unfolding sayingAs
 returns-5 c = let p = c .before .before in
-    let s = p .before .before .before .before .before .before .before in
-    (wrote-as (by-outcome (s .args .v) _ (p .before .before .enum-told4 .given .1)) (p .put-refused .ensures .0), omega (arith, p .put-refused .ensures .1))
+    let s = p .before .before .before .before .before .before .before .before in
+    (wrote-as (by-outcome (s .args .v) _ (p .before .before .before .enum-told4 .given .1)) (p .put-after2 .ensures .0), omega (arith, p .put-after2 .ensures .1))
 
 same-length-6 : tie.Need-same-length-6
 same-length-6 c = search needs
@@ -138,15 +147,16 @@ same-length-6 c = search needs
 returns-6 : tie.Need-returns-6
 unfolding sayingAs
 returns-6 c = let p = c .before .before in
-    let s = p .before .before .before .before .before .before .before in
-    (wrote-as (by-outcome (s .args .v) _ (p .before .before .enum-told5 .given .1)) (p .put-refused2 .ensures .0), omega (arith, p .put-refused2 .ensures .1))
+    let s = p .before .before .before .before .before .before .before .before in
+    (wrote-as (by-outcome (s .args .v) _ (p .before .before .before .enum-told5 .given .1)) (p .put-after3 .ensures .0), omega (arith, p .put-after3 .ensures .1))
 
 pub put-said-spec : {M : Type 1} → statement M
 put-said-spec =
     tie.close
     (tie.spec
     enum-known-outcome
-    put-source-requires
+    slice-aggregate-put-after
+    put-after-requires
     enum-told
     array-share-prefix-operations
     slice-aggregate-put-circle
@@ -161,9 +171,11 @@ put-said-spec =
     slice-aggregate-put-word
     put-word-requires
     enum-told-4
-    put-refused-requires
+    slice-aggregate-put-after-2
+    put-after-requires-2
     enum-told-5
-    put-refused-requires-2
+    slice-aggregate-put-after-3
+    put-after-requires-3
     same-length
     returns
     same-length-2

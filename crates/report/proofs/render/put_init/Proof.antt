@@ -2,7 +2,7 @@
 use native.Mathlib.Omega.{arith}
 use borrow.Author.Tests.{eq-eqb, ne-eqb}
 use borrow.Author.Needs.{needs}
-use Rattle.reader.specs.Form.{renderInit}
+use Rattle.reader.specs.LineForms.{renderInit}
 use Rattle.report.proofs.Wrote.{wrote-then, wrote-none, wrote-as}
 use Rattle.report.proofs.render.put_init.Statement.{statement}
 use Rattle.report.proofs.render.put_init.Tie as tie

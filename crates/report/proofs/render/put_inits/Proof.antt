@@ -6,7 +6,7 @@ use native.Mathlib.Omega.{arith}
 use borrow.Author.Needs.{needs}
 use Rattle.trace.specs.Bounds.{ADDRESSES}
 use Rattle.reader.specs.TextOf.{renderInits, initsFrom, initsOf}
-use Rattle.report.specs.Bounds.{RECORD}
+use Rattle.report.specs.Bounds.{RECORD-LINE}
 use Rattle.report.specs.Wrote.{Wrote}
 use Rattle.report.proofs.Wrote.{wrote-then, wrote-none, wrote-as}
 use Rattle.report.proofs.Rendering.{inits-none, inits-more}
@@ -15,7 +15,7 @@ use Rattle.report.proofs.render.put_inits.Tie as tie
 
 abbrev Inv-loop : tie.InvT-loop
 Inv-loop t out₀ end₀ addr₀ out end addr =
-    (addr ≤ ADDRESSES) × (end ≤ RECORD * addr) × ((done : List ℕ) × (done ++ renderInits (initsFrom t addr (ADDRESSES - addr)) ≡ renderInits (initsOf t)) × Wrote out₀ 0 done out end)
+    (addr ≤ ADDRESSES) × (end ≤ RECORD-LINE * addr) × ((done : List ℕ) × (done ++ renderInits (initsFrom t addr (ADDRESSES - addr)) ≡ renderInits (initsOf t)) × Wrote out₀ 0 done out end)
 
 abbrev μ-loop : tie.MeasureT-loop
 μ-loop t out₀ end₀ addr₀ out end addr = ADDRESSES - addr

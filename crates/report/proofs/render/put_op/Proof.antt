@@ -2,7 +2,7 @@
 use mathlib.Core.Path.{sym, ap}
 use native.Mathlib.Omega.{arith}
 use borrow.Author.Needs.{needs}
-use Rattle.reader.specs.Form.{render, renderOp}
+use Rattle.reader.specs.LineForms.{render, renderOp}
 use Rattle.report.proofs.Wrote.{wrote-as}
 use Rattle.report.proofs.render.put_op.Statement.{statement}
 use Rattle.report.proofs.render.put_op.Tie as tie

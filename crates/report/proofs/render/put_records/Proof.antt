@@ -6,7 +6,7 @@ use lib.ListN.{length, take, length-map}
 use borrow.Author.Needs.{needs}
 use Rattle.trace.specs.Bounds.{RECORDS}
 use Rattle.reader.specs.TextOf.{renderRecords}
-use Rattle.report.specs.Bounds.{RECORD}
+use Rattle.report.specs.Bounds.{RECORD-LINE}
 use Rattle.report.specs.Wrote.{Wrote}
 use Rattle.report.proofs.Wrote.{wrote-then, wrote-none, wrote-as}
 use Rattle.report.proofs.Rendering.{records-more}
@@ -14,7 +14,7 @@ use Rattle.report.proofs.render.put_records.Statement.{statement}
 use Rattle.report.proofs.render.put_records.Tie as tie
 
 abbrev Inv-loop : tie.InvT-loop
-Inv-loop out₀ at t n end₀ i₀ out end i = (i ≤ n) × (end ≤ at + RECORD * i) × Wrote out₀ at (renderRecords (take i (t .records))) out end
+Inv-loop out₀ at t n end₀ i₀ out end i = (i ≤ n) × (end ≤ at + RECORD-LINE * i) × Wrote out₀ at (renderRecords (take i (t .records))) out end
 
 abbrev μ-loop : tie.MeasureT-loop
 μ-loop out₀ at t n end₀ i₀ out end i = n - i

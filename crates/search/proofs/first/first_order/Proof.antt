@@ -6,13 +6,13 @@ use borrow.Author.Tests.{not-true, not-false}
 use Rattle.laws.specs.Dict.{Least}
 use Rattle.laws.proofs.Tests.{and-iff, same-iff}
 use Rattle.trace.specs.Meaning.{frameOf}
-use Rattle.trace.specs.Order.{Valid}
+use Rattle.rules.specs.Order.{Valid}
 use Rattle.trace.specs.WellFormed.{wellFormed}
 use Rattle.pairs.specs.Kept.{modelled, keptOf}
-use Rattle.edges.specs.Answers.{answered}
-use Rattle.orders.proofs.Accepted.{well-fits}
-use Rattle.orders.proofs.Says.{missing-none}
-use Rattle.search.specs.Seeking.{follows}
+use Rattle.edges.specs.ForcedPairs.{answered}
+use Rattle.pairs.proofs.ValidOrders.{well-fits}
+use Rattle.rules.proofs.Says.{missing-none}
+use Rattle.search.specs.inner.SearchBelow.{followsAs}
 use Rattle.search.proofs.Guiding.{held-guided, refuted-none}
 use Rattle.search.proofs.FirstOrder.{empty-rest, first-none, first-some, counted-fits}
 use Rattle.search.proofs.first.first_order.Statement.{statement}
@@ -106,7 +106,7 @@ returns-4 c = let s = c .before .before .before .before .before .before .before 
     let w = and-iff (same-iff {a = wellFormed t}) (same-iff {a = modelled m}) .0 a .0 in
     let g = held-guided t m a (c .before .before .before .before .before .before .before .before .before .before .before .before .before .before .before .before .before .before .forced .result) (c .before .before .before .before .before .before .before .before .before .before .before .before .before .before .before .before .before .before .forced .ensures) (c .before .before .before .before .before .before .before .before .before .before .before .before .before .before .before .before .before .if2 .left) in
     let r = c .before .before .look .ensures in
-    let best = subst (λ (b : Bool). Least (Valid (frameOf t) (keptOf m t)) (follows b 0 (c .before .before .before .before .before .before .before .before .lay-operations .result) (c .before .before .look .last .1 .1 .1 .1 .1 .0))) (c .if4 .taken)
+    let best = subst (λ (b : Bool). Least (Valid (frameOf t) (keptOf m t)) (followsAs b 0 (c .before .before .before .before .before .before .before .before .lay-operations .result) (c .before .before .look .last .1 .1 .1 .1 .1 .0))) (c .if4 .taken)
     (r .right (keptOf m t) g (c .before .before .before .before .before .before .before .before .before .before .before .before .sourced .ensures .0 (not-false _ (c .before .before .before .before .before .before .before .before .before .before .before .if3 .left)))) in
     first-some t m _ a refl (counted-fits t w _ _ (c .before .before .before .before .before .before .before .before .lay-operations .ensures)) (c .before .before .look .kept .1 .1 .1 .1 .1 .0) (λ i h. r .rest i h ∙ empty-rest i) best
 
@@ -120,7 +120,7 @@ returns-5 c = let s = c .before .before .before .before .before .before .before 
     first-none t m (c .nothing4 .result) (c .nothing4 .ensures)
     (λ a.
     let g = held-guided t m a (c .before .before .before .before .before .before .before .before .before .before .before .before .before .before .before .before .before .before .before .forced .result) (c .before .before .before .before .before .before .before .before .before .before .before .before .before .before .before .before .before .before .before .forced .ensures) (c .before .before .before .before .before .before .before .before .before .before .before .before .before .before .before .before .before .before .if2 .left) in
-    subst (λ (b : Bool). Least (Valid (frameOf t) (keptOf m t)) (follows b 0 (c .before .before .before .before .before .before .before .before .before .lay-operations .result) (c .before .before .before .look .last .1 .1 .1 .1 .1 .0))) (c .before .if4 .left)
+    subst (λ (b : Bool). Least (Valid (frameOf t) (keptOf m t)) (followsAs b 0 (c .before .before .before .before .before .before .before .before .before .lay-operations .result) (c .before .before .before .look .last .1 .1 .1 .1 .1 .0))) (c .before .if4 .left)
     (c .before .before .before .look .ensures .right (keptOf m t) g (c .before .before .before .before .before .before .before .before .before .before .before .before .before .sourced .ensures .0 (not-false _ (c .before .before .before .before .before .before .before .before .before .before .before .before .if3 .left)))))
 
 pub first-order-spec : {M : Type 1} → statement M

@@ -6,8 +6,8 @@ use borrow.Author.Needs.{needs}
 use lib.ListN.{length-replicate}
 use lib.Seq.{length-take-le}
 use Rattle.rows.specs.Bounds.{WORDS}
-use Rattle.orders.proofs.Accepted.{well-fits}
-use Rattle.search.specs.Bounds.{SLOTS}
+use Rattle.pairs.proofs.ValidOrders.{well-fits}
+use Rattle.search.specs.inner.Bounds.{SLOTS}
 use Rattle.search.proofs.FirstOrder.{looked}
 use Rattle.search.proofs.first.look.Statement.{statement}
 use Rattle.search.proofs.first.look.Tie as tie

@@ -11,11 +11,11 @@ use Rattle.trace.specs.Meaning.{frameOf}
 use Rattle.trace.proofs.Good.{good}
 use Rattle.rules.specs.Missing.{Missing, missing?}
 use Rattle.rules.proofs.Missing.{missing-iff}
-use Rattle.orders.specs.MissingOf.{record?}
-use Rattle.orders.specs.declared.sources.Found.{Found}
-use Rattle.orders.proofs.Accepted.{well-fits}
-use Rattle.orders.proofs.MissingOf.{found-none, missing-lowest}
-use Rattle.search.proofs.Laying.{lacks-read}
+use Rattle.pairs.specs.MissingOf.{record?}
+use Rattle.pairs.specs.declared.sources.Found.{Found}
+use Rattle.pairs.proofs.ValidOrders.{well-fits}
+use Rattle.pairs.proofs.MissingOf.{found-none, missing-lowest}
+use Rattle.search.proofs.TablesLaid.{lacks-read}
 use Rattle.search.proofs.first.sourced.Statement.{statement}
 use Rattle.search.proofs.first.sourced.Tie as tie
 

@@ -7,8 +7,8 @@ use native.Mathlib.Omega.{arith}
 use borrow.Author.Needs.{needs}
 use Rattle.laws.proofs.Tests.{or-iff, same-iff, so-eq}
 use Rattle.rows.specs.Rows.{bit}
-use Rattle.search.specs.Refuting.{Leads, Grown}
-use Rattle.search.proofs.Refuting.{grown-none, behind-of, passes, lead-row}
+use Rattle.search.specs.inner.Refutation.{Leads, Grown}
+use Rattle.search.proofs.Refutation.{grown-none, behind-of, passes, lead-row}
 use Rattle.search.proofs.refute.lead_if.Statement.{statement}
 use Rattle.search.proofs.refute.lead_if.Tie as tie
 

@@ -4,8 +4,8 @@ use mathlib.Core.Logic.{⊎-elim}
 use Prim.Native.Nat.{_≤_, _-_}
 use native.Mathlib.Omega.{arith}
 use Rattle.trace.specs.Bounds.{RECORDS}
-use Rattle.search.specs.Refuting.{Partly}
-use Rattle.search.proofs.Refuting.{partly-none, partly-then}
+use Rattle.search.specs.inner.Refutation.{Partly}
+use Rattle.search.proofs.Refutation.{partly-none, partly-then}
 use borrow.Author.Needs.{needs}
 use Rattle.search.proofs.refute.leave.Statement.{statement}
 use Rattle.search.proofs.refute.leave.Tie as tie

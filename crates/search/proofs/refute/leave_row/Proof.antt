@@ -1,5 +1,5 @@
 -- `search::refute::leave_row`: a row is added and then freed from what is placed.
-use Rattle.search.proofs.Refuting.{partly-row}
+use Rattle.search.proofs.Refutation.{partly-row}
 use borrow.Author.Needs.{needs}
 use Rattle.search.proofs.refute.leave_row.Statement.{statement}
 use Rattle.search.proofs.refute.leave_row.Tie as tie

@@ -8,8 +8,8 @@ use lib.ListN.{getD}
 use Rattle.laws.proofs.Tests.{and-iff, same-iff, so-not}
 use Rattle.trace.specs.Bounds.{RECORDS}
 use Rattle.rows.proofs.Rows.{bit-bounds}
-use Rattle.search.specs.Refuting.{Grown, Settling, Ranking}
-use Rattle.search.proofs.Refuting.{grown-none, grown-then, grown-weaker}
+use Rattle.search.specs.inner.Refutation.{Grown, Settling, Ranking}
+use Rattle.search.proofs.Refutation.{grown-none, grown-then, grown-weaker}
 use Rattle.search.proofs.refute.part.Statement.{statement}
 use Rattle.search.proofs.refute.part.Tie as tie
 

@@ -7,8 +7,8 @@ use borrow.Author.Needs.{needs}
 use lib.ListN.{length}
 use Rattle.rows.specs.Bounds.{CELLS}
 use Rattle.rows.proofs.Whole.{empty-long}
-use Rattle.search.specs.Refuting.{Ranking}
-use Rattle.search.proofs.Refuting.{Follows, follows-part, follows-more, follows-none}
+use Rattle.search.specs.inner.Refutation.{Ranking}
+use Rattle.search.proofs.Refutation.{Follows, follows-part, follows-more, follows-none}
 use Rattle.search.proofs.refute.refuted.Statement.{statement}
 use Rattle.search.proofs.refute.refuted.Tie as tie
 

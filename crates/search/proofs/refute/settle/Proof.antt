@@ -7,8 +7,8 @@ use borrow.Author.Needs.{needs}
 use lib.ListN.{getD}
 use Rattle.laws.proofs.Tests.{and-iff, so-lt, so-not}
 use Rattle.trace.specs.Bounds.{RECORDS}
-use Rattle.search.specs.Refuting.{Grown, Settling, Ranking}
-use Rattle.search.proofs.Refuting.{grown-none, grown-then, grown-weaker}
+use Rattle.search.specs.inner.Refutation.{Grown, Settling, Ranking}
+use Rattle.search.proofs.Refutation.{grown-none, grown-then, grown-weaker}
 use Rattle.search.proofs.refute.settle.Statement.{statement}
 use Rattle.search.proofs.refute.settle.Tie as tie
 

@@ -1,7 +1,7 @@
 -- `search::refute::settle_by`: the two rules, one after the other.
 use mathlib.Core.Path.{_∙_}
 use borrow.Author.Needs.{needs}
-use Rattle.search.proofs.Refuting.{settled}
+use Rattle.search.proofs.Refutation.{settled}
 use Rattle.search.proofs.refute.settle_by.Statement.{statement}
 use Rattle.search.proofs.refute.settle_by.Tie as tie
 

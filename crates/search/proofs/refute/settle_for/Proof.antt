@@ -7,8 +7,8 @@ use native.Mathlib.Omega.{arith}
 use borrow.Author.Needs.{needs}
 use lib.Dec.{eqb}
 use Rattle.laws.proofs.Tests.{and-iff, same-iff, so-not, so-eq}
-use Rattle.search.specs.Refuting.{Grown, Obeys, Settling}
-use Rattle.search.proofs.Refuting.{grown-none, grown-then, grown-weaker}
+use Rattle.search.specs.inner.Refutation.{Grown, Obeys, Settling}
+use Rattle.search.proofs.Refutation.{grown-none, grown-then, grown-weaker}
 use Rattle.search.proofs.refute.settle_for.Statement.{statement}
 use Rattle.search.proofs.refute.settle_for.Tie as tie
 

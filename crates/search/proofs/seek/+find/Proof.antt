@@ -11,11 +11,11 @@ use lib.Dec.{eqb}
 use lib.ListN.{set, length-set}
 use Rattle.laws.proofs.Tests.{off, and-iff, same-iff, so-lt, so-eq}
 use Rattle.rows.proofs.put.Reads as put-reads
-use Rattle.search.specs.Laid.{tables}
-use Rattle.rows.specs.Sets.{More}
-use Rattle.search.specs.Seeking.{Trying}
+use Rattle.search.specs.inner.SearchTables.{tables}
+use Rattle.rows.specs.inner.Sets.{More}
+use Rattle.search.specs.inner.SearchBelow.{Trying}
 use Rattle.rows.proofs.Sets.{put-more}
-use Rattle.search.proofs.Seeking.{unfound, sought-full, sought-dead, trying-none, trying-skip, trying-next, found-below, stopped, all-tried}
+use Rattle.search.proofs.SearchBelow.{unfound, sought-full, sought-dead, trying-none, trying-skip, trying-next, found-below, stopped, all-tried}
 use Rattle.search.proofs.seek.find.Reads as find
 use Rattle.search.proofs.seek.find.Kinds as find-kinds
 use Rattle.search.proofs.seek.+find.Lts-find as find-lts

@@ -7,8 +7,8 @@ use native.Mathlib.Omega.{arith}
 use borrow.Author.Count.{below-more}
 use borrow.Author.Needs.{needs}
 use Rattle.rows.specs.Within.{Within}
-use Rattle.search.specs.Chances.{still}
-use Rattle.search.proofs.Chances.{still-is}
+use Rattle.search.specs.inner.Candidates.{still}
+use Rattle.search.proofs.Candidates.{still-is}
 use Rattle.search.proofs.seek.covered.Statement.{statement}
 use Rattle.search.proofs.seek.covered.Tie as tie
 

@@ -3,7 +3,7 @@ use Prim.Native.Nat.{_+_, _-_, _*_}
 use native.Mathlib.Omega.{arith}
 use borrow.Author.Needs.{needs}
 use Rattle.rows.specs.Bounds.{WORDS}
-use Rattle.search.proofs.Memory.{has-part}
+use Rattle.search.proofs.DeadSets.{has-part}
 use Rattle.search.proofs.seek.known.Statement.{statement}
 use Rattle.search.proofs.seek.known.Tie as tie
 

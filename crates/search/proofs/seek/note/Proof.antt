@@ -6,7 +6,7 @@ use borrow.Author.Needs.{needs}
 use lib.ListN.{length}
 use Rattle.rows.specs.Bounds.{WORDS}
 use Rattle.rows.proofs.Whole.{copy-same}
-use Rattle.search.proofs.Memory.{noted-in, part-long}
+use Rattle.search.proofs.DeadSets.{noted-in, part-long}
 use Rattle.search.proofs.seek.note.Statement.{statement}
 use Rattle.search.proofs.seek.note.Tie as tie
 

@@ -8,13 +8,13 @@ use borrow.Author.Needs.{needs}
 use Rattle.laws.specs.Tests.{any}
 use Rattle.laws.proofs.Tests.{yes-iff, no-iff}
 use Rattle.laws.proofs.Loops.{any-more, any-stops}
-use Rattle.search.specs.Chances.{waits}
-use Rattle.search.proofs.Chances.{waits-apart, waits-is}
+use Rattle.search.specs.inner.Candidates.{waitsFor}
+use Rattle.search.proofs.Candidates.{waits-apart, waits-is}
 use Rattle.search.proofs.seek.quiet.Statement.{statement}
 use Rattle.search.proofs.seek.quiet.Tie as tie
 
 abbrev Inv-loop : tie.InvT-loop
-Inv-loop n writers sources placed c load₀ load = (load ≤ n) × (any load (waits writers sources placed c) ≡ false)
+Inv-loop n writers sources placed c load₀ load = (load ≤ n) × (any load (waitsFor writers sources placed c) ≡ false)
 
 abbrev μ-loop : tie.MeasureT-loop
 μ-loop n writers sources placed c load₀ load = n - load
@@ -41,7 +41,7 @@ test-requires-3 c κs = search needs
 returns : tie.Need-returns Inv-loop μ-loop
 returns c = let l = c .before .before .before .before .before .before .before in
     let a = l .before .before .before .before .args in
-    let p = waits (a .writers .now) (a .sources .now) (a .placed .now) (a .c) in
+    let p = waitsFor (a .writers .now) (a .sources .now) (a .placed .now) (a .c) in
     let e = waits-is (a .writers .now) (a .sources .now) (a .placed .now) (a .c) (l .loop .load) (sym (c .before .before .before .before .before .test .ensures) ∙ c .before .before .before .before .if1 .taken) in
     let w = e ∙ sym (ap₂ (λ x y. x && not y) (c .before .before .test2 .ensures) (c .before .test3 .ensures)) ∙ c .if2 .taken in
     no-iff (λ q. false≢true (sym q ∙ any-stops p (a .n) (l .loop .load) (search needs) w))
@@ -59,7 +59,7 @@ loop-again c = let l = c .before .before .before in
     let apart = waits-apart (a .writers .now) (a .sources .now) (a .placed .now) (a .c) i in
     let is = waits-is (a .writers .now) (a .sources .now) (a .placed .now) (a .c) i in (
       omega arith,
-      any-more (waits (a .writers .now) (a .sources .now) (a .placed .now) (a .c)) i (l .loop .inv .1)
+      any-more (waitsFor (a .writers .now) (a .sources .now) (a .placed .now) (a .c)) i (l .loop .inv .1)
           (⊎-elim
           (λ w. is (sym (c .before .test .ensures) ∙ w .0 .taken) ∙ sym (ap₂ (λ x y. x && not y) (w .2 .ensures) (w .3 .ensures)) ∙ w .4 .left)
           (λ w. apart (sym (c .before .test .ensures) ∙ w .left))
@@ -70,7 +70,7 @@ returns-2 : tie.Need-returns-2 Inv-loop μ-loop
 returns-2 c = let l = c .before in
     let a = l .before .before .before .before .args in
     let e : l .loop .load ≡ a .n = omega arith in
-    yes-iff (subst (λ (m : ℕ). any m (waits (a .writers .now) (a .sources .now) (a .placed .now) (a .c)) ≡ false) e (l .loop .inv .1))
+    yes-iff (subst (λ (m : ℕ). any m (waitsFor (a .writers .now) (a .sources .now) (a .placed .now) (a .c)) ≡ false) e (l .loop .inv .1))
 
 pub quiet-spec : {M : Type 1} → statement M
 quiet-spec =

@@ -4,8 +4,8 @@ use Prim.Native.Nat.{_≤_, _-_}
 use native.Mathlib.Omega.{arith}
 use borrow.Author.Needs.{needs}
 use Rattle.rows.specs.Empty.{emptyOf}
-use Rattle.edges.proofs.Adds.{adds-if}
-use Rattle.search.specs.Laying.{Addressed}
+use Rattle.edges.proofs.PairSets.{adds-if}
+use Rattle.search.specs.inner.TablesLaid.{Addressed}
 use Rattle.search.proofs.Rowing.{addressed-none, addressed-more}
 use Rattle.search.proofs.tables.lay_addresses.Statement.{statement}
 use Rattle.search.proofs.tables.lay_addresses.Tie as tie

@@ -8,8 +8,8 @@ use borrow.Author.Needs.{needs}
 use Rattle.trace.specs.Meaning.{frameOf}
 use Rattle.rows.specs.Empty.{emptyOf}
 use Rattle.rows.specs.Put.{putOf}
-use Rattle.orders.proofs.Records.{operation-at}
-use Rattle.search.proofs.Laying.{Counting, counting-none, counting-more, counting-skip, counted}
+use Rattle.trace.proofs.Records.{operation-at}
+use Rattle.search.proofs.TablesLaid.{Counting, counting-none, counting-more, counting-skip, counted}
 use Rattle.search.proofs.tables.lay_operations.Statement.{statement}
 use Rattle.search.proofs.tables.lay_operations.Tie as tie
 

@@ -6,8 +6,8 @@ use borrow.Author.Needs.{needs}
 use lib.ListN.{length, getD, length-set}
 use Rattle.trace.specs.Bounds.{RECORDS}
 use Rattle.trace.specs.Meaning.{frameOf}
-use Rattle.rules.specs.SourceOf.{sourceOf}
-use Rattle.search.proofs.Laying.{sources-more}
+use Rattle.pairs.specs.SourceOf.{sourceOf}
+use Rattle.search.proofs.TablesLaid.{sources-more}
 use Rattle.search.proofs.tables.lay_sources.Statement.{statement}
 use Rattle.search.proofs.tables.lay_sources.Tie as tie
 

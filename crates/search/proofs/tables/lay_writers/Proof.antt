@@ -5,8 +5,8 @@ use native.Mathlib.Omega.{arith}
 use borrow.Author.Needs.{needs}
 use Rattle.trace.specs.Meaning.{frameOf}
 use Rattle.rows.specs.Empty.{emptyOf}
-use Rattle.rules.specs.Tests.{writer?}
-use Rattle.search.specs.Laying.{Filling}
+use Rattle.rules.specs.RuleTests.{writer?}
+use Rattle.search.specs.inner.TablesLaid.{Filling}
 use Rattle.search.proofs.Rowing.{filling-none, filling-row, filling-all, writers-row}
 use Rattle.search.proofs.tables.lay_writers.Statement.{statement}
 use Rattle.search.proofs.tables.lay_writers.Tie as tie

@@ -6,7 +6,7 @@ use native.Mathlib.Omega.{arith}
 use borrow.Author.Needs.{needs}
 use Rattle.rows.specs.Rows.{bit}
 use Rattle.rows.specs.Empty.{emptyOf}
-use Rattle.search.specs.Laying.{Filling}
+use Rattle.search.specs.inner.TablesLaid.{Filling}
 use Rattle.search.proofs.Rowing.{filling-none, filling-row, filling-all, both-row}
 use Rattle.search.proofs.tables.lead.Statement.{statement}
 use Rattle.search.proofs.tables.lead.Tie as tie

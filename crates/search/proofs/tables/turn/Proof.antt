@@ -7,14 +7,15 @@ use Rattle.rows.specs.Bounds.{CELLS}
 use Rattle.rows.specs.Rows.{bit}
 use Rattle.rows.specs.Empty.{emptyOf}
 use Rattle.rows.proofs.Whole.{empty-long}
-use Rattle.edges.specs.Adds.{Adds, Only, Union}
-use Rattle.edges.proofs.Adds.{union-none, union-more}
-use Rattle.search.proofs.Laying.{filled}
+use Rattle.edges.specs.inner.PairSets.{Only, Union}
+use Rattle.rows.specs.inner.AddedPairs.{Added}
+use Rattle.edges.proofs.PairSets.{union-none, union-more}
+use Rattle.search.proofs.TablesLaid.{filled}
 use Rattle.search.proofs.tables.turn.Statement.{statement}
 use Rattle.search.proofs.tables.turn.Tie as tie
 
 abbrev Inv-loop : tie.InvT-loop
-Inv-loop n held before₀ y₀ before y = (y ≤ n) × Adds (emptyOf CELLS) (Union y (λ z. Union n (λ x. Only (bit held x z) z x))) before
+Inv-loop n held before₀ y₀ before y = (y ≤ n) × Added (emptyOf CELLS) (Union y (λ z. Union n (λ x. Only (bit held x z) z x))) before
 
 abbrev μ-loop : tie.MeasureT-loop
 μ-loop n held before₀ y₀ before y = n - y

@@ -5,13 +5,14 @@ use native.Mathlib.Omega.{arith}
 use borrow.Author.Needs.{needs}
 use Rattle.trace.specs.Bounds.{RECORDS}
 use Rattle.rows.specs.Rows.{bit}
-use Rattle.edges.specs.Adds.{Adds, Only, Union}
-use Rattle.edges.proofs.Adds.{adds-if, adds-only, union-none, union-more}
+use Rattle.edges.specs.inner.PairSets.{Only, Union}
+use Rattle.rows.specs.inner.AddedPairs.{Added}
+use Rattle.edges.proofs.PairSets.{adds-if, adds-only, union-none, union-more}
 use Rattle.search.proofs.tables.turn_row.Statement.{statement}
 use Rattle.search.proofs.tables.turn_row.Tie as tie
 
 abbrev Inv-loop : tie.InvT-loop
-Inv-loop n held y before₀ x₀ before x = (x ≤ n) × Adds before₀ (Union x (λ z. Only (bit held z y) y z)) before
+Inv-loop n held y before₀ x₀ before x = (x ≤ n) × Added before₀ (Union x (λ z. Only (bit held z y) y z)) before
 
 abbrev μ-loop : tie.MeasureT-loop
 μ-loop n held y before₀ x₀ before x = n - x

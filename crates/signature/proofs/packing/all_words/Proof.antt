@@ -4,7 +4,7 @@ use mathlib.Core.Bool.{Bool, true, false, So, not, _&&_}
 use Prim.Native.Nat.{ℕ, suc, _+_, _-_, _*_, _<_, _≤_}
 use native.Mathlib.Omega.{arith}
 use Rattle.trace.specs.Bounds.{RECORDS, THREADS}
-use Rattle.signature.specs.Laying.{choice, after, closedOf, joinedOf, steppedOf, ranFrom, threadOf, allFrom, begun, laid}
+use Rattle.signature.specs.inner.WordsLaid.{choice, stepOn, closedOf, joinedOf, steppedOf, ranFrom, threadOf, allFrom, noneLaid, laidWords}
 use Rattle.signature.specs.declared.Open.{Open}
 use Rattle.signature.proofs.Laid.{all-on, all-over}
 use borrow.Author.Needs.{needs}
@@ -12,7 +12,7 @@ use Rattle.signature.proofs.packing.all_words.Statement.{statement}
 use Rattle.signature.proofs.packing.all_words.Tie as tie
 
 abbrev Inv-loop : tie.InvT-loop
-Inv-loop t last built₀ core₀ built core = (core ≤ THREADS) × (built .word ≤ built .q) × (allFrom t last built core (THREADS - core) ≡ allFrom t last begun 0 THREADS)
+Inv-loop t last built₀ core₀ built core = (core ≤ THREADS) × (built .word ≤ built .q) × (allFrom t last built core (THREADS - core) ≡ allFrom t last noneLaid 0 THREADS)
 
 abbrev μ-loop : tie.MeasureT-loop
 μ-loop t last built₀ core₀ built core = THREADS - core

@@ -7,7 +7,7 @@ use native.Mathlib.Omega.{arith}
 use lib.ListN.{length, getD, set, take, length-map, length-set}
 use Rattle.trace.specs.Bounds.{RECORDS, THREADS}
 use lib.Seq.{set-out}
-use Rattle.signature.specs.Laying.{choice, after, closedOf, joinedOf, steppedOf, ranFrom, threadOf, allFrom, begun, laid}
+use Rattle.signature.specs.inner.WordsLaid.{choice, stepOn, closedOf, joinedOf, steppedOf, ranFrom, threadOf, allFrom, noneLaid, laidWords}
 use Rattle.signature.proofs.Laid.{closed-told}
 use borrow.Author.Needs.{needs}
 use Rattle.signature.proofs.packing.closed.Statement.{statement}

@@ -5,8 +5,8 @@ use Prim.Native.Nat.{ℕ, suc, _+_, _-_, _*_, _<_, _≤_}
 use native.Mathlib.Omega.{arith}
 use Rattle.signature.specs.Reads.{rangeOf, digitOf, reader, loads, unlisted}
 use Rattle.laws.proofs.LowestLoops.{NoneBelow, none-below, more-below, lowest-found, lowest-nothing}
-use Rattle.signature.specs.Answers.{readIn}
-use Rattle.signature.specs.Found.{foundOf}
+use Rattle.signature.specs.SignatureAnswers.{readIn}
+use Rattle.signature.specs.inner.LoadLists.{foundOf}
 use lib.Dec.{eqb}
 use Rattle.trace.specs.Op.{reads, read}
 use Rattle.trace.specs.Trace.{at}

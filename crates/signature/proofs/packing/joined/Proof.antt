@@ -5,7 +5,7 @@ use Prim.Native.Nat.{ℕ, suc, _+_, _-_, _*_, _<_, _≤_}
 use native.Mathlib.Omega.{arith}
 use borrow.Author.Tests.{leb-true}
 use lib.Dec.{leb}
-use Rattle.signature.specs.Words.{LIMIT}
+use Rattle.signature.specs.DigitWords.{LIMIT}
 use Rattle.signature.proofs.Laid.{joined-in, joined-out}
 use borrow.Author.Needs.{needs}
 use Rattle.signature.proofs.packing.joined.Statement.{statement}

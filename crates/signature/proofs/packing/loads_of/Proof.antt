@@ -4,7 +4,7 @@ use mathlib.Core.Bool.{Bool, true, false, So, not, _&&_}
 use borrow.Author.Tests.{not-true, not-false}
 use Rattle.trace.specs.WellFormed.{wellFormed}
 use Rattle.trace.proofs.WellFormed.{form-iff}
-use Rattle.signature.proofs.Answers.{loads-none, loads-some}
+use Rattle.signature.proofs.SignatureAnswers.{loads-none, loads-some}
 use borrow.Author.Needs.{needs}
 use Rattle.signature.proofs.packing.loads_of.Statement.{statement}
 use Rattle.signature.proofs.packing.loads_of.Tie as tie

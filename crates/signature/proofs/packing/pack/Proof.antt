@@ -9,12 +9,12 @@ use borrow.Author.Tests.{not-true, not-false}
 use Rattle.trace.specs.WellFormed.{wellFormed}
 use Rattle.trace.proofs.WellFormed.{form-iff}
 use Rattle.signature.specs.declared.Open.{Open}
-use Rattle.signature.specs.Laying.{choice, after, closedOf, joinedOf, steppedOf, ranFrom, threadOf, allFrom, begun, laid}
+use Rattle.signature.specs.inner.WordsLaid.{choice, stepOn, closedOf, joinedOf, steppedOf, ranFrom, threadOf, allFrom, noneLaid, laidWords}
 use Rattle.signature.proofs.Laid.{top-below, tops-count, signature-laid, signature-fit, signature-count}
 use Rattle.signature.specs.Reads.{Listed}
 use Rattle.signature.specs.Signature.{tops}
-use Rattle.signature.specs.Answers.{readIn}
-use Rattle.signature.proofs.Answers.{pack-ten, pack-length, pack-unlisted, pack-done, none-unlisted, signature-long, found-some, found-none, listed-below}
+use Rattle.signature.specs.SignatureAnswers.{readIn}
+use Rattle.signature.proofs.SignatureAnswers.{pack-ten, pack-length, pack-unlisted, pack-done, none-unlisted, signature-long, found-some, found-none, listed-below}
 use borrow.Author.Needs.{needs}
 use Rattle.signature.proofs.packing.pack.Statement.{statement}
 use Rattle.signature.proofs.packing.pack.Tie as tie
@@ -95,7 +95,7 @@ returns-4 c =
     let m = w .before in
     let u = m .before .before in
     let a = start u .args in
-    pack-done (a .t) (a .words .now) (sure u) (long u) (found-none _ (sym (u .first-unlisted .ensures) ∙ m .enum-told .given .1)) _ (p .put-words .ensures ∙ ap laid (w .all-words2 .ensures) ∙ signature-laid (a .t) (form-iff (a .t) .0 (sure u) .fits) (listed-below (a .t) (listed m)))
+    pack-done (a .t) (a .words .now) (sure u) (long u) (found-none _ (sym (u .first-unlisted .ensures) ∙ m .enum-told .given .1)) _ (p .put-words .ensures ∙ ap laidWords (w .all-words2 .ensures) ∙ signature-laid (a .t) (form-iff (a .t) .0 (sure u) .fits) (listed-below (a .t) (listed m)))
 
 pub pack-spec : {M : Type 1} → statement M
 pack-spec =

@@ -6,7 +6,7 @@ use Prim.Native.Nat.{ℕ, suc, _+_, _-_, _*_, _<_, _≤_}
 use native.Mathlib.Omega.{arith}
 use lib.ListN.{length, getD, set, take, length-map, length-set}
 use Rattle.trace.specs.Bounds.{RECORDS, THREADS}
-use Rattle.signature.specs.Laying.{choice, after, closedOf, joinedOf, steppedOf, ranFrom, threadOf, allFrom, begun, laid}
+use Rattle.signature.specs.inner.WordsLaid.{choice, stepOn, closedOf, joinedOf, steppedOf, ranFrom, threadOf, allFrom, noneLaid, laidWords}
 use native.Mathlib.Numerals.{add-one}
 use lib.Seq.{take-suc, take-suc-set, take-all, length-take-le}
 use Rattle.signature.proofs.Putting.{put-start, put-one, put-end}

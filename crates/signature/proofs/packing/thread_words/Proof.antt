@@ -4,7 +4,7 @@ use mathlib.Core.Bool.{Bool, true, false, So, not, _&&_}
 use Prim.Native.Nat.{ℕ, suc, _+_, _-_, _*_, _<_, _≤_}
 use native.Mathlib.Omega.{arith}
 use Rattle.trace.specs.Bounds.{RECORDS, THREADS}
-use Rattle.signature.specs.Laying.{choice, after, closedOf, joinedOf, steppedOf, ranFrom, threadOf, allFrom, begun, laid}
+use Rattle.signature.specs.inner.WordsLaid.{choice, stepOn, closedOf, joinedOf, steppedOf, ranFrom, threadOf, allFrom, noneLaid, laidWords}
 use Rattle.signature.specs.declared.Open.{Open}
 use borrow.Author.Tests.{not-true, not-false}
 use Rattle.signature.proofs.Laid.{ran-on, ran-over, thread-yes, thread-no}

@@ -8,7 +8,7 @@ use Rattle.trace.specs.declared.Trace.{Trace}
 use Rattle.trace.proofs.WellFormed.{form-iff}
 use Rattle.signature.specs.declared.Open.{Open}
 use Rattle.signature.proofs.Laid.{top-below}
-use Rattle.signature.proofs.Answers.{size-none, size-some}
+use Rattle.signature.proofs.SignatureAnswers.{size-none, size-some}
 use borrow.Author.Needs.{needs}
 use Rattle.signature.proofs.packing.words_in.Statement.{statement}
 use Rattle.signature.proofs.packing.words_in.Tie as tie

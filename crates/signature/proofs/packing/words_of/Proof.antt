@@ -7,7 +7,7 @@ use Rattle.trace.specs.declared.Trace.{Trace}
 use Rattle.trace.proofs.WellFormed.{form-iff}
 use Rattle.signature.specs.declared.Open.{Open}
 use Rattle.signature.proofs.Laid.{top-below}
-use Rattle.signature.proofs.Answers.{words-none, words-some}
+use Rattle.signature.proofs.SignatureAnswers.{words-none, words-some}
 use borrow.Author.Needs.{needs}
 use Rattle.signature.proofs.packing.words_of.Statement.{statement}
 use Rattle.signature.proofs.packing.words_of.Tie as tie

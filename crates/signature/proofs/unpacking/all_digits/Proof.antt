@@ -4,7 +4,7 @@ use mathlib.Core.Bool.{Bool, true, false, So, not, _&&_}
 use Prim.Native.Nat.{ℕ, suc, _+_, _-_, _*_, _<_, _≤_}
 use native.Mathlib.Omega.{arith}
 use Rattle.trace.specs.Bounds.{RECORDS, THREADS}
-use Rattle.signature.specs.Laying.{after, tookOf, lookedOf, tookFrom, openedOf, tookThread, tookAll, fresh}
+use Rattle.signature.specs.inner.WordsLaid.{stepOn, tookOf, lookedOf, tookFrom, openedOf, tookThread, tookAll, noneTaken}
 use Rattle.signature.specs.declared.Taking.{Taking}
 use Rattle.signature.proofs.Taken.{every-on, every-over}
 use borrow.Author.Needs.{needs}
@@ -12,7 +12,7 @@ use Rattle.signature.proofs.unpacking.all_digits.Statement.{statement}
 use Rattle.signature.proofs.unpacking.all_digits.Tie as tie
 
 abbrev Inv-loop : tie.InvT-loop
-Inv-loop t words built₀ core₀ built core = (core ≤ THREADS) × (tookAll t words built core (THREADS - core) ≡ tookAll t words fresh 0 THREADS)
+Inv-loop t words built₀ core₀ built core = (core ≤ THREADS) × (tookAll t words built core (THREADS - core) ≡ tookAll t words noneTaken 0 THREADS)
 
 abbrev μ-loop : tie.MeasureT-loop
 μ-loop t words built₀ core₀ built core = THREADS - core

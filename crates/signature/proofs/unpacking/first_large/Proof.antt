@@ -6,7 +6,7 @@ use native.Mathlib.Omega.{arith}
 use lib.ListN.{length, getD, set, take, length-map, length-set}
 use borrow.Author.Tests.{lt-ltb, le-ltb}
 use Rattle.laws.proofs.LowestLoops.{NoneBelow, none-below, more-below, lowest-found, lowest-nothing}
-use Rattle.signature.specs.Found.{foundOf, over}
+use Rattle.signature.specs.inner.LoadLists.{foundOf, over}
 use borrow.Author.Needs.{needs}
 use Rattle.signature.proofs.unpacking.first_large.Statement.{statement}
 use Rattle.signature.proofs.unpacking.first_large.Tie as tie

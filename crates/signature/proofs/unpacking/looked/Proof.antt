@@ -4,7 +4,7 @@ use mathlib.Core.Bool.{Bool, true, false, So, not, _&&_}
 use Prim.Native.Nat.{ℕ, suc, _+_, _-_, _*_, _<_, _≤_}
 use native.Mathlib.Omega.{arith}
 use Rattle.signature.specs.Reads.{rangeOf, reader, loads}
-use Rattle.signature.specs.Laying.{after, tookOf, lookedOf, tookFrom, openedOf, tookThread, tookAll, fresh}
+use Rattle.signature.specs.inner.WordsLaid.{stepOn, tookOf, lookedOf, tookFrom, openedOf, tookThread, tookAll, noneTaken}
 use Rattle.signature.proofs.Taken.{looked-taken, looked-left}
 use Rattle.signature.proofs.Laid.{range-some}
 use borrow.Author.Needs.{needs}

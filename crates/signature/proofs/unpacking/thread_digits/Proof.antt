@@ -4,7 +4,7 @@ use mathlib.Core.Bool.{Bool, true, false, So, not, _&&_}
 use Prim.Native.Nat.{ℕ, suc, _+_, _-_, _*_, _<_, _≤_}
 use native.Mathlib.Omega.{arith}
 use Rattle.trace.specs.Bounds.{RECORDS, THREADS}
-use Rattle.signature.specs.Laying.{after, tookOf, lookedOf, tookFrom, openedOf, tookThread, tookAll, fresh}
+use Rattle.signature.specs.inner.WordsLaid.{stepOn, tookOf, lookedOf, tookFrom, openedOf, tookThread, tookAll, noneTaken}
 use Rattle.signature.specs.declared.Taking.{Taking}
 use borrow.Author.Tests.{not-true, not-false}
 use Rattle.signature.proofs.Taken.{took-on, took-over, thread-took, thread-left, opened-told}

@@ -7,7 +7,7 @@ use mathlib.Core.List.{List, [], _∷_, _++_}
 use lib.ListN.{length, getD, set, take, length-map, length-set}
 use borrow.Author.Tests.{leb-true}
 use lib.Dec.{leb}
-use Rattle.signature.specs.Words.{LIMIT}
+use Rattle.signature.specs.DigitWords.{LIMIT}
 use Rattle.signature.proofs.Taken.{took-in, took-out}
 use borrow.Author.Needs.{needs}
 use Rattle.signature.proofs.unpacking.took.Statement.{statement}

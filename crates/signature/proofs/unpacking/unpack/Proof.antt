@@ -14,11 +14,11 @@ use Rattle.signature.specs.declared.Open.{Open}
 use Rattle.signature.specs.declared.Taking.{Taking}
 use Rattle.signature.specs.Reads.{each, valueOf, loads}
 use Rattle.signature.specs.Signature.{tops, tooLarge}
-use Rattle.signature.specs.Laying.{allFrom, begun}
-use Rattle.signature.specs.Found.{foundOf, over}
+use Rattle.signature.specs.inner.WordsLaid.{allFrom, noneLaid}
+use Rattle.signature.specs.inner.LoadLists.{foundOf, over}
 use Rattle.signature.proofs.Laid.{top-below, tops-count, tops-fit}
 use Rattle.signature.proofs.Taken.{reads-taken}
-use Rattle.signature.proofs.Answers.{unpack-ten, unpack-words, unpack-reads, unpack-large, unpack-done, found-some, found-none, large-same}
+use Rattle.signature.proofs.SignatureAnswers.{unpack-ten, unpack-words, unpack-reads, unpack-large, unpack-done, found-some, found-none, large-same}
 use borrow.Author.Needs.{needs}
 use Rattle.signature.proofs.unpacking.unpack.Statement.{statement}
 use Rattle.signature.proofs.unpacking.unpack.Tie as tie

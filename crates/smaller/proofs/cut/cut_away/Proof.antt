@@ -4,7 +4,7 @@ use mathlib.Core.List.{List}
 use Prim.Native.Nat.{ℕ}
 use Rattle.trace.specs.declared.Trace.{Trace}
 use Rattle.parts.proofs.Alike.{picked-alike, olds-alike}
-use Rattle.orders.proofs.Accepted.{well-fits}
+use Rattle.pairs.proofs.ValidOrders.{well-fits}
 use Rattle.smaller.specs.Smaller.{padded}
 use Rattle.smaller.specs.declared.Answer.the-variants.{Cut}
 use borrow.Author.Needs.{needs}

@@ -2,9 +2,9 @@
 use mathlib.Core.Path.{subst}
 use Rattle.trace.specs.declared.Trace.{Trace}
 use Rattle.parts.specs.Picked.{picked}
-use Rattle.orders.proofs.Accepted.{well-fits}
+use Rattle.pairs.proofs.ValidOrders.{well-fits}
 use Rattle.search.specs.FirstOrder.{FirstOrder}
-use Rattle.smaller.specs.Rows.{Has}
+use Rattle.smaller.specs.inner.RecordSets.{Chosen}
 use Rattle.parts.proofs.Looks.{left-well}
 use Rattle.smaller.proofs.Cutting.{faulty-found}
 use borrow.Author.Needs.{needs}
@@ -21,7 +21,7 @@ returns : tie.Need-returns
 returns c = let o = c .before .first-order in
     let p = c .before .before .picked in
     let s = c .before .before .before .before in
-    let A = Has (s .args .kept .now) in
+    let A = Chosen (s .args .kept .now) in
     faulty-found (picked (s .args .t) A) (left-well (s .args .t) (s .args .model) (s .pre .0) A) (s .args .model) (s .pre .1) (o .result) (subst (λ (u : Trace). FirstOrder u (s .args .model) (o .result)) (p .ensures) (o .ensures))
 
 pub still-faulty-spec : {M : Type 1} → statement M

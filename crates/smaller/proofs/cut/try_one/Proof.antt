@@ -4,8 +4,8 @@ use mathlib.Core.Bool.{false≢true}
 use borrow.Author.Tests.{not-true, not-false}
 use Rattle.laws.proofs.Tests.{and-iff, same-iff}
 use Rattle.rows.proofs.Whole.{copy-same}
-use Rattle.orders.proofs.Accepted.{well-fits}
-use Rattle.smaller.specs.Rows.{Tried}
+use Rattle.pairs.proofs.ValidOrders.{well-fits}
+use Rattle.smaller.specs.inner.RecordSets.{TriedRecord}
 use Rattle.smaller.proofs.Cutting.{not-there, tried-no, tried-yes, tried-kept}
 use borrow.Author.Needs.{needs}
 use Rattle.smaller.proofs.cut.try_one.Statement.{statement}
@@ -54,7 +54,7 @@ returns-2 c = let p = c .before .before .copy in
     let o = c .before .before .before .before .before .before .before .before .before .without in
     let s = c .before .before .before .before .before .before .before .before .before .before .before .before .before .before .before .before .before .before .before in
     let e = sym (c .before .before .before .before .before .before .before .before .before .before .before .before .before .before .before .test .ensures) ∙ and-iff same-iff same-iff .0 (not-false _ (c .before .before .before .before .before .before .before .before .before .before .before .before .if1 .left)) .0 in
-    subst (Tried (s .args .t) (s .args .model) (s .args .i) (s .args .kept .now)) (sym (p .ensures ∙ copy-same _ _ (o .ensures .0 ∙ sym (s .pre .3))))
+    subst (TriedRecord (s .args .t) (s .args .model) (s .args .i) (s .args .kept .now)) (sym (p .ensures ∙ copy-same _ _ (o .ensures .0 ∙ sym (s .pre .3))))
     (tried-yes (s .args .t) (s .pre .0) (s .args .model) (s .args .goes .now) (s .pre .2) (s .args .kept .now) (s .args .i) e _ (o .ensures .1) (o .ensures .0) (f .ensures .0 (c .before .before .before .before .before .if2 .taken)))
 
 same-length-3 : tie.Need-same-length-3

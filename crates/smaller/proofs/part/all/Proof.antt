@@ -10,12 +10,12 @@ use native.Mathlib.Omega.{arith}
 use lib.ListN.{length}
 use borrow.Author.Needs.{needs}
 use Rattle.rows.specs.Bounds.{WORDS}
-use Rattle.smaller.specs.Rows.{Has}
+use Rattle.smaller.specs.inner.RecordSets.{Chosen}
 use Rattle.smaller.proofs.part.all.Statement.{statement}
 use Rattle.smaller.proofs.part.all.Tie as tie
 
 abbrev Inv-loop : tie.InvT-loop
-Inv-loop n kept₀ i₀ kept i = (i ≤ n) × (length kept ≡ WORDS) × ((x : ℕ) → x < i → So (Has kept x))
+Inv-loop n kept₀ i₀ kept i = (i ≤ n) × (length kept ≡ WORDS) × ((x : ℕ) → x < i → So (Chosen kept x))
 
 abbrev μ-loop : tie.MeasureT-loop
 μ-loop n kept₀ i₀ kept i = n - i
@@ -39,7 +39,7 @@ loop-again c = let p = c .before .before .put in
     let m = put-more (l .kept) (l .i) (l .inv .1) (omega (arith, s .pre .0)) in (
       omega arith,
       ap length (p .ensures) ∙ m .long,
-      λ x h. subst (λ (k : List ℕ). So (Has k x)) (sym (p .ensures)) (m .has x .1 (elim (last? {i = x} {n = l .i} (omega arith)) [ inl e ↦ inr e | inr b ↦ inl (l .inv .2 x b) ])),
+      λ x h. subst (λ (k : List ℕ). So (Chosen k x)) (sym (p .ensures)) (m .has x .1 (elim (last? {i = x} {n = l .i} (omega arith)) [ inl e ↦ inr e | inr b ↦ inl (l .inv .2 x b) ])),
     )
 
 same-length : tie.Need-same-length Inv-loop μ-loop

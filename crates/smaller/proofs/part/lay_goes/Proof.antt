@@ -2,7 +2,7 @@
 use mathlib.Core.Path.{sym, ap, _∙_, subst}
 use Rattle.rows.specs.Empty.{emptyOf}
 use Rattle.rows.specs.Put.{putIf}
-use Rattle.orders.proofs.Accepted.{well-fits}
+use Rattle.pairs.proofs.ValidOrders.{well-fits}
 use mathlib.Core.Bool.{Bool, So}
 use Prim.Native.Nat.{ℕ, _+_, _-_, _≤_}
 use native.Mathlib.Omega.{arith}
@@ -14,7 +14,7 @@ use Rattle.trace.specs.declared.Op.{Op}
 use Rattle.trace.specs.Meaning.{frameOf}
 use Rattle.trace.specs.WellFormed.{wellFormed}
 use Rattle.trace.proofs.Good.{good}
-use Rattle.smaller.proofs.Rows.{Lays, lays-none, lays-more, lays-chains, put-source}
+use Rattle.smaller.proofs.RecordSets.{Lays, lays-none, lays-more, lays-chains, put-source}
 use Rattle.smaller.proofs.part.lay_goes.Statement.{statement}
 use Rattle.smaller.proofs.part.lay_goes.Tie as tie
 

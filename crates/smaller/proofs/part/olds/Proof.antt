@@ -10,13 +10,13 @@ use Rattle.parts.proofs.Alike.{olds-more, olds-few}
 use borrow.Author.Needs.{needs}
 use Rattle.parts.specs.Picked.{oldsTo}
 use Rattle.smaller.specs.Smaller.{padded}
-use Rattle.smaller.specs.Rows.{Has}
-use Rattle.smaller.proofs.Rows.{padded-more}
+use Rattle.smaller.specs.inner.RecordSets.{Chosen}
+use Rattle.smaller.proofs.RecordSets.{padded-more}
 use Rattle.smaller.proofs.part.olds.Statement.{statement}
 use Rattle.smaller.proofs.part.olds.Tie as tie
 
 abbrev Inv-loop : tie.InvT-loop
-Inv-loop n kept list₀ at₀ i₀ list at i = (i ≤ n) × (at ≡ length (oldsTo (Has kept) i)) × (list ≡ padded (oldsTo (Has kept) i))
+Inv-loop n kept list₀ at₀ i₀ list at i = (i ≤ n) × (at ≡ length (oldsTo (Chosen kept) i)) × (list ≡ padded (oldsTo (Chosen kept) i))
 
 abbrev μ-loop : tie.MeasureT-loop
 μ-loop n kept list₀ at₀ i₀ list at i = n - i
@@ -34,17 +34,17 @@ cast-list c = search needs
 mul-list : tie.Need-mul-list Inv-loop μ-loop
 mul-list c = let l = c .before .before .before .loop in
     let s = c .before .before .before .before .before in
-    omega (arith, olds-few (Has (s .args .kept .now)) (l .i), l .inv .1, s .pre)
+    omega (arith, olds-few (Chosen (s .args .kept .now)) (l .i), l .inv .1, s .pre)
 
 array-write-list : tie.Need-array-write-list Inv-loop μ-loop
 array-write-list c = let l = c .before .before .before .loop in
     let s = c .before .before .before .before .before in
-    omega (arith, olds-few (Has (s .args .kept .now)) (l .i), l .inv .1, s .pre)
+    omega (arith, olds-few (Chosen (s .args .kept .now)) (l .i), l .inv .1, s .pre)
 
 add-at : tie.Need-add-at Inv-loop μ-loop
 add-at c = let l = c .before .before .before .loop in
     let s = c .before .before .before .before .before in
-    omega (arith, olds-few (Has (s .args .kept .now)) (l .i), l .inv .1, s .pre)
+    omega (arith, olds-few (Chosen (s .args .kept .now)) (l .i), l .inv .1, s .pre)
 
 add-i : tie.Need-add-i Inv-loop μ-loop
 add-i c = search needs
@@ -55,7 +55,7 @@ loop-less c = search needs
 loop-again : tie.Need-loop-again Inv-loop μ-loop
 loop-again c = let l = c .before .before .before .loop in
     let s = c .before .before .before .before .before in
-    let A = Has (s .args .kept .now) in
+    let A = Chosen (s .args .kept .now) in
     let x = oldsTo A (l .i) in
     let more = olds-more A (l .i) in
     let t = c .before .test .ensures in
@@ -75,7 +75,7 @@ returns : tie.Need-returns Inv-loop μ-loop
 returns c = let l = c .before .loop in
     let s = c .before .before .before in
     let e : l .i ≡ s .args .n = omega arith in
-    l .inv .2 ∙ ap (λ (k : ℕ). padded (oldsTo (Has (s .args .kept .now)) k)) e
+    l .inv .2 ∙ ap (λ (k : ℕ). padded (oldsTo (Chosen (s .args .kept .now)) k)) e
 
 pub olds-spec : {M : Type 1} → statement M
 olds-spec =

@@ -11,12 +11,12 @@ use Rattle.trace.specs.declared.Trace.{Trace}
 use Rattle.trace.proofs.Places.{pushed-room}
 use Rattle.parts.specs.Picked.{pickedTo}
 use Rattle.parts.proofs.Alike.{picked-more, picked-few}
-use Rattle.smaller.specs.Rows.{Has}
+use Rattle.smaller.specs.inner.RecordSets.{Chosen}
 use Rattle.smaller.proofs.part.picked.Statement.{statement}
 use Rattle.smaller.proofs.part.picked.Tie as tie
 
 abbrev Inv-loop : tie.InvT-loop
-Inv-loop kept t n part₀ i₀ part i = (i ≤ n) × (part ≡ pickedTo t (Has kept) i)
+Inv-loop kept t n part₀ i₀ part i = (i ≤ n) × (part ≡ pickedTo t (Chosen kept) i)
 
 abbrev μ-loop : tie.MeasureT-loop
 μ-loop kept t n part₀ i₀ part i = n - i
@@ -40,17 +40,17 @@ element-copy-out-record c = search needs
 mul-t14 : tie.Need-mul-t14 Inv-loop μ-loop
 mul-t14 c = let l = c .before .before .before .before .loop in
     let s = c .before .before .before .before .before .before .before in
-    omega (arith, ap (λ (u : Trace). u .len) (l .inv .1), picked-few (s .args .t1) (Has (s .args .kept .now)) (l .i), s .pre)
+    omega (arith, ap (λ (u : Trace). u .len) (l .inv .1), picked-few (s .args .t1) (Chosen (s .args .kept .now)) (l .i), s .pre)
 
 element-set-from-part : tie.Need-element-set-from-part Inv-loop μ-loop
 element-set-from-part c = let l = c .before .before .before .before .loop in
     let s = c .before .before .before .before .before .before .before in
-    omega (arith, ap (λ (u : Trace). u .len) (l .inv .1), picked-few (s .args .t1) (Has (s .args .kept .now)) (l .i), s .pre)
+    omega (arith, ap (λ (u : Trace). u .len) (l .inv .1), picked-few (s .args .t1) (Chosen (s .args .kept .now)) (l .i), s .pre)
 
 add-part : tie.Need-add-part Inv-loop μ-loop
 add-part c = let l = c .before .before .before .before .loop in
     let s = c .before .before .before .before .before .before .before in
-    omega (arith, ap (λ (u : Trace). u .len) (l .inv .1), picked-few (s .args .t1) (Has (s .args .kept .now)) (l .i), s .pre)
+    omega (arith, ap (λ (u : Trace). u .len) (l .inv .1), picked-few (s .args .t1) (Chosen (s .args .kept .now)) (l .i), s .pre)
 
 add-i : tie.Need-add-i Inv-loop μ-loop
 add-i c = search needs
@@ -62,7 +62,7 @@ loop-again : tie.Need-loop-again Inv-loop μ-loop
 loop-again c = let l = c .before .before .before .loop in
     let s = c .before .before .before .before .before .before in
     let t = s .args .t1 in
-    let A = Has (s .args .kept .now) in
+    let A = Chosen (s .args .kept .now) in
     let u = pickedTo t A (l .i) in
     let e = c .before .test .ensures in
     let room : l .part .len < RECORDS = omega (arith, ap (λ (u : Trace). u .len) (l .inv .1), picked-few t A (l .i), s .pre) in (
@@ -77,7 +77,7 @@ returns : tie.Need-returns Inv-loop μ-loop
 returns c = let l = c .before .loop in
     let s = c .before .before .before .before in
     let e : l .i ≡ s .args .t1 .len = omega arith in
-    l .inv .1 ∙ ap (pickedTo (s .args .t1) (Has (s .args .kept .now))) e
+    l .inv .1 ∙ ap (pickedTo (s .args .t1) (Chosen (s .args .kept .now))) e
 
 pub picked-spec : {M : Type 1} → statement M
 picked-spec =

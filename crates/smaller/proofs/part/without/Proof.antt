@@ -14,13 +14,13 @@ use lib.ListN.{length}
 use borrow.Author.Needs.{needs}
 use Rattle.rows.specs.Bounds.{WORDS}
 use Rattle.rows.specs.Rows.{bit}
-use Rattle.smaller.specs.Rows.{Has}
-use Rattle.smaller.proofs.Rows.{put-some}
+use Rattle.smaller.specs.inner.RecordSets.{Chosen}
+use Rattle.smaller.proofs.RecordSets.{put-some}
 use Rattle.smaller.proofs.part.without.Statement.{statement}
 use Rattle.smaller.proofs.part.without.Tie as tie
 
 abbrev Inv-loop : tie.InvT-loop
-Inv-loop kept goes n i left₀ x₀ left x = (x ≤ n) × (length left ≡ WORDS) × ((y : ℕ) → y < x → Has left y ≡ (Has kept y && not (eqb i y || bit goes i y))) × ((y : ℕ) → x ≤ y → Has left y ≡ false)
+Inv-loop kept goes n i left₀ x₀ left x = (x ≤ n) × (length left ≡ WORDS) × ((y : ℕ) → y < x → Chosen left y ≡ (Chosen kept y && not (eqb i y || bit goes i y))) × ((y : ℕ) → x ≤ y → Chosen left y ≡ false)
 
 abbrev μ-loop : tie.MeasureT-loop
 μ-loop kept goes n i left₀ x₀ left x = n - x
@@ -33,7 +33,7 @@ loop-holds c = let e = c .before .before .clear .ensures ∙ ap emptyOf (c .befo
   omega arith,
   ap length e ∙ empty-long WORDS,
   λ y h. absurd (omega arith),
-  λ y h. ap (λ (k : List ℕ). Has k y) e ∙ empty-bit WORDS 0 y,
+  λ y h. ap (λ (k : List ℕ). Chosen k y) e ∙ empty-bit WORDS 0 y,
 )
 
 test-requires : tie.Need-test-requires Inv-loop μ-loop
@@ -57,16 +57,16 @@ loop-again c = let p = c .before .before .put-if in
     let g = c .before .before .before .before .before .test in
     let l = c .before .before .before .before .before .before .before .loop in
     let s = c .before .before .before .before .before .before .before .before .before .before .before .before .before .before .before in
-    let want : ℕ → Bool = λ y. Has (s .args .kept .now) y && not (eqb (s .args .i) y || bit (s .args .goes .now) (s .args .i) y) in
+    let want : ℕ → Bool = λ y. Chosen (s .args .kept .now) y && not (eqb (s .args .i) y || bit (s .args .goes .now) (s .args .i) y) in
     let b : (a .result && not (eqb (s .args .i) (l .x) || g .result)) ≡ want (l .x) = ap₂ (λ (p q : Bool). p && not (eqb (s .args .i) (l .x) || q)) (a .ensures) (g .ensures) in
     let q = put-some (l .left) (a .result && not (eqb (s .args .i) (l .x) || g .result)) (l .x) (l .inv .1) (omega (arith, s .pre .0)) (l .inv .3 (l .x) (omega arith)) in (
       omega arith,
       ap length (p .ensures) ∙ q .long,
-      λ y h. ap (λ (k : List ℕ). Has k y) (p .ensures) ∙ elim (last? {i = y} {n = l .x} (omega arith)) [
-        | inl e ↦ subst (λ (y : ℕ). Has (putIf (l .left) (a .result && not (eqb (s .args .i) (l .x) || g .result)) 0 (l .x)) y ≡ want y) (sym e) (q .here ∙ b)
+      λ y h. ap (λ (k : List ℕ). Chosen k y) (p .ensures) ∙ elim (last? {i = y} {n = l .x} (omega arith)) [
+        | inl e ↦ subst (λ (y : ℕ). Chosen (putIf (l .left) (a .result && not (eqb (s .args .i) (l .x) || g .result)) 0 (l .x)) y ≡ want y) (sym e) (q .here ∙ b)
         | inr d ↦ q .others y (λ e. omega arith) ∙ l .inv .2 y d
       ],
-      λ y h. ap (λ (k : List ℕ). Has k y) (p .ensures) ∙ q .others y (λ e. omega arith) ∙ l .inv .3 y (omega arith),
+      λ y h. ap (λ (k : List ℕ). Chosen k y) (p .ensures) ∙ q .others y (λ e. omega arith) ∙ l .inv .3 y (omega arith),
     )
 
 same-length : tie.Need-same-length Inv-loop μ-loop

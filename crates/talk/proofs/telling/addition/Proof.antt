@@ -1,6 +1,6 @@
 -- `talk::telling::addition`: what the session replies, told with the number of the record.
 use mathlib.Core.Path.{ap, _∙_}
-use Rattle.talk.specs.Telling.{said, added}
+use Rattle.talk.specs.LineAnswers.{said, added}
 use Rattle.talk.specs.declared.telling.Told.{Told}
 use borrow.Author.Needs.{needs}
 use Rattle.talk.proofs.telling.addition.Statement.{statement}

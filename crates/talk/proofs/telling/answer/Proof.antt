@@ -4,7 +4,7 @@ use borrow.Author.Tests.{lt-ltb, le-ltb, not-true, not-false}
 use Rattle.reader.specs.Bounds.{LINE}
 use Rattle.session.specs.Closings.{Closings}
 use Rattle.talk.specs.Command.{commandOf}
-use Rattle.talk.specs.Telling.{askedOf, answerOf}
+use Rattle.talk.specs.LineAnswers.{askedOf, talkAnswer}
 use Rattle.talk.specs.declared.asking.Command.{Command}
 use Rattle.talk.specs.declared.telling.Said.{Said}
 use Rattle.talk.proofs.Cutting.{asked-cut}
@@ -16,14 +16,14 @@ refused-requires : tie.Need-refused-requires
 refused-requires c κs = search needs
 
 returns : tie.Need-returns
-unfolding answerOf
+unfolding talkAnswer
 returns c C = rw (lt-ltb LINE _ (c .before .if1 .taken)) (c .refused .ensures)
 
 refused-requires-2 : tie.Need-refused-requires-2
 refused-requires-2 c κs = search needs
 
 returns-2 : tie.Need-returns-2
-unfolding answerOf
+unfolding talkAnswer
 returns-2 c C =
     let e = c .before .before in
     rw (le-ltb LINE _ (e .if1 .left), not-true (e .before .before .args .ended) (c .before .if2 .taken)) (c .refused2 .ensures)
@@ -33,8 +33,8 @@ command-of-requires c κs = search needs
 
 -- what the call is answered is what the line is
 here : (c : tie.After-command-of) (C : Closings) (r : Said) (m : Command) → c .command-of .result ≡ m → let a = c .before .before .before .before .args in
-    r ≡ askedOf C (a .talk) (a .bytes .now) m → r ≡ answerOf C (a .talk) (record { bytes = a .bytes .now; ended = a .ended })
-unfolding answerOf
+    r ≡ askedOf C (a .talk) (a .bytes .now) m → r ≡ talkAnswer C (a .talk) (record { bytes = a .bytes .now; ended = a .ended })
+unfolding talkAnswer
 here c C r m g e =
     let o = c .before in
     let a = o .before .before .before .args in

@@ -2,7 +2,7 @@
 use mathlib.Core.Path.{ap, _∙_}
 use Rattle.trace.specs.declared.Trace.{Trace}
 use Rattle.session.specs.Entries.{openOf}
-use Rattle.talk.specs.Telling.{begunWith, begun}
+use Rattle.talk.specs.LineAnswers.{begunWith, begun}
 use Rattle.talk.specs.declared.telling.Told.{Told}
 use borrow.Author.Needs.{needs}
 use Rattle.talk.proofs.telling.beginning.Statement.{statement}

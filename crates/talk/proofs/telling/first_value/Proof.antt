@@ -1,7 +1,7 @@
 -- `talk::telling::first_value`: only where no record stands.
 use mathlib.Core.Path.{refl}
 use borrow.Author.Tests.{eq-eqb, ne-eqb}
-use Rattle.talk.specs.Telling.{firstValue}
+use Rattle.talk.specs.LineAnswers.{firstValue}
 use borrow.Author.Needs.{needs}
 use Rattle.talk.proofs.telling.first_value.Statement.{statement}
 use Rattle.talk.proofs.telling.first_value.Tie as tie

@@ -8,7 +8,7 @@ use Rattle.session.specs.declared.Session.{Session}
 use Rattle.session.specs.declared.Reply.{Reply}
 use Rattle.session.proofs.Openings.{empty-opens}
 use Rattle.session.proofs.Standing.{opened}
-use Rattle.talk.specs.Telling.{ungiven, freshOf}
+use Rattle.talk.specs.LineAnswers.{ungiven, freshOf}
 use borrow.Author.Needs.{needs}
 use Rattle.talk.proofs.telling.fresh.Statement.{statement}
 use Rattle.talk.proofs.telling.fresh.Tie as tie

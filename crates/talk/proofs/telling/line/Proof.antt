@@ -1,6 +1,6 @@
 -- `talk::telling::line`: a first value, or what the reader says of the line behind the records.
 use mathlib.Core.Path.{sym, ap, _∙_}
-use Rattle.talk.specs.Telling.{turnOf, begunOr, lineOf}
+use Rattle.talk.specs.LineAnswers.{turnSaid, begunOr, lineSaid}
 use Rattle.talk.proofs.Starting.{first-good}
 use borrow.Author.Needs.{needs}
 use Rattle.talk.proofs.telling.line.Statement.{statement}
@@ -25,20 +25,20 @@ turn-requires : tie.Need-turn-requires
 turn-requires c κs = search needs
 
 returns : tie.Need-returns
-unfolding lineOf
+unfolding lineSaid
 returns c C =
     let v = c .before .before .before .before in
     let a = v .before .before .args in
     c .beginning .ensures C ∙ ap (begunOr C (a .talk) (a .bytes .now)) (sym (c .before .before .addr .given .1) ∙ v .first-value .ensures)
 
 returns-2 : tie.Need-returns-2
-unfolding lineOf
+unfolding lineSaid
 returns-2 c C =
     let e = c .before .before .before in
     let v = e .before .before in
     let a = v .before .before .args in
     c .turn .ensures C
-    ∙ ap (turnOf C (a .talk)) (c .before .turned .ensures)
+    ∙ ap (turnSaid C (a .talk)) (c .before .turned .ensures)
     ∙ ap (begunOr C (a .talk) (a .bytes .now)) (sym (e .enum-told .given .1) ∙ v .first-value .ensures)
 
 pub line-spec : {M : Type 1} → statement M

@@ -1,6 +1,6 @@
 -- `talk::telling::look`: what the session replies, told.
 use mathlib.Core.Path.{ap, _∙_}
-use Rattle.talk.specs.Telling.{said, looked}
+use Rattle.talk.specs.LineAnswers.{said, looked}
 use Rattle.talk.specs.declared.telling.Told.{Told}
 use borrow.Author.Needs.{needs}
 use Rattle.talk.proofs.telling.look.Statement.{statement}

@@ -3,7 +3,7 @@ use mathlib.Core.Path.{_≡_, sym, ap, _∙_}
 use mathlib.Core.Bool.{true, false}
 use native.Mathlib.Omega.{arith}
 use Rattle.pairs.specs.Kept.{modelled}
-use Rattle.talk.specs.Telling.{said, replied, modelOf}
+use Rattle.talk.specs.LineAnswers.{said, replied, modelOf}
 use Rattle.talk.specs.declared.telling.Told.{Told}
 use Rattle.talk.proofs.Cutting.{no-model}
 use borrow.Author.Needs.{needs}

@@ -1,6 +1,6 @@
 -- `talk::telling::supposition`: what the session replies, told.
 use mathlib.Core.Path.{ap, _∙_}
-use Rattle.talk.specs.Telling.{said, replied}
+use Rattle.talk.specs.LineAnswers.{said, replied}
 use Rattle.talk.specs.declared.telling.Told.{Told}
 use borrow.Author.Needs.{needs}
 use Rattle.talk.proofs.telling.supposition.Statement.{statement}

@@ -1,6 +1,6 @@
 -- `talk::telling::told_of`: an answer by its name.
 use mathlib.Core.Path.{sym, ap, _∙_}
-use Rattle.talk.specs.Telling.{toldOf}
+use Rattle.talk.specs.LineAnswers.{answerTold}
 use Rattle.talk.specs.declared.telling.Told.the-variants.{Refused}
 use borrow.Author.Needs.{needs}
 use Rattle.talk.proofs.telling.told_of.Statement.{statement}
@@ -40,10 +40,10 @@ returns-4 : tie.Need-returns-4
 returns-4 c = search needs
 
 returns-5 : tie.Need-returns-5
-returns-5 c = ap toldOf (sym (c .before .answer .given .1))
+returns-5 c = ap answerTold (sym (c .before .answer .given .1))
 
 returns-6 : tie.Need-returns-6
-returns-6 c = ap Refused (c .number .ensures) ∙ ap toldOf (sym (c .before .before .answer2 .given .1))
+returns-6 c = ap Refused (c .number .ensures) ∙ ap answerTold (sym (c .before .before .answer2 .given .1))
 
 pub told-of-spec : {M : Type 1} → statement M
 told-of-spec =

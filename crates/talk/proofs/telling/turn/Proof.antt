@@ -1,7 +1,7 @@
 -- `talk::telling::turn`: a record that is taken, or the number of the line.
 use mathlib.Core.Path.{sym, ap, _∙_}
 use Prim.Native.Nat.{ℕ}
-use Rattle.talk.specs.Telling.{refusedOf, turnOf}
+use Rattle.talk.specs.LineAnswers.{refusedOf, turnSaid}
 use borrow.Author.Needs.{needs}
 use Rattle.talk.proofs.telling.turn.Statement.{statement}
 use Rattle.talk.proofs.telling.turn.Tie as tie
@@ -24,13 +24,13 @@ refused-requires c κs = search needs
 returns : tie.Need-returns
 returns c C =
     let t = c .before .before in
-    c .addition .ensures C ∙ ap (turnOf C (t .before .before .args .talk)) (sym (t .turn .given .1))
+    c .addition .ensures C ∙ ap (turnSaid C (t .before .before .args .talk)) (sym (t .turn .given .1))
 
 returns-2 : tie.Need-returns-2
 returns-2 c C =
     let t = c .before .before .before in
     let k = t .before .before .args .talk in
-    c .refused .ensures ∙ ap (λ (n : ℕ). refusedOf k n) (c .before .number .ensures) ∙ ap (turnOf C k) (sym (t .turn2 .given .1))
+    c .refused .ensures ∙ ap (λ (n : ℕ). refusedOf k n) (c .before .number .ensures) ∙ ap (turnSaid C k) (sym (t .turn2 .given .1))
 
 pub turn-spec : {M : Type 1} → statement M
 turn-spec =

@@ -1,9 +1,9 @@
 -- `verdict::tell::circle_or_none`: each answer by what the part beneath promises.
 use mathlib.Core.Path.{sym, subst}
 use native.Mathlib.Omega.{arith}
-use Rattle.verdict.specs.Told.{Told}
+use Rattle.verdict.specs.VerdictOf.{Told}
 use Rattle.verdict.specs.declared.Verdict.{Verdict}
-use Rattle.verdict.proofs.Laying.{told-circle, told-none}
+use Rattle.verdict.proofs.LaidOut.{told-circle, told-none}
 use borrow.Author.Needs.{needs}
 use Rattle.verdict.proofs.tell.circle_or_none.Statement.{statement}
 use Rattle.verdict.proofs.tell.circle_or_none.Tie as tie

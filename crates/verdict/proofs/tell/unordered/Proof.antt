@@ -1,9 +1,9 @@
 -- `verdict::tell::unordered`: 10, then a missing source, then the rest.
 use mathlib.Core.Path.{sym, _∙_, subst}
 use borrow.Author.Tests.{not-true, not-false}
-use Rattle.verdict.specs.Told.{Told}
+use Rattle.verdict.specs.VerdictOf.{Told}
 use Rattle.verdict.specs.declared.Verdict.{Verdict}
-use Rattle.verdict.proofs.Laying.{told-form, told-source}
+use Rattle.verdict.proofs.LaidOut.{told-form, told-source}
 use borrow.Author.Needs.{needs}
 use Rattle.verdict.proofs.tell.unordered.Statement.{statement}
 use Rattle.verdict.proofs.tell.unordered.Tie as tie

@@ -1,9 +1,9 @@
 -- `verdict::tell::verdict_of`: 9, then an order, then the rest.
 use mathlib.Core.Path.{sym, _∙_, subst}
 use borrow.Author.Tests.{not-true, not-false}
-use Rattle.verdict.specs.Told.{Told}
+use Rattle.verdict.specs.VerdictOf.{Told}
 use Rattle.verdict.specs.declared.Verdict.{Verdict}
-use Rattle.verdict.proofs.Laying.{told-model, told-order, orderless}
+use Rattle.verdict.proofs.LaidOut.{told-model, told-order, orderless}
 use borrow.Author.Needs.{needs}
 use Rattle.verdict.proofs.tell.verdict_of.Statement.{statement}
 use Rattle.verdict.proofs.tell.verdict_of.Tie as tie

@@ -1,0 +1,5 @@
+-- What only contracts of private functions cite.
+pub mod WalkRows
+pub mod LeastWalk
+pub mod NamedRules
+pub mod BackSteps

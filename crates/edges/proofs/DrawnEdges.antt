@@ -1,0 +1,275 @@
+-- What the functions that draw edges add is what the rules give.
+--
+--   fenced-none, fenced-apart, fenced-same    == none next to each other; one record further on, of another thread and of the same
+--   kept-none, kept-apart, kept-at            == rule 1 from a record: to none up to itself, to none of another thread, and as a loop reads it off two records
+--   supposed-none, supposed-at                == rule 8 from a record of which nothing is supposed, and as a loop reads it off two records
+--   paired-both                               == rules 1 and 8 together
+--   writer-at, earlier-at, early-at, reads-at == the tests of rules 2 to 5, likewise
+--   address-at                                == its address
+--   stored-at, stored                         == a record that is noted by its address, and all of them
+--   store-writer, store-own, store-none       == a record that is noted by the load's address writes it, unless it is the load; no other does
+--   third-small, valued-at                    == a writer's turn for a load
+--   valued-for, noted, not-writer             == the same in a frame, where a record writes the load's address and where not
+--   loaded-none, loaded-more, loaded-skip     == a load's turn, and that of a record that does not read
+--   settled-at                                == another writer's turn for a load with a source, by rules 6 and 7
+--   turned, settled-by                        == the same of a number that is noted
+--   settled-other, settled-none               == of the source, and of one that is not noted: nothing
+--   next-on, next-at                          == a row's next number is further on; it is in the row, or there is none
+use mathlib.Core.Path.{_≡_, refl, sym, _∙_}
+use mathlib.Core.Logic.{_⊎_, inl, inr, _↔_}
+use mathlib.Core.Bool.{Bool, true, false, So, not, _&&_, _||_, false≢true}
+use mathlib.Core.List.{List}
+use Prim.Native.Nat.{ℕ, _+_, _<_}
+use native.Mathlib.Omega.{arith}
+use borrow.Author.Count.{below-more}
+use lib.Dec.{eqb, ltb}
+use lib.ListN.{length, getD, set, length-set}
+use lib.Seq.{getD-set-same, getD-set-other}
+use Rattle.laws.specs.Relation.{Rel}
+use Rattle.laws.proofs.Tests.{off, and-iff, or-iff, not-iff, same-iff, so-eq, so-lt, eq?, test-one}
+use Rattle.trace.specs.Bounds.{RECORDS}
+use Rattle.trace.specs.Op.{thread, address, read, reads, writes, fence}
+use Rattle.trace.specs.Trace.{at, first}
+use Rattle.rules.specs.Frame.{Frame}
+use Rattle.trace.specs.Meaning.{frameOf}
+use Rattle.trace.specs.declared.Trace.{Trace}
+use Rattle.rows.specs.Bounds.{WORDS, CELLS}
+use Rattle.rows.specs.Rows.{bit}
+use Rattle.rows.specs.Put.{putOf}
+use Rattle.rows.specs.Empty.{emptyOf}
+use Rattle.rows.specs.Within.{Within}
+use Rattle.rows.specs.Next.{NextInRow}
+use Rattle.rows.proofs.Whole.{empty-bit}
+use Rattle.pairs.specs.Kept.{keptPair, fenced, keptOf}
+use Rattle.edges.specs.Supposed.{supposedOf}
+use Rattle.rules.specs.RuleTests.{writer?}
+use Rattle.edges.specs.inner.PairSets.{Only, Union}
+use Rattle.rows.specs.inner.AddedPairs.{Added}
+use Rattle.pairs.specs.SourceOf.{sourceOf}
+use Rattle.edges.specs.inner.DrawnEdges.{paired, Stored, Valued, readsFirst, ValuedFor, Loaded, second, third, fourth, fifth, Settled, sixth, seventh, SettledBy}
+use Rattle.rules.proofs.RuleTests.{writer-iff}
+use Rattle.pairs.proofs.KeptPairs.{earlier-iff, fenced-iff, kept-of-iff, kept-parts}
+use Rattle.edges.proofs.PairSets.{adds-none, adds-put, adds-only, adds-as, adds-or, union-none, union-more, union-skip}
+
+module _ (t : Trace) (x : ℕ) where
+  pub fenced-none : fenced t x (x + 1) ≡ false
+  fenced-none = off (λ s. let f = fenced-iff t x (x + 1) .0 s in omega (arith, f .1, f .2 .0 .1))
+
+  -- what a record further on adds
+  further : (y : ℕ) → So (fence (at t y)) → x < y → thread (at t y) ≡ thread (at t x) → So (fenced t x (y + 1))
+  further y p l e = fenced-iff t x (y + 1) .1 (y, omega arith, ((p, l), e))
+
+  nearer : (y : ℕ) → So (fenced t x y) → So (fenced t x (y + 1))
+  nearer y s = let f = fenced-iff t x y .0 s in fenced-iff t x (y + 1) .1 (f .0, omega (arith, f .1), f .2)
+
+  last : (y : ℕ) → So (fenced t x (y + 1)) → So (fenced t x y) ⊎ (So (fence (at t y)) × (thread (at t y) ≡ thread (at t x)))
+  last y s =
+      let f = fenced-iff t x (y + 1) .0 s in
+      elim (eq? (f .0) y) [
+        | inl e ↦ inr (rw (sym e) (f .2 .0 .0, f .2 .1))
+        | inr d ↦ inl (fenced-iff t x y .1 (f .0, omega (arith, f .1), f .2))
+      ]
+
+  pub fenced-apart : (y : ℕ) → (thread (at t y) ≡ thread (at t x) → ⊥) → fenced t x y ≡ fenced t x (y + 1)
+  fenced-apart y d = test-one {A = So (fenced t x (y + 1))} (nearer y, λ s. elim (last y s) [ inl f ↦ f | inr q ↦ absurd (d (q .1)) ]) same-iff
+
+  pub fenced-same : (y : ℕ) → x < y → thread (at t y) ≡ thread (at t x) → (fenced t x y || fence (at t y)) ≡ fenced t x (y + 1)
+  fenced-same y l e =
+      test-one {A = So (fenced t x (y + 1))} (
+        λ s. elim (or-iff (same-iff {a = fenced t x y}) (same-iff {a = fence (at t y)}) .0 s) [ inl f ↦ nearer y f | inr p ↦ further y p l e ],
+        λ s. or-iff (same-iff {a = fenced t x y}) (same-iff {a = fence (at t y)}) .1 (elim (last y s) [ inl f ↦ inl f | inr q ↦ inr (q .0) ]),
+      ) same-iff
+
+  module _ (m : ℕ) where
+    -- a kept pair is one of program order
+    ordered : (y : ℕ) → So (keptOf m t x y) → (x < y) × (thread (at t x) ≡ thread (at t y))
+    ordered y s = earlier-iff t x y .0 (kept-of-iff t x y m .0 s .0 .0 .0 .0)
+
+    pub kept-none : (e : List ℕ) → Added e (Union (x + 1) (λ y. Only (keptOf m t x y) x y)) e
+    unfolding Union
+    kept-none e = adds-none e (Union (x + 1) (λ y. Only (keptOf m t x y) x y)) (λ i j u. omega (arith, u .1, ordered (u .0) (u .2 .0) .0))
+
+    pub kept-apart : (y : ℕ) → (thread (at t y) ≡ thread (at t x) → ⊥) → (i j : ℕ) → Only (keptOf m t x y) x y i j → ⊥
+    kept-apart y d i j o = d (sym (ordered y (o .0) .1))
+
+    -- what is known of the two records comes from calls: their results stand for the tests
+    pub kept-at : (y : ℕ) → x < y → y < t .len → (kept passed : Bool) → passed ≡ fenced t x y → kept ≡ keptPair m (at t x) (at t y) true passed → kept ≡ keptOf m t x y
+    kept-at y l h kept passed p k = rw (k, p, kept-parts t x y m, so-lt {m = x} {n = y} .1 l, so-lt {m = y} {n = t .len} .1 h) refl
+
+  module _ (rows : List ℕ) where
+    pub supposed-none : (n : ℕ) → Within rows x (emptyOf WORDS) 0 → (i j : ℕ) → Union n (λ y. Only (supposedOf t rows x y) x y) i j → ⊥
+    unfolding Union supposedOf
+    supposed-none n w i j u =
+        let b = and-iff (same-iff {a = frameOf t .operation x && frameOf t .operation (u .0)}) (same-iff {a = bit rows x (u .0)}) .0 (u .2 .0) .1 in
+        false≢true (sym (empty-bit WORDS 0 (u .0)) ∙ w (u .0) b)
+
+    pub supposed-at : (y : ℕ) → x < t .len → y < t .len → (fence₁ fence₂ pair : Bool) → fence₁ ≡ fence (at t x) → fence₂ ≡ fence (at t y) → pair ≡ bit rows x y
+        → (not fence₁ && not fence₂ && pair) ≡ supposedOf t rows x y
+    unfolding supposedOf frameOf
+    supposed-at y hx hy fence₁ fence₂ pair q₁ q₂ r = rw (q₁, q₂, r, so-lt {m = x} {n = t .len} .1 hx, so-lt {m = y} {n = t .len} .1 hy) refl
+
+    pub paired-both : (m n i j : ℕ)
+        → (Union n (λ y. Only (keptOf m t x y) x y) i j ⊎ Union n (λ y. Only (supposedOf t rows x y) x y) i j) ↔ Union n (λ y. Only (paired m t rows x y) x y) i j
+    unfolding Union
+    paired-both m n i j = (
+      λ s. elim s [
+        | inl u ↦ (u .0, u .1, (either (u .0) .1 (inl (u .2 .0)), u .2 .1, u .2 .2))
+        | inr u ↦ (u .0, u .1, (either (u .0) .1 (inr (u .2 .0)), u .2 .1, u .2 .2))
+      ],
+      λ u. elim (either (u .0) .0 (u .2 .0)) [ inl k ↦ inl (u .0, u .1, (k, u .2 .1, u .2 .2)) | inr p ↦ inr (u .0, u .1, (p, u .2 .1, u .2 .2)) ],
+    )
+      where
+        either : (y : ℕ) → So (paired m t rows x y) ↔ (So (keptOf m t x y) ⊎ So (supposedOf t rows x y))
+        either y = or-iff (same-iff {a = keptOf m t x y}) (same-iff {a = supposedOf t rows x y})
+
+module _ (t : Trace) (S L : ℕ) where
+  pub writer-at : S < t .len → (w : Bool) (a b : ℕ) → w ≡ writes (at t S) → a ≡ address (at t S) → b ≡ address (at t L)
+      → (w && eqb a b && not (eqb S L)) ≡ writer? (frameOf t) S L
+  unfolding writer? frameOf
+  writer-at h w a b p q r = rw (p, q, r, so-lt {m = S} {n = t .len} .1 h) refl
+
+  pub earlier-at : (a b : ℕ) → a ≡ thread (at t S) → b ≡ thread (at t L) → (ltb S L && eqb a b) ≡ frameOf t .earlier S L
+  unfolding frameOf
+  earlier-at a b p q = rw (p, q) refl
+
+  pub early-at : L < t .len → (r : Bool) (v b : ℕ) → r ≡ reads (at t L) → v ≡ read (at t L) → b ≡ first t (address (at t L)) → (r && eqb v b) ≡ readsFirst (frameOf t) L
+  unfolding frameOf
+  early-at h r v b q o e = rw (q, o, e, so-lt {m = L} {n = t .len} .1 h) refl
+
+  pub stored-at : L < t .len → (w : Bool) (a : ℕ) → w ≡ writes (at t L) → a ≡ address (at t L) → {d e : List ℕ} → Added d (Only w a L) e → Added d (Only (frameOf t .writes L) (frameOf t .address L) L) e
+  unfolding frameOf
+  stored-at h w a p q add = rw (so-lt {m = L} {n = t .len} .1 h) (rw (p, q) at add)
+
+  pub address-at : (a : ℕ) → a ≡ address (at t L) → a ≡ frameOf t .address L
+  unfolding frameOf
+  address-at a q = q
+
+  pub reads-at : L < t .len → (r : Bool) → r ≡ reads (at t L) → r ≡ frameOf t .reads L
+  unfolding frameOf
+  reads-at h r q = rw (so-lt {m = L} {n = t .len} .1 h) q
+
+module _ (e y : Bool) (source S L : ℕ) where
+  abbrev Parts : Rel
+  Parts i j =
+      Only (eqb S source && not e) S L i j
+      ⊎ (Only (ltb source RECORDS && not (eqb S source) && e) S source i j ⊎ (Only y L S i j ⊎ Only (y && e) S L i j))
+
+  parts : (i j : ℕ) → Parts i j → Valued e y source S L i j
+  parts i j (inl o) = second o
+  parts i j (inr (inl o)) = third o
+  parts i j (inr (inr (inl o))) = fourth o
+  parts i j (inr (inr (inr o))) = fifth o
+
+  whole : (i j : ℕ) → Valued e y source S L i j → Parts i j
+  whole i j (second o) = inl o
+  whole i j (third o) = inr (inl o)
+  whole i j (fourth o) = inr (inr (inl o))
+  whole i j (fifth o) = inr (inr (inr o))
+
+  pub valued-at : {a b c d g : List ℕ}
+      → Added a (Only (eqb S source && not e) S L) b
+      → Added b (Only (ltb source RECORDS && not (eqb S source) && e) S source) c
+      → Added c (Only y L S) d
+      → Added d (Only (y && e) S L) g
+      → Added a (Valued e y source S L) g
+  valued-at p q r s = adds-as (Valued e y source S L) (adds-or p (adds-or q (adds-or r s))) (λ i j. (parts i j, whole i j))
+
+-- rule 3 draws to a source that is there
+pub third-small : (b e : Bool) (source : ℕ) → So (ltb source RECORDS && b && e) → source < RECORDS
+third-small b e source s = and-iff (and-iff (so-lt {m = source} {n = RECORDS}) (same-iff {a = b})) (same-iff {a = e}) .0 s .0 .0
+
+-- a record that writes the load's address has its turn, and one that does not has none
+pub valued-for : (f : Frame) (S L source : ℕ) (e y : Bool) → So (writer? f S L) → source ≡ sourceOf f L → e ≡ f .earlier S L → y ≡ readsFirst f L
+    → {a b : List ℕ} → Added a (Valued e y source S L) b → Added a (ValuedFor f L S) b
+valued-for f S L source e y w ps pe py {a} {b} p =
+    let q : Added a (Valued (f .earlier S L) (readsFirst f L) (sourceOf f L) S L) b = rw (ps, pe, py) at p in
+    adds-as (ValuedFor f L S) q (λ i j. (λ v. (w, v), λ v. v .1))
+
+pub noted : (f : Frame) (S L : ℕ) → So (writer? f S L) → (a : List ℕ) → length a ≡ CELLS → S < RECORDS → L < RECORDS → Added a (Only (writer? f S L) L S) (putOf a L S)
+noted f S L w a l hS hL = adds-put a l (writer? f S L) w L S hL hS
+
+pub not-writer : (f : Frame) (S L : ℕ) → writer? f S L ≡ false
+    → ((x y : ℕ) → Only (writer? f S L) L S x y → ⊥) × ((x y : ℕ) → ValuedFor f L S x y → ⊥)
+not-writer f S L w = (λ x y o. false≢true (sym w ∙ o .0), λ x y v. false≢true (sym w ∙ v .0))
+
+pub loaded-none : (f : Frame) (n : ℕ) (s w e : List ℕ) → length s ≡ RECORDS → Loaded f n 0 s w w e e
+loaded-none f n s w e l = record { long = l; sources = λ L h. absurd (omega arith); writers = union-none _ w; edges = union-none _ e }
+
+-- what is noted of a load's source
+sources-more : (f : Frame) (n k : ℕ) (s w₀ w e₀ e : List ℕ) (source : ℕ) → k < RECORDS → source ≡ sourceOf f k → Loaded f n k s w₀ w e₀ e
+    → (L : ℕ) → L < k + 1 → getD (set s k source) L 0 ≡ sourceOf f L
+sources-more f n k s w₀ w e₀ e source h src l =
+    below-more _ k (λ L b. getD-set-other s k L source 0 (λ d. omega arith) ∙ l .sources L b) (getD-set-same s k source 0 (omega (arith, l .long)) ∙ src)
+
+module _ (f : Frame) (n k : ℕ) (s w₀ w e₀ e : List ℕ) (source : ℕ) (h : k < RECORDS) (src : source ≡ sourceOf f k) (l : Loaded f n k s w₀ w e₀ e) where
+  pub loaded-more : (w′ e′ : List ℕ) → So (f .reads k) → Added w (Union n (λ S. Only (writer? f S k) k S)) w′ → Added e (Union n (ValuedFor f k)) e′
+      → Loaded f n (k + 1) (set s k source) w₀ w′ e₀ e′
+  loaded-more w′ e′ r p q = record {
+    long = length-set s k source ∙ l .long;
+    sources = sources-more f n k s w₀ w e₀ e source h src l;
+    writers = union-more _ k (l .writers) (adds-as _ p (λ x y. (λ u. (r, u), λ u. u .1)));
+    edges = union-more _ k (l .edges) (adds-as _ q (λ x y. (λ u. (r, u), λ u. u .1)));
+  }
+
+  pub loaded-skip : f .reads k ≡ false → Loaded f n (k + 1) (set s k source) w₀ w e₀ e
+  loaded-skip r = record {
+    long = length-set s k source ∙ l .long;
+    sources = sources-more f n k s w₀ w e₀ e source h src l;
+    writers = union-skip _ k (l .writers) (λ x y u. false≢true (sym r ∙ u .0));
+    edges = union-skip _ k (l .edges) (λ x y u. false≢true (sym r ∙ u .0));
+  }
+
+pub settled-at : (h : List ℕ) (S L z : ℕ) (k₆ k₇ : Bool) → k₆ ≡ bit h z L → k₇ ≡ bit h S z → {a b c : List ℕ}
+    → Added a (Only k₆ z S) b → Added b (Only k₇ L z) c → Added a (Settled h S L z) c
+settled-at h S L z k₆ k₇ e₆ e₇ {a} {b} {c} p q =
+    let p′ : Added a (Only (bit h z L) z S) b = adds-only k₆ (bit h z L) e₆ p in
+    let q′ : Added b (Only (bit h S z) L z) c = adds-only k₇ (bit h S z) e₇ q in
+    adds-as (Settled h S L z) (adds-or p′ q′) (λ x y. (there x y, back x y))
+  where
+    there : (x y : ℕ) → Only (bit h z L) z S x y ⊎ Only (bit h S z) L z x y → Settled h S L z x y
+    there x y (inl o) = sixth o
+    there x y (inr o) = seventh o
+
+    back : (x y : ℕ) → Settled h S L z x y → Only (bit h z L) z S x y ⊎ Only (bit h S z) L z x y
+    back x y (sixth o) = inl o
+    back x y (seventh o) = inr o
+
+module _ (w c : List ℕ) (S L z : ℕ) where
+  -- the two tests of a turn
+  pub turned : So (bit w L z && not (eqb z S)) ↔ (So (bit w L z) × (z ≡ S → ⊥))
+  turned = and-iff same-iff (not-iff so-eq)
+
+  pub settled-by : So (bit w L z) → (z ≡ S → ⊥) → {a b : List ℕ} → Added a (Settled c S L z) b → Added a (SettledBy w c S L z) b
+  settled-by there d p = adds-as (SettledBy w c S L z) p (λ i j. (λ v. (turned .1 (there, d), v), λ v. v .1))
+
+  pub settled-other : z ≡ S → (i j : ℕ) → SettledBy w c S L z i j → ⊥
+  settled-other e i j v = turned .0 (v .0) .1 e
+
+  pub settled-none : (So (bit w L z) → ⊥) → (i j : ℕ) → SettledBy w c S L z i j → ⊥
+  settled-none n i j v = n (turned .0 (v .0) .0)
+
+pub next-on : (rows : List ℕ) (r x x′ : ℕ) → NextInRow rows r (x + 1) x′ → x < RECORDS → x < x′
+next-on rows r x x′ n h = elim (n .there) [ inl u ↦ omega (arith, u .0) | inr e ↦ omega arith ]
+
+pub next-at : (rows : List ℕ) (r x x′ : ℕ) → NextInRow rows r x x′ → So (bit rows r x′) ⊎ (x′ ≡ RECORDS)
+next-at rows r x x′ n = elim (n .there) [ inl u ↦ inl (u .1) | inr e ↦ inr e ]
+
+pub stored : (t : Trace) (s e : List ℕ) → s ≡ emptyOf CELLS → Added s (Union (t .len) (λ x. Only (frameOf t .writes x) (frameOf t .address x) x)) e → (a : ℕ) → Stored (frameOf t) e a
+unfolding Union frameOf
+stored t s e none p a x = (
+  λ b. elim (p .pairs a x .0 b) [
+    | inl c ↦ absurd (false≢true (sym (empty-bit CELLS a x) ∙ (rw none at c)))
+    | inr u ↦ let o = u .2 in rw (o .2, o .1) (o .0, refl)
+  ],
+  λ q. p .pairs a x .1 (inr (x, and-iff (so-lt {m = x} {n = t .len}) (same-iff {a = writes (at t x)}) .0 (q .0) .0, (q .0, sym (q .1), refl))),
+)
+
+module _ (f : Frame) (s : List ℕ) (L a : ℕ) (same : a ≡ f .address L) (is : Stored f s (f .address L)) (x : ℕ) where
+  pub store-writer : So (bit s a x) → (x ≡ L → ⊥) → So (writer? f x L)
+  store-writer b d = let w = is x .0 (rw same at b) in writer-iff f x L .1 record { writes = w .0; same = w .1; other = d }
+
+  pub store-own : x ≡ L → writer? f x L ≡ false
+  store-own e = off (λ t. writer-iff f x L .0 t .other e)
+
+  pub store-none : (So (bit s a x) → ⊥) → writer? f x L ≡ false
+  store-none n = off (λ t. let w = writer-iff f x L .0 t in n (rw same (is x .1 (w .writes, w .same))))

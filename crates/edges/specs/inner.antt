@@ -1,0 +1,6 @@
+-- What only contracts of private functions cite.
+pub mod PairSets
+pub mod DrawnEdges
+pub mod RoundStep
+pub mod Settling
+pub mod Takes

@@ -1,0 +1,3 @@
+-- What only contracts of private functions cite.
+pub mod Positions
+pub mod VisibleBy

@@ -1,0 +1,2 @@
+// The judge of a proposed order.
+pub mod judging;

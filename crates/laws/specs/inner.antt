@@ -1,0 +1,6 @@
+-- What only contracts of private functions cite.
+pub mod TryingInTurn
+pub mod Sorted
+pub mod Steps
+pub mod Warshall
+pub mod Joined

@@ -1,0 +1,4 @@
+-- What only contracts of private functions cite.
+pub mod SameBelow
+pub mod Remembered
+pub mod BudgetedWalk

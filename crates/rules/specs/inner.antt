@@ -1,0 +1,8 @@
+-- What only contracts of private functions cite.
+pub mod ExactWalks
+pub mod ComputedRounds
+pub mod ComputedWalks
+pub mod ComputedCircle
+pub mod Discipline
+pub mod EarlyStop
+pub mod Growing

@@ -1,0 +1,114 @@
+-- The tables are laid.
+--
+--   filled       == rows to which every pair that passes was added
+--   upTo f k     == how many operations there are below k
+--   Counting f k ops m == ops is the set of the operations below k, and m their number
+--   counting-none, counting-more, counting-skip, counted == record by record, and past the last one
+--   sources-more == one source more
+--   lacks-read   == a record lacks its source, as it is read off the trace and the sources
+use mathlib.Core.Path.{_≡_, refl, sym, ap, _∙_, subst}
+use mathlib.Core.Logic.{_⊎_, inl, inr, _↔_}
+use mathlib.Core.Bool.{Bool, false, So, cond, not, _&&_, false≢true}
+use mathlib.Core.List.{List}
+use Prim.Native.Nat.{ℕ, _+_, _<_, _≤_}
+use native.Mathlib.Numerals.{add-one}
+use native.Mathlib.Omega.{arith}
+use borrow.Author.Count.{below-more}
+use lib.Dec.{eqb, leb}
+use lib.ListN.{length, getD, set}
+use lib.Seq.{getD-set-same, getD-set-other}
+use Rattle.laws.specs.Relation.{Table}
+use Rattle.laws.specs.Sums.{sum}
+use Rattle.laws.proofs.Tests.{eq?, so-lt}
+use Rattle.trace.specs.Bounds.{RECORDS}
+use Rattle.rules.specs.Frame.{Frame}
+use Rattle.trace.specs.Meaning.{frameOf}
+use Rattle.trace.specs.Op.{address, read, reads}
+use Rattle.trace.specs.Trace.{at, first}
+use Rattle.trace.specs.WellFormed.{wellFormed}
+use Rattle.trace.specs.declared.Trace.{Trace}
+use Rattle.trace.proofs.Meaning.{operation-iff}
+use Rattle.rows.specs.Bounds.{WORDS}
+use Rattle.rows.specs.Rows.{bit}
+use Rattle.rows.specs.Empty.{emptyOf}
+use Rattle.rows.specs.Put.{putOf}
+use Rattle.rows.proofs.Whole.{empty-bit, empty-long}
+use Rattle.edges.specs.inner.PairSets.{Only, Union}
+use Rattle.rows.specs.inner.AddedPairs.{Added}
+use Rattle.rules.specs.Missing.{missing?}
+use Rattle.pairs.specs.SourceOf.{sourceOf}
+use Rattle.rules.specs.Ready.{operations}
+use Rattle.pairs.proofs.MissingOf.{lacks-parts}
+use Rattle.search.specs.inner.TablesLaid.{Filled, Counted}
+use Rattle.rows.proofs.Sets.{put-more}
+
+pub filled : (n : ℕ) (R : Table) (m : ℕ) (rows : List ℕ) → Added (emptyOf m) (Union n (λ y. Union n (λ x. Only (R x y) y x))) rows → Filled n R rows
+unfolding Union
+filled n R m rows a = record { pairs = λ x y. (forth x y, λ h. a .pairs y x .1 (inr (y, h .0, (x, h .1, (h .2, refl, refl))))) }
+  where
+    forth : (x y : ℕ) → So (bit rows y x) → (y < n) × (x < n) × So (R x y)
+    forth x y t = go (a .pairs y x .0 t)
+      where
+        go : So (bit (emptyOf m) y x) ⊎ Union n (λ y. Union n (λ x. Only (R x y) y x)) y x → (y < n) × (x < n) × So (R x y)
+        go (inl e) = absurd (false≢true (sym (empty-bit m y x) ∙ e))
+        go (inr (v, h, (u, l, (r, e, d)))) = rw (e, d) (h, l, r)
+
+abbrev pub upTo : Frame → ℕ → ℕ
+upTo f k = sum k (λ x. cond (f .operation x) 1 0)
+
+pub record Counting (f : Frame) (k : ℕ) (ops : List ℕ) (m : ℕ) : Type 0 where
+  pub long : length ops ≡ WORDS
+  pub total : m ≡ upTo f k
+  pub few : m ≤ k
+  pub has : (x : ℕ) → So (bit ops 0 x) ↔ ((x < k) × So (f .operation x))
+
+pub counting-none : (f : Frame) (ops : List ℕ) → ops ≡ emptyOf WORDS → Counting f 0 ops 0
+unfolding sum
+counting-none f ops e = rw e (record { long = empty-long WORDS; total = refl; few = omega arith; has = λ x. (λ t. absurd (false≢true (sym (empty-bit WORDS 0 x) ∙ t)), λ h. absurd (omega (arith, h .0))) })
+
+module _ (f : Frame) (k : ℕ) (ops : List ℕ) (m : ℕ) (now : Counting f k ops m) where
+  step : (b : Bool) → f .operation k ≡ b → upTo f (k + 1) ≡ cond b 1 0 + upTo f k
+  unfolding sum
+  step b e = rw (add-one, sum, e) refl
+
+  pub counting-more : So (f .operation k) → k < RECORDS → Counting f (k + 1) (putOf ops 0 k) (m + 1)
+  counting-more t l =
+      let more = put-more ops k (now .long) l in
+      record {
+        long = more .long;
+        total = omega (arith, step _ t, now .total);
+        few = omega (arith, now .few);
+        has = λ x. (
+          λ u. elim (more .has x .0 u) [ inl v ↦ let h = now .has x .0 v in (omega (arith, h .0), h .1) | inr e ↦ (omega arith, rw e t) ],
+          λ h. more .has x .1 (elim (eq? x k) [ inl e ↦ inr e | inr d ↦ inl (now .has x .1 (omega (arith, h .0), h .1)) ]),
+        );
+      }
+
+  pub counting-skip : f .operation k ≡ false → Counting f (k + 1) ops m
+  counting-skip t = record {
+    long = now .long;
+    total = omega (arith, step _ t, now .total);
+    few = omega (arith, now .few);
+    has = λ x. (
+      λ u. let h = now .has x .0 u in (omega (arith, h .0), h .1),
+      λ h. now .has x .1 (elim (eq? x k) [ inl e ↦ absurd (false≢true (sym t ∙ ap (f .operation) (sym e) ∙ h .1)) | inr d ↦ omega (arith, h .0) ], h .1),
+    );
+  }
+
+pub counted : (t : Trace) (k : ℕ) (ops : List ℕ) (m : ℕ) → k ≡ t .len → Counting (frameOf t) k ops m → Counted (frameOf t) ops m
+unfolding operations frameOf
+counted t k ops m e now = record {
+  total = now .total ∙ ap (upTo (frameOf t)) e;
+  has = λ x. (λ u. now .has x .0 u .1, λ u. now .has x .1 (omega (arith, operation-iff t x .0 u .0), u));
+}
+
+pub sources-more : (f : Frame) (sources : List ℕ) (k : ℕ) → k < length sources → ((L : ℕ) → L < k → getD sources L 0 ≡ sourceOf f L) → (s : ℕ) → s ≡ sourceOf f k
+    → (L : ℕ) → L < k + 1 → getD (set sources k s) L 0 ≡ sourceOf f L
+sources-more f sources k l h s e =
+    below-more _ k (λ L b. getD-set-other sources k L s 0 (λ d. omega arith) ∙ h L b) (getD-set-same sources k s 0 l ∙ e)
+
+pub lacks-read : (t : Trace) → So (wellFormed t) → (L : ℕ) → L < t .len → (a : Bool) (v u s : ℕ) → a ≡ reads (at t L) → v ≡ read (at t L) → u ≡ first t (address (at t L)) → s ≡ sourceOf (frameOf t) L
+    → (a && not (eqb v u) && leb RECORDS s) ≡ missing? (frameOf t) L
+lacks-read t w L l a v u s p q r o = rw (p, q, r, o) (
+    subst (λ (b : Bool). (b && reads (at t L) && not (eqb (read (at t L)) (first t (address (at t L)))) && leb RECORDS (sourceOf (frameOf t) L)) ≡ missing? (frameOf t) L) (so-lt .1 l) (lacks-parts t w L)
+    )

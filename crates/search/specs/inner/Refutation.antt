@@ -1,0 +1,45 @@
+-- When a set of placed operations leaves no room for a valid order, as rules 6 and 7 show it. A ranking stands for the places in an order.
+--
+--   RankedRows rows pos   == what a row has is ranked below the row's own number
+--   Leads b x y pos       == where the test b passes, x is ranked below y
+--   Obeys placed S L z pos == what a ranking owes to a load L, its source S and another writer z: the placed below the others, rules 6 and 7
+--   Settling, Ranking     == the same for all such writers, and for all loads below n that have a source
+--   Grown O a b           == the rows b rank nothing that a did not, in rankings with O
+--   Partly before a b     == the rows b have what a has, some of `before` and no more
+--   Refuted ..            == there is no ranking at all
+use mathlib.Core.Path.{_≡_}
+use mathlib.Core.Logic.{_≢_, _⊎_}
+use mathlib.Core.Bool.{Bool, false, So}
+use mathlib.Core.List.{List}
+use Prim.Native.Nat.{ℕ, _<_}
+use lib.ListN.{length, getD}
+use Rattle.trace.specs.Bounds.{RECORDS}
+use Rattle.rows.specs.Rows.{bit}
+
+abbrev pub RankedRows : List ℕ → (ℕ → ℕ) → Type 0
+RankedRows rows pos = (x y : ℕ) → So (bit rows y x) → pos x < pos y
+
+abbrev pub Leads : Bool → ℕ → ℕ → (ℕ → ℕ) → Type 0
+Leads b x y pos = So b → pos x < pos y
+
+pub record Obeys (placed : List ℕ) (S L z : ℕ) (pos : ℕ → ℕ) : Type 0 where
+  pub split : So (bit placed 0 S) → bit placed 0 z ≡ false → pos S < pos z
+  pub sixth : pos z < pos L → pos z < pos S
+  pub seventh : pos S < pos z → pos L < pos z
+
+abbrev pub Settling : List ℕ → List ℕ → ℕ → ℕ → (ℕ → ℕ) → Type 0
+Settling writers placed S L pos = (z : ℕ) → So (bit writers L z) → z ≢ S → Obeys placed S L z pos
+
+abbrev pub Ranking : ℕ → List ℕ → List ℕ → List ℕ → (ℕ → ℕ) → Type 0
+Ranking n writers sources placed pos = (L : ℕ) → L < n → getD sources L 0 < RECORDS → Settling writers placed (getD sources L 0) L pos
+
+pub record Grown (O : (ℕ → ℕ) → Type 0) (a b : List ℕ) : Type 0 where
+  pub long : length b ≡ length a
+  pub ranks : (pos : ℕ → ℕ) → O pos → RankedRows a pos → RankedRows b pos
+
+pub record Partly (before a b : List ℕ) : Type 0 where
+  pub long : length b ≡ length a
+  pub pairs : (x y : ℕ) → So (bit b x y) → So (bit a x y) ⊎ So (bit before x y)
+
+abbrev pub Refuted : ℕ → List ℕ → List ℕ → List ℕ → List ℕ → Type 0
+Refuted n before writers sources placed = (pos : ℕ → ℕ) → Ranking n writers sources placed pos → RankedRows before pos → ⊥

@@ -1,0 +1,35 @@
+-- What the private functions cite beside the words.
+--
+--   foundOf x    == a lowest place, or none
+--   DigitsBelow t last == the digit that is packed is one of its load's
+--   placeAfter t i k, readPut t i k d vs == the next place, and the reads, once record i is looked at: its digit is d
+--   over us ws k == word k of ws is larger than that of us
+use mathlib.Core.Bool.{Bool, So, cond}
+use mathlib.Core.List.{List}
+use mathlib.Core.Option.{Option, none, some}
+use Prim.Native.Nat.{ℕ, _+_, _<_}
+use lib.Dec.{ltb}
+use lib.ListN.{getD, set}
+use Rattle.trace.specs.Op.{reads}
+use Rattle.trace.specs.Trace.{at}
+use Rattle.trace.specs.declared.Trace.{Trace}
+use Rattle.signature.specs.Reads.{rangeOf, valueOf}
+use Rattle.signature.specs.inner.WordsLaid.{choice}
+use Rattle.signature.specs.declared.Found.{Found}
+use Rattle.signature.specs.declared.Found.the-variants.{At, Nothing}
+
+abbrev pub foundOf : Option ℕ → Found
+foundOf (some i) = At i
+foundOf none = Nothing
+
+abbrev pub DigitsBelow : Trace → Bool → Type 0
+DigitsBelow t last = (L : ℕ) → L < t .len → So (reads (at t L)) → choice t last L < rangeOf t L
+
+unfoldable pub over : List ℕ → List ℕ → ℕ → Bool
+over us ws k = ltb (getD us k 0) (getD ws k 0)
+
+unfoldable pub placeAfter : Trace → ℕ → ℕ → ℕ
+placeAfter t i k = cond (reads (at t i)) (k + 1) k
+
+unfoldable pub readPut : Trace → ℕ → ℕ → ℕ → List ℕ → List ℕ
+readPut t i k d vs = cond (reads (at t i)) (set vs k (valueOf t i d)) vs
