@@ -25,7 +25,7 @@ use Rattle.rules.proofs.VerdictComputed.{verdict-says}
 use Rattle.smaller.specs.Smaller.{bareSmaller, Cuts, By, ToldSmaller}
 use Rattle.smaller.specs.declared.Answer.the-variants.{NoModel, NotWellFormed, NoSource, NothingWrong}
 use Rattle.smaller.specs.declared.Smaller.{Smaller}
-use Rattle.smaller.proofs.Cutting.{NoOrder}
+use Rattle.smaller.specs.inner.RecordSets.{NoOrder}
 
 module _ (t : Trace) (m : ℕ) where
   pub told-model : modelled m ≡ false → ToldSmaller t m (bareSmaller NoModel)

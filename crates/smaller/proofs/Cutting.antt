@@ -2,6 +2,7 @@
 --
 --   fault?       == a trace has a valid order, or none
 --   faulty-found == the search tells it
+--   circled-none == what closes a circle has no valid order
 --   not-there    == a test that fails beside one that passes
 --   goes-at      == what goes with a record, as the rows have it
 --   tried-no, tried-yes, tried-kept == a look at a record that is not there; one that takes its record, and one that does not
@@ -22,7 +23,8 @@ use Rattle.trace.specs.Meaning.{frameOf}
 use Rattle.trace.specs.WellFormed.{wellFormed}
 use Rattle.trace.specs.declared.Trace.{Trace}
 use Rattle.trace.proofs.Good.{good}
-use Rattle.rows.specs.Bounds.{WORDS}
+use Rattle.rows.specs.Bounds.{WORDS, CELLS}
+use Rattle.rows.specs.Empty.{emptyOf}
 use Rattle.rows.specs.Rows.{bit}
 use Rattle.pairs.specs.Kept.{modelled, keptOf}
 use Rattle.pairs.proofs.KeptPairs.{kept-joins}
@@ -30,6 +32,9 @@ use Rattle.rules.specs.Verdict.{faulty}
 use Rattle.rules.proofs.ComputedVerdict.{verdict?}
 use Rattle.rules.proofs.Says.{faulty-exactly}
 use Rattle.rules.proofs.VerdictComputed.{verdict-says}
+use Rattle.edges.specs.ForcedPairs.{Forces}
+use Rattle.edges.specs.declared.Forced.{Forced}
+use Rattle.search.proofs.Guiding.{refuted-none}
 use Rattle.search.specs.FirstOrder.{found?, FirstOrder}
 use Rattle.search.specs.declared.Order.{Order}
 use Rattle.parts.specs.Removal.{Set, every, Goes}
@@ -40,11 +45,7 @@ use Rattle.parts.proofs.Removal.{goes-iff}
 use Rattle.parts.proofs.Alike.{picked-alike}
 use Rattle.parts.proofs.Down.{cut-removed, removed-one}
 use Rattle.parts.proofs.Looks.{Looks, left-well, looks-none, looks-gone, looks-kept, looks-all}
-use Rattle.smaller.specs.inner.RecordSets.{Chosen, ReaderChains, withoutRecord, TriedRecord, LeftOver}
-
--- no valid order
-abbrev pub NoOrder : Trace → ℕ → Type 0
-NoOrder t m = (xs : List ℕ) → Valid (frameOf t) (keptOf m t) xs → ⊥
+use Rattle.smaller.specs.inner.RecordSets.{Chosen, ReaderChains, withoutRecord, TriedRecord, LeftOver, NoOrder}
 
 pub fault? : (t : Trace) → So (wellFormed t) → (m : ℕ) → NoOrder t m ⊎ (NoOrder t m → ⊥)
 fault? t w m =
@@ -58,6 +59,9 @@ faulty-found t w m k o q = go (o .found) (q .first (and-iff same-iff same-iff .1
     go : (b : Bool) → Least (Valid (frameOf t) (keptOf m t)) (found? b (take (o .len) (o .operations))) → So (not b) ↔ NoOrder t m
     go true l = (λ t. absurd (false≢true t), λ n. absurd (n _ (l .0)))
     go false l = (λ _. l, λ _. refl)
+
+pub circled-none : (t : Trace) → So (wellFormed t) → (m : ℕ) → So (modelled m) → (r : Forced) → Forces t m (emptyOf CELLS) r → So (r .contradicted) → NoOrder t m
+circled-none t w m k r q = refuted-none t m (and-iff same-iff same-iff .1 (w, k)) r q
 
 pub not-there : (a b : Bool) → So b → (a && b) ≡ false → a ≡ false
 not-there a b h e = elim (test a) [ inl s ↦ absurd (false≢true (sym e ∙ and-iff same-iff same-iff .1 (s, h))) | inr n ↦ n ]

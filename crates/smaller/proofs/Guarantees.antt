@@ -32,7 +32,7 @@ use Rattle.smaller.specs.Smaller.{By, ToldSmaller}
 use Rattle.smaller.specs.declared.Answer.{Answer}
 use Rattle.smaller.specs.declared.Answer.the-variants.{NoModel, NotWellFormed, NoSource, NothingWrong, Cut}
 use Rattle.smaller.specs.declared.Smaller.{Smaller}
-use Rattle.smaller.proofs.Cutting.{NoOrder}
+use Rattle.smaller.specs.inner.RecordSets.{NoOrder}
 
 -- the two verdicts that are cut down
 abbrev pub Unordered : Verdict → Type 0

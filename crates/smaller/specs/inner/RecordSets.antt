@@ -5,6 +5,9 @@
 --   withoutRecord t k i == the set without record i and what goes with it
 --   TriedRecord t m i k l == the set l is k after one look at record i: it goes where it is there and the fault is still there without it
 --   LeftOver t m l    == the set l is what is left of the trace
+--   NoOrder t m       == the trace has no valid order under the model
+--   NO_FAULT          == the number that says that nothing is wrong; how else a trace is faulty no promise asks
+--   FaultTold t m r   == the number r says whether the trace has no valid order
 use mathlib.Core.Path.{_≡_}
 use mathlib.Core.Logic.{_↔_}
 use mathlib.Core.Bool.{So}
@@ -13,10 +16,12 @@ use Prim.Native.Nat.{ℕ, _<_}
 use lib.ListN.{length}
 use Rattle.laws.specs.Relation.{Chain}
 use Rattle.rules.specs.Frame.{Frame, Source}
+use Rattle.rules.specs.Order.{Valid}
 use Rattle.trace.specs.Meaning.{frameOf}
 use Rattle.trace.specs.declared.Trace.{Trace}
 use Rattle.rows.specs.Bounds.{WORDS}
 use Rattle.rows.specs.Rows.{bit}
+use Rattle.pairs.specs.Kept.{keptOf}
 use Rattle.parts.specs.Removal.{Set}
 use Rattle.parts.specs.inner.RemovalTests.{goes?, cutAway}
 use Rattle.parts.specs.CutDown.{Faulty, Left}
@@ -39,3 +44,13 @@ pub record LeftOver (t : Trace) (m : ℕ) (l : List ℕ) : Type 0 where
   pub kept : Set
   pub left : Left t m kept
   pub same : (x : ℕ) → x < t .len → Chosen l x ≡ kept x
+
+abbrev pub NoOrder : Trace → ℕ → Type 0
+NoOrder t m = (xs : List ℕ) → Valid (frameOf t) (keptOf m t) xs → ⊥
+
+abbrev pub NO_FAULT : ℕ
+NO_FAULT = 0
+
+pub record FaultTold (t : Trace) (m r : ℕ) : Type 0 where
+  pub sound : r ≡ NO_FAULT → NoOrder t m → ⊥
+  pub faulty : (r ≡ NO_FAULT → ⊥) → NoOrder t m
