@@ -2,30 +2,11 @@
 // and the circle that is shown with its rules, or every held pair.
 use circle::show::Circle;
 use edges::Forced;
-use libc::STDOUT_FILENO;
-use reader::Answer;
+use saying::say;
+use saying::say_u8;
+use saying::say_u16;
+use saying::say_usize;
 use trace::Trace;
-
-fn wide8(x: u8) -> u64 {
-    x as u64
-}
-
-fn wide16(x: u16) -> u64 {
-    x as u64
-}
-
-fn long(x: usize) -> u64 {
-    x as u64
-}
-
-fn say(word: &[u8]) {
-    io::write_all(STDOUT_FILENO, word);
-}
-
-fn say_number(word: &[u8], n: u64) {
-    io::write_all(STDOUT_FILENO, word);
-    io::print_decimal(STDOUT_FILENO, n);
-}
 
 // The first len of some records.
 fn say_numbers(numbers: &[u16], len: usize) {
@@ -33,7 +14,7 @@ fn say_numbers(numbers: &[u16], len: usize) {
     while i < numbers.len() {
         if i < len {
             let n = numbers[i];
-            say_number(b" ", wide16(n));
+            say_u16(b" ", n);
         }
         i += 1;
     }
@@ -45,7 +26,7 @@ fn say_rules(rules: &[u8], len: usize) {
     while i < rules.len() {
         if i < len {
             let n = rules[i];
-            say_number(b" ", wide8(n));
+            say_u8(b" ", n);
         }
         i += 1;
     }
@@ -65,8 +46,8 @@ fn say_row(held: &[u64], x: usize) {
     let mut y: usize = 0;
     while y < trace::RECORDS {
         if rows::test(held, x, y) {
-            say_number(b" ", long(x));
-            say_number(b"-", long(y));
+            say_usize(b" ", x);
+            say_usize(b"-", y);
         }
         y += 1;
     }
@@ -87,7 +68,7 @@ fn say_model(name: &[u8], word: &[u8], t: Trace, model: u8) {
     say(word);
     let none = [0u64; rows::CELLS];
     let last = edges::force::last_round(t, model, &none);
-    say_number(b"round ", long(last.number));
+    say_usize(b"round ", last.number);
     say(b", ");
     let c = circle::show::circle_of(t, model);
     if 0 < c.len {

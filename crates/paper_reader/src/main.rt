@@ -2,12 +2,14 @@
 // the line of a text that is turned back. More than one trace and list may be named, each trace with its list behind it.
 ghost use Prim.Native.Nat.{_≤_};
 ghost use lib.ListN.{length};
-use libc::STDERR_FILENO;
-use libc::STDOUT_FILENO;
 use papers::reading::Acceptance;
 use papers::reading::accepts;
 use reader::Answer;
 use reader::turns::number;
+use saying::say;
+use saying::say_u8;
+use saying::say_usize;
+use saying::tell;
 use text::digits::run_at;
 use trace::Trace;
 
@@ -21,14 +23,6 @@ const BYTES: usize = 393216;
 struct Listed {
     count: usize,
     good: bool,
-}
-
-fn long(x: usize) -> u64 {
-    x as u64
-}
-
-fn long8(x: u8) -> u64 {
-    x as u64
 }
 
 // Puts a number at a place, where there is one.
@@ -78,11 +72,7 @@ fn numbers(bytes: &[u8], list: &mut [u16]) -> Listed
     Listed { count, good: true }
 }
 
-fn say(word: &[u8]) {
-    io::write_all(STDOUT_FILENO, word);
-}
-
-fn say_model(name: &[u8], t: Trace, model: u8, list: &[u16]) {
+fn say_model(name: &[u8], t: Trace, model: u8, list: &[u16]) -> bool {
     say(name);
     let a = accepts(t, model, list);
     match a {
@@ -100,11 +90,9 @@ fn say_models(t: Trace, list: &[u16]) {
     say_model(b"WMO", t, pairs::WMO, list);
 }
 
-fn say_refused(n: u64, line: u64) {
-    say(b"refused ");
-    io::print_decimal(STDOUT_FILENO, n);
-    say(b" line ");
-    io::print_decimal(STDOUT_FILENO, line);
+fn say_refused(n: u8, line: usize) {
+    say_u8(b"refused ", n);
+    say_usize(b" line ", line);
     say(b"\n");
 }
 
@@ -113,7 +101,7 @@ fn answer(text: &[u8], list: &[u16]) {
     let a = reading.answer;
     match a {
         Answer::Good => say_models(reading.trace, list),
-        Answer::Refused { reason, line } => say_refused(long8(number(reason)), long(line)),
+        Answer::Refused { reason, line } => say_refused(number(reason), line),
         Answer::Lost => say_refused(22, 0),
     }
 }
@@ -154,7 +142,7 @@ fn case(i: usize, j: usize) {
 fn main() {
     let count = os::arg_count();
     if count < 3 {
-        io::write_all(STDERR_FILENO, b"usage: paper_reader TRACE LIST ..\n");
+        tell(b"usage: paper_reader TRACE LIST ..\n");
         return;
     }
     let mut i: usize = 1;

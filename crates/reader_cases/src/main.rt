@@ -3,28 +3,15 @@
 use libc::STDOUT_FILENO;
 use reader::Answer;
 use reader::Place;
+use saying::say;
+use saying::say_u8;
+use saying::say_u16;
+use saying::say_usize;
 use trace::Op;
 use trace::Trace;
 
 fn wide8(x: u8) -> u64 {
     x as u64
-}
-
-fn wide16(x: u16) -> u64 {
-    x as u64
-}
-
-fn long(x: usize) -> u64 {
-    x as u64
-}
-
-fn say(word: &[u8]) {
-    io::write_all(STDOUT_FILENO, word);
-}
-
-fn say_number(word: &[u8], n: u64) {
-    io::write_all(STDOUT_FILENO, word);
-    io::print_decimal(STDOUT_FILENO, n);
 }
 
 // A byte as it is, or its number in hexadecimal where it is no sign of ASCII.
@@ -49,25 +36,25 @@ fn say_part(part: &[u8]) {
 
 // Where the part lies: no program can see that of the part itself, and the reader promises that this is its place.
 fn say_place(place: Place) {
-    say_number(b" ", long(place.start));
-    say_number(b"..", long(place.end));
+    say_usize(b" ", place.start);
+    say_usize(b"..", place.end);
 }
 
 fn say_record(op: Op) {
     match op {
         Op::Load { thread, addr, read } => {
-            say_number(b" load ", wide8(thread));
-            say_number(b" ", wide8(addr));
-            say_number(b" ", wide16(read));
+            say_u8(b" load ", thread);
+            say_u8(b" ", addr);
+            say_u16(b" ", read);
         }
         Op::Store {
             thread,
             addr,
             written,
         } => {
-            say_number(b" store ", wide8(thread));
-            say_number(b" ", wide8(addr));
-            say_number(b" ", wide16(written));
+            say_u8(b" store ", thread);
+            say_u8(b" ", addr);
+            say_u16(b" ", written);
         }
         Op::Swap {
             thread,
@@ -75,13 +62,13 @@ fn say_record(op: Op) {
             read,
             written,
         } => {
-            say_number(b" swap ", wide8(thread));
-            say_number(b" ", wide8(addr));
-            say_number(b" ", wide16(read));
-            say_number(b" ", wide16(written));
+            say_u8(b" swap ", thread);
+            say_u8(b" ", addr);
+            say_u16(b" ", read);
+            say_u16(b" ", written);
         }
         Op::Fence { thread } => {
-            say_number(b" fence ", wide8(thread));
+            say_u8(b" fence ", thread);
         }
     }
 }
@@ -92,8 +79,8 @@ fn say_firsts(t: Trace) {
     while i < trace::FIRSTS {
         let value = t.firsts[i];
         if value != 0 {
-            say_number(b" first ", long(i));
-            say_number(b" ", wide16(value));
+            say_usize(b" first ", i);
+            say_u16(b" ", value);
         }
         i += 1;
     }
@@ -102,7 +89,7 @@ fn say_firsts(t: Trace) {
 // The used records; a trace that comes from the reader has no more than its places.
 fn say_records(t: Trace) {
     let len = t.len;
-    say_number(b": ", long(len));
+    say_usize(b": ", len);
     say(b" records");
     let mut i: usize = 0;
     while i < trace::RECORDS {
@@ -125,11 +112,11 @@ fn answer(text: &[u8]) {
             say_firsts(t);
         }
         Answer::Refused { reason, line } => {
-            say_number(b": refused ", wide8(reader::turns::number(reason)));
-            say_number(b" line ", long(line));
+            say_u8(b": refused ", reader::turns::number(reason));
+            say_usize(b" line ", line);
         }
         Answer::Lost => {
-            say_number(b": refused ", wide8(reader::LOST));
+            say_u8(b": refused ", reader::LOST);
             say(b" line 0");
         }
     }

@@ -2,11 +2,9 @@
 // A text that is turned back has its one line. Where it could not read or write, or was given words, it says so on standard error.
 ghost use Prim.Native.Nat.{_<_};
 
-mod input;
 mod walk;
 mod words;
 
-use libc::STDERR_FILENO;
 use libc::STDOUT_FILENO;
 use machine::STEPS;
 use machine::Steps;
@@ -14,6 +12,8 @@ use machine::replaying::steps_of;
 use pairs::SC;
 use pairs::TSO;
 use reader::Answer;
+use saying::input::fill;
+use saying::tell;
 use text::Cursor;
 use trace::RECORDS;
 use trace::THREADS;
@@ -140,7 +140,7 @@ fn answer(text: &[u8]) {
 // Reads the text and answers it. Where a read failed nothing is replayed: half a trace may be good where the whole one is not.
 fn watch() {
     let mut text: [u8; ROOM] = [0; 32769];
-    let got = input::fill(&mut text);
+    let got = fill(&mut text);
     let n = got.count;
     if got.whole {
         answer(&text[..n]);
@@ -151,10 +151,7 @@ fn watch() {
 
 fn main() {
     if os::arg_count() > 1 {
-        io::write_all(
-            STDERR_FILENO,
-            b"usage: replay < TRACE (it takes no words)\n",
-        );
+        tell(b"usage: replay < TRACE (it takes no words)\n");
     } else {
         watch();
     }

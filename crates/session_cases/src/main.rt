@@ -1,11 +1,13 @@
 // Talks with a session on a trace: each line of a script is a call, and its answer is printed behind it; a trace's line adds its record. After each call
 // the session is compared with one that the library opens afresh on all the records, with the pairs that should still stand supposed in turn; where it is
 // another, that is said. A script can also forge the session, and make calls at random.
-use libc::STDOUT_FILENO;
 use pairs::kind;
 use reader::Form;
 use reader::Raw;
 use reader::forms::form;
+use saying::say;
+use saying::say_number;
+use saying::say_usize;
 use session::Answer;
 use session::PAIRS;
 use session::Pair;
@@ -68,15 +70,6 @@ fn model_of(n: u32) -> u8 {
     if n < 256 { n as u8 } else { 255 }
 }
 
-fn say(word: &[u8]) {
-    io::write_all(STDOUT_FILENO, word);
-}
-
-fn say_number(word: &[u8], n: u64) {
-    io::write_all(STDOUT_FILENO, word);
-    io::print_decimal(STDOUT_FILENO, n);
-}
-
 // Document 01's number of a reason.
 fn number(r: Reason) -> u64 {
     match r {
@@ -94,13 +87,13 @@ fn number(r: Reason) -> u64 {
     }
 }
 
-fn say_answer(a: Answer) {
+fn say_answer(a: Answer) -> bool {
     match a {
         Answer::Done => say(b": done"),
         Answer::Held => say(b": held"),
         Answer::NotHeld => say(b": not held"),
         Answer::Contradicted => say(b": contradicted"),
-        Answer::Waits(x) => say_number(b": waits record ", long(x)),
+        Answer::Waits(x) => say_usize(b": waits record ", x),
         Answer::Refused(r) => say_number(b": refused ", number(r)),
     }
 }

@@ -2,7 +2,6 @@
 // standard error the old number of each record, each core that was renumbered, and the verdicts on what is left. Whatever else there is to say, that
 // nothing is wrong, a missing source or a text that is turned back, is said on standard error too.
 mod cores;
-mod input;
 
 use cores::closed_up;
 use cores::numbered;
@@ -13,6 +12,11 @@ use pairs::modelled;
 use reader::Answer;
 use report::render::RENDER;
 use report::render::render;
+use saying::front;
+use saying::input::fill;
+use saying::tell_u8;
+use saying::tell_u16;
+use saying::tell_usize;
 use smaller::Smaller;
 use smaller::cut::smaller;
 use trace::THREADS;
@@ -21,41 +25,14 @@ use trace::Trace;
 // One byte more than a text may have, so that a text that is too long shows itself.
 const ROOM: usize = 32769;
 
-fn wide(x: u16) -> u64 {
-    x as u64
-}
-
-fn core(x: u8) -> u64 {
-    x as u64
-}
-
-fn long(x: usize) -> u64 {
-    x as u64
-}
-
-// A word on standard error.
-fn say(word: &[u8]) {
-    io::write_all(STDERR_FILENO, word);
-}
-
-fn say_number(word: &[u8], n: u64) {
-    io::write_all(STDERR_FILENO, word);
-    io::print_decimal(STDERR_FILENO, n);
-}
-
-// A new number and the old one behind it.
-fn say_was(word: &[u8], new: u64, old: u64) {
-    say_number(word, new);
-    say_number(b" was ", old);
-    say(b"\n");
-}
-
 // The old number of each record that is left.
 fn say_olds(olds: &[u16], left: usize) {
     let mut i: usize = 0;
     while i < olds.len() {
         if i < left {
-            say_was(b"", long(i), wide(olds[i]));
+            tell_usize(b"", i);
+            tell_u16(b" was ", olds[i]);
+            saying::tell(b"\n");
         }
         i += 1;
     }
@@ -67,18 +44,12 @@ fn say_cores(t: Trace) {
     while old < THREADS {
         let new = numbered(t, old);
         if used(t, old) && new < old {
-            say_was(b"core ", core(new), core(old));
+            tell_u8(b"core ", new);
+            tell_u8(b" was ", old);
+            saying::tell(b"\n");
         }
         old += 1;
     }
-}
-
-// The first bytes of a buffer.
-fn front(to: i32, bytes: &[u8], n: usize) -> bool {
-    if n <= bytes.len() {
-        return io::write_all(to, &bytes[0..n]);
-    }
-    false
 }
 
 // What the program at the bench answers to a text.
@@ -119,12 +90,12 @@ fn tell(s: Smaller) -> bool {
     match answer {
         smaller::Answer::Cut => leave(s),
         smaller::Answer::NothingWrong => {
-            say(b"nothing wrong\n");
+            saying::tell(b"nothing wrong\n");
             true
         }
         smaller::Answer::NoSource(x) => {
-            say_number(b"no source ", long(x));
-            say(b"\n");
+            tell_usize(b"no source ", x);
+            saying::tell(b"\n");
             true
         }
         smaller::Answer::NoModel => true,
@@ -159,7 +130,7 @@ fn answer(text: &[u8], model: u8) {
 // Reads the text and cuts it down. Where a read failed nothing is cut: half a trace may be good where the whole one is not.
 fn watch(model: u8) {
     let mut text: [u8; ROOM] = [0; 32769];
-    let got = input::fill(&mut text);
+    let got = fill(&mut text);
     let n = got.count;
     if got.whole {
         answer(&text[..n], model);
@@ -197,6 +168,6 @@ fn main() {
     if modelled(model) {
         watch(model);
     } else {
-        say(b"usage: shrink MODEL < TRACE (1 is SC, 2 TSO, 3 PSO, 4 WMO)\n");
+        saying::tell(b"usage: shrink MODEL < TRACE (1 is SC, 2 TSO, 3 PSO, 4 WMO)\n");
     }
 }

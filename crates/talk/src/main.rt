@@ -7,9 +7,12 @@ ghost use lib.ListN.{length};
 mod asking;
 mod telling;
 
-use libc::STDERR_FILENO;
 use libc::STDIN_FILENO;
-use libc::STDOUT_FILENO;
+use saying::input::interrupted;
+use saying::say;
+use saying::say_u8;
+use saying::say_usize;
+use saying::tell;
 use telling::Said;
 use telling::Talk;
 use telling::Told;
@@ -34,34 +37,17 @@ struct Heard {
     spoke: bool,
 }
 
-fn long(x: usize) -> u64 {
-    x as u64
-}
-
-fn wide(x: u8) -> u64 {
-    x as u64
-}
-
-fn say(word: &[u8]) -> bool {
-    io::write_all(STDOUT_FILENO, word)
-}
-
-// A word, a number, and a word.
-fn say_number(word: &[u8], n: u64, rest: &[u8]) -> bool {
-    say(word) && io::print_decimal(STDOUT_FILENO, n) && say(rest)
-}
-
 // The words of an answer, without its line feed.
 fn say_told(told: Told) -> bool {
     match told {
         Told::Done => say(b"done"),
-        Told::Record(x) => say_number(b"record ", long(x), b""),
+        Told::Record(x) => say_usize(b"record ", x),
         Told::Held => say(b"held"),
         Told::NotHeld => say(b"not held"),
         Told::Contradicted => say(b"contradicted"),
-        Told::Waits(x) => say_number(b"record ", long(x), b" waits"),
+        Told::Waits(x) => say_usize(b"record ", x) && say(b" waits"),
         Told::NoneWaits => say(b"none waits"),
-        Told::Refused(n) => say_number(b"refused ", wide(n), b""),
+        Told::Refused(n) => say_u8(b"refused ", n),
     }
 }
 
@@ -137,11 +123,6 @@ fn last(talk: Talk, line: &[u8]) {
     }
 }
 
-// Whether a signal came before the last call had moved a byte.
-fn interrupted() -> bool {
-    os::errno() == libc::EINTR
-}
-
 // Waits for input and answers it, until it has ended.
 fn listen() {
     let mut talk = fresh();
@@ -173,7 +154,7 @@ fn listen() {
 
 fn main() {
     if os::arg_count() > 1 {
-        io::write_all(STDERR_FILENO, b"usage: talk < LINES (it takes no words)\n");
+        tell(b"usage: talk < LINES (it takes no words)\n");
     } else {
         listen();
     }

@@ -1,39 +1,30 @@
 // A packed file on standard input, the text of its trace on standard output. A file that is turned back has the line of its refusal on standard error,
 // and nothing is written. Where it could not read or write, or was given words, it says so on standard error.
-mod input;
-mod refusal;
-
-use libc::STDERR_FILENO;
 use libc::STDOUT_FILENO;
 use packed::Answer;
 use packed::number;
 use packed::unpacking::read_whole;
-use refusal::refuse;
 use report::render::RENDER;
 use report::render::render;
+use saying::front;
+use saying::input::fill;
+use saying::refuse_at;
+use saying::tell;
 use trace::Trace;
 
 // One byte more than a file whose head says how long it is may have, with 255 first values and 65,535 records: what is longer is left over, however
 // much it is.
 const ROOM: usize = 525054;
 
-// Whether the first n bytes of a text could be written.
-fn written(text: &[u8], n: usize) -> bool {
-    if n <= text.len() {
-        return io::write_all(STDOUT_FILENO, &text[0..n]);
-    }
-    true
-}
-
 // Prints the first n bytes of a text.
 fn show(text: &[u8], n: usize) {
-    if !written(text, n) {
+    if !front(STDOUT_FILENO, text, n) {
         os::fail(b"unpack: standard output");
     }
 }
 
 // Prints the text of a trace.
-fn tell(t: Trace) {
+fn print(t: Trace) {
     let mut text = [0u8; RENDER];
     let n = render(t, &mut text);
     show(&text, n);
@@ -44,15 +35,15 @@ fn answer(file: &[u8]) {
     let reading = read_whole(file);
     let answer = reading.answer;
     match answer {
-        Answer::Good => tell(reading.trace),
-        Answer::Refused { reason, line } => refuse(number(reason), line),
+        Answer::Good => print(reading.trace),
+        Answer::Refused { reason, line } => refuse_at(number(reason), b" line ", line),
     }
 }
 
 // Reads the file and unpacks it. Where a read failed nothing is told: half a file is none.
 fn unpack() {
     let mut file: [u8; ROOM] = [0; 525054];
-    let got = input::fill(&mut file);
+    let got = fill(&mut file);
     let n = got.count;
     if got.whole {
         answer(&file[..n]);
@@ -63,10 +54,7 @@ fn unpack() {
 
 fn main() {
     if os::arg_count() > 1 {
-        io::write_all(
-            STDERR_FILENO,
-            b"usage: unpack < FILE > TRACE (it takes no words)\n",
-        );
+        tell(b"usage: unpack < FILE > TRACE (it takes no words)\n");
     } else {
         unpack();
     }

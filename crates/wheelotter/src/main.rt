@@ -1,9 +1,8 @@
 // The program at the bench: a text on standard input, one line for each model on standard output, or the line of a refusal. Where it could not read or
 // write, or was given words, it says so on standard error.
-mod input;
-
-use libc::STDERR_FILENO;
 use libc::STDOUT_FILENO;
+use saying::input::fill;
+use saying::tell;
 
 // One byte more than a text may have, so that a text that is too long shows itself.
 const ROOM: usize = 32769;
@@ -20,7 +19,7 @@ fn answer(text: &[u8]) {
 // Reads the text and answers it. Where a read failed nothing is judged: half a trace may be good where the whole one is not.
 fn judge() {
     let mut text: [u8; ROOM] = [0; 32769];
-    let got = input::fill(&mut text);
+    let got = fill(&mut text);
     let n = got.count;
     if got.whole {
         answer(&text[..n]);
@@ -31,10 +30,7 @@ fn judge() {
 
 fn main() {
     if os::arg_count() > 1 {
-        io::write_all(
-            STDERR_FILENO,
-            b"usage: wheelotter < TRACE (it takes no words)\n",
-        );
+        tell(b"usage: wheelotter < TRACE (it takes no words)\n");
     } else {
         judge();
     }

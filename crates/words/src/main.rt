@@ -1,23 +1,24 @@
 // The signature of what a text's loads saw: a text on standard input, a line of words for each of the eight threads on standard output. With the word `back`
 // the input has an empty line and words behind the text, and what the loads saw with these words is printed, a line each, by record number. What is turned back
 // is told on standard error, and nothing is printed; so is what could not be read or written, and how the program is used.
-mod input;
 mod list;
-mod told;
 
-use libc::STDERR_FILENO;
-use libc::STDOUT_FILENO;
 use list::empty_line;
 use list::numbers;
 use reader::LOST;
 use reader::turns::number;
+use saying::input::fill;
+use saying::refuse;
+use saying::refuse_at;
+use saying::say;
+use saying::say_number;
+use saying::say_u16;
+use saying::tell;
 use signature::packing::loads_of;
 use signature::packing::pack;
 use signature::packing::words_in;
 use signature::packing::words_of;
 use signature::unpacking::unpack;
-use told::refuse;
-use told::refuse_at;
 use trace::RECORDS;
 use trace::THREADS;
 use trace::Trace;
@@ -25,26 +26,18 @@ use trace::Trace;
 // How many bytes are read: a text of the longest, an empty line, and words in plenty; and one more, so that a longer input shows itself.
 const ROOM: usize = 65537;
 
-fn wide(value: u16) -> u64 {
-    value as u64
-}
-
-fn say(word: &[u8]) {
-    io::write_all(STDERR_FILENO, word);
-}
-
 // Prints words with spaces between, and ends the line.
 fn print_line(words: &[u64]) -> bool {
     let mut good = true;
     let mut i: usize = 0;
     while i < words.len() {
         if 0 < i {
-            good = good & io::write_all(STDOUT_FILENO, b" ");
+            good = good & say(b" ");
         }
-        good = good & io::print_decimal(STDOUT_FILENO, words[i]);
+        good = good & say_number(b"", words[i]);
         i += 1;
     }
-    good & io::write_all(STDOUT_FILENO, b"\n")
+    good & say(b"\n")
 }
 
 // Prints the words of each thread, a line each.
@@ -69,8 +62,7 @@ fn print_reads(reads: &[u16]) -> bool {
     let mut good = true;
     let mut i: usize = 0;
     while i < reads.len() {
-        good = good & io::print_decimal(STDOUT_FILENO, wide(reads[i]));
-        good = good & io::write_all(STDOUT_FILENO, b"\n");
+        good = good & say_u16(b"", reads[i]) & say(b"\n");
         i += 1;
     }
     good
@@ -79,7 +71,7 @@ fn print_reads(reads: &[u16]) -> bool {
 // Tells why nothing is printed.
 fn refused(answer: signature::Answer) {
     match answer {
-        signature::Answer::Done => say(b""),
+        signature::Answer::Done => {}
         signature::Answer::NotWellFormed => refuse(10),
         signature::Answer::WrongLength => refuse(26),
         signature::Answer::NotListed(load) => refuse_at(23, b" record ", load),
@@ -145,7 +137,7 @@ fn back_listed(t: Trace, bytes: &[u8]) -> bool {
     if listed.good {
         return back(t, &list[..count]);
     }
-    say(b"no list of words\n");
+    tell(b"no list of words\n");
     true
 }
 
@@ -185,7 +177,7 @@ fn split(input: &[u8], backwards: bool) -> bool {
 // Reads the input and answers it. Where a read failed nothing is told: half a text is another one.
 fn watch(backwards: bool) {
     let mut buffer: [u8; ROOM] = [0; 65537];
-    let got = input::fill(&mut buffer);
+    let got = fill(&mut buffer);
     let n = got.count;
     if !got.whole {
         os::fail(b"words: standard input");
@@ -208,6 +200,6 @@ fn main() {
     } else if (count == 2) & asked_back() {
         watch(true);
     } else {
-        say(b"usage: words < TRACE, or words back < TRACE, an empty line and words\n");
+        tell(b"usage: words < TRACE, or words back < TRACE, an empty line and words\n");
     }
 }

@@ -20,14 +20,11 @@ mul-n c = search needs
 shared-slice-read-n : tie.Need-shared-slice-read-n Inv-loop μ-loop
 shared-slice-read-n c = search needs
 
-slice-aggregate-say-number : tie.Need-slice-aggregate-say-number Inv-loop μ-loop
-slice-aggregate-say-number c = search needs
+slice-aggregate-say-u16 : tie.Need-slice-aggregate-say-u16 Inv-loop μ-loop
+slice-aggregate-say-u16 c = search needs
 
-wide16-requires : tie.Need-wide16-requires Inv-loop μ-loop
-wide16-requires c κs = search needs
-
-say-number-requires : tie.Need-say-number-requires Inv-loop μ-loop
-say-number-requires c κs = search needs
+say-u16-requires : tie.Need-say-u16-requires Inv-loop μ-loop
+say-u16-requires c κs = search needs
 
 add-i : tie.Need-add-i Inv-loop μ-loop
 add-i c = search needs
@@ -50,9 +47,8 @@ say-numbers-spec =
     loop-holds
     mul-n
     shared-slice-read-n
-    slice-aggregate-say-number
-    wide16-requires
-    say-number-requires
+    slice-aggregate-say-u16
+    say-u16-requires
     add-i
     loop-less
     loop-again

@@ -17,23 +17,17 @@ loop-holds c = search needs
 test-requires : tie.Need-test-requires Inv-loop μ-loop
 test-requires c κs = search needs
 
-slice-aggregate-say-number : tie.Need-slice-aggregate-say-number Inv-loop μ-loop
-slice-aggregate-say-number c = search needs
+slice-aggregate-say-usize : tie.Need-slice-aggregate-say-usize Inv-loop μ-loop
+slice-aggregate-say-usize c = search needs
 
-long-requires : tie.Need-long-requires Inv-loop μ-loop
-long-requires c κs = search needs
+say-usize-requires : tie.Need-say-usize-requires Inv-loop μ-loop
+say-usize-requires c κs = search needs
 
-say-number-requires : tie.Need-say-number-requires Inv-loop μ-loop
-say-number-requires c κs = search needs
+slice-aggregate-say-usize-2 : tie.Need-slice-aggregate-say-usize-2 Inv-loop μ-loop
+slice-aggregate-say-usize-2 c = search needs
 
-slice-aggregate-say-number-2 : tie.Need-slice-aggregate-say-number-2 Inv-loop μ-loop
-slice-aggregate-say-number-2 c = search needs
-
-long-requires-2 : tie.Need-long-requires-2 Inv-loop μ-loop
-long-requires-2 c κs = search needs
-
-say-number-requires-2 : tie.Need-say-number-requires-2 Inv-loop μ-loop
-say-number-requires-2 c κs = search needs
+say-usize-requires-2 : tie.Need-say-usize-requires-2 Inv-loop μ-loop
+say-usize-requires-2 c κs = search needs
 
 add-y : tie.Need-add-y Inv-loop μ-loop
 add-y c = search needs
@@ -55,12 +49,10 @@ say-row-spec =
     μ-loop
     loop-holds
     test-requires
-    slice-aggregate-say-number
-    long-requires
-    say-number-requires
-    slice-aggregate-say-number-2
-    long-requires-2
-    say-number-requires-2
+    slice-aggregate-say-usize
+    say-usize-requires
+    slice-aggregate-say-usize-2
+    say-usize-requires-2
     add-y
     loop-less
     loop-again

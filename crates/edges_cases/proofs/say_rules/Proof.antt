@@ -17,14 +17,11 @@ loop-holds c = search needs
 shared-slice-read-n : tie.Need-shared-slice-read-n Inv-loop μ-loop
 shared-slice-read-n c = search needs
 
-slice-aggregate-say-number : tie.Need-slice-aggregate-say-number Inv-loop μ-loop
-slice-aggregate-say-number c = search needs
+slice-aggregate-say-u8 : tie.Need-slice-aggregate-say-u8 Inv-loop μ-loop
+slice-aggregate-say-u8 c = search needs
 
-wide8-requires : tie.Need-wide8-requires Inv-loop μ-loop
-wide8-requires c κs = search needs
-
-say-number-requires : tie.Need-say-number-requires Inv-loop μ-loop
-say-number-requires c κs = search needs
+say-u8-requires : tie.Need-say-u8-requires Inv-loop μ-loop
+say-u8-requires c κs = search needs
 
 add-i : tie.Need-add-i Inv-loop μ-loop
 add-i c = search needs
@@ -46,9 +43,8 @@ say-rules-spec =
     μ-loop
     loop-holds
     shared-slice-read-n
-    slice-aggregate-say-number
-    wide8-requires
-    say-number-requires
+    slice-aggregate-say-u8
+    say-u8-requires
     add-i
     loop-less
     loop-again

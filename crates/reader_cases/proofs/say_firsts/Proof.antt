@@ -20,23 +20,17 @@ mul-value c = search needs
 element-copy-out-value : tie.Need-element-copy-out-value Inv-loop μ-loop
 element-copy-out-value c = search needs
 
-slice-aggregate-say-number : tie.Need-slice-aggregate-say-number Inv-loop μ-loop
-slice-aggregate-say-number c = search needs
+slice-aggregate-say-usize : tie.Need-slice-aggregate-say-usize Inv-loop μ-loop
+slice-aggregate-say-usize c = search needs
 
-long-requires : tie.Need-long-requires Inv-loop μ-loop
-long-requires c κs = search needs
+say-usize-requires : tie.Need-say-usize-requires Inv-loop μ-loop
+say-usize-requires c κs = search needs
 
-say-number-requires : tie.Need-say-number-requires Inv-loop μ-loop
-say-number-requires c κs = search needs
+slice-aggregate-say-u16 : tie.Need-slice-aggregate-say-u16 Inv-loop μ-loop
+slice-aggregate-say-u16 c = search needs
 
-slice-aggregate-say-number-2 : tie.Need-slice-aggregate-say-number-2 Inv-loop μ-loop
-slice-aggregate-say-number-2 c = search needs
-
-wide16-requires : tie.Need-wide16-requires Inv-loop μ-loop
-wide16-requires c κs = search needs
-
-say-number-requires-2 : tie.Need-say-number-requires-2 Inv-loop μ-loop
-say-number-requires-2 c κs = search needs
+say-u16-requires : tie.Need-say-u16-requires Inv-loop μ-loop
+say-u16-requires c κs = search needs
 
 add-i : tie.Need-add-i Inv-loop μ-loop
 add-i c = search needs
@@ -59,12 +53,10 @@ say-firsts-spec =
     loop-holds
     mul-value
     element-copy-out-value
-    slice-aggregate-say-number
-    long-requires
-    say-number-requires
-    slice-aggregate-say-number-2
-    wide16-requires
-    say-number-requires-2
+    slice-aggregate-say-usize
+    say-usize-requires
+    slice-aggregate-say-u16
+    say-u16-requires
     add-i
     loop-less
     loop-again

@@ -11,14 +11,11 @@ Inv-loop t len i₀ i = i ≤ RECORDS
 abbrev μ-loop : tie.MeasureT-loop
 μ-loop t len i₀ i = RECORDS - i
 
-slice-aggregate-say-number : tie.Need-slice-aggregate-say-number Inv-loop μ-loop
-slice-aggregate-say-number c = search needs
+slice-aggregate-say-usize : tie.Need-slice-aggregate-say-usize Inv-loop μ-loop
+slice-aggregate-say-usize c = search needs
 
-long-requires : tie.Need-long-requires Inv-loop μ-loop
-long-requires c κs = search needs
-
-say-number-requires : tie.Need-say-number-requires Inv-loop μ-loop
-say-number-requires c κs = search needs
+say-usize-requires : tie.Need-say-usize-requires Inv-loop μ-loop
+say-usize-requires c κs = search needs
 
 slice-aggregate-say : tie.Need-slice-aggregate-say Inv-loop μ-loop
 slice-aggregate-say c = search needs
@@ -56,9 +53,8 @@ say-records-spec =
     (tie.spec
     Inv-loop
     μ-loop
-    slice-aggregate-say-number
-    long-requires
-    say-number-requires
+    slice-aggregate-say-usize
+    say-usize-requires
     slice-aggregate-say
     say-requires
     loop-holds

@@ -1,28 +1,13 @@
 // A step in words. Each function says whether it could write all of its part.
-use libc::STDOUT_FILENO;
 use pairs::TSO;
+use saying::say;
+use saying::say_u8;
+use saying::say_u16;
 use trace::Op;
-
-fn wide8(x: u8) -> u64 {
-    x as u64
-}
-
-fn wide16(x: u16) -> u64 {
-    x as u64
-}
-
-fn say(word: &[u8]) -> bool {
-    io::write_all(STDOUT_FILENO, word)
-}
-
-// A word and a number behind it.
-fn say_number(word: &[u8], n: u64) -> bool {
-    io::write_all(STDOUT_FILENO, word) && io::print_decimal(STDOUT_FILENO, n)
-}
 
 // The core, what it does, and the address.
 fn say_core(op: Op, does: &[u8]) -> bool {
-    say_number(b"core ", wide8(op.thread())) && say_number(does, wide8(op.address()))
+    say_u8(b"core ", op.thread()) && say_u8(does, op.address())
 }
 
 // Where a load takes its value from.
@@ -42,22 +27,22 @@ fn say_goal(model: u8) -> bool {
 }
 
 fn say_load(op: Op, own: bool) -> bool {
-    say_core(op, b" loads M[") && say_number(b"], gets ", wide16(op.read())) && say_source(own)
+    say_core(op, b" loads M[") && say_u16(b"], gets ", op.read()) && say_source(own)
 }
 
 fn say_store(op: Op, model: u8) -> bool {
-    say_core(op, b" stores M[") && say_number(b"] := ", wide16(op.written())) && say_goal(model)
+    say_core(op, b" stores M[") && say_u16(b"] := ", op.written()) && say_goal(model)
 }
 
 fn say_swap(op: Op) -> bool {
     say_core(op, b" swaps M[")
-        && say_number(b"], gets ", wide16(op.read()))
-        && say_number(b" from memory, stores ", wide16(op.written()))
+        && say_u16(b"], gets ", op.read())
+        && say_u16(b" from memory, stores ", op.written())
         && say(b"\n")
 }
 
 fn say_fence(op: Op) -> bool {
-    say_number(b"core ", wide8(op.thread())) && say(b" passes a fence\n")
+    say_u8(b"core ", op.thread()) && say(b" passes a fence\n")
 }
 
 // A record that runs, told whether a load takes its value from the core's own buffer.
@@ -72,5 +57,5 @@ pub fn say_run(op: Op, model: u8, own: bool) -> bool {
 
 // An entry that reaches memory.
 pub fn say_empty(op: Op) -> bool {
-    say_core(op, b" empties M[") && say_number(b"] := ", wide16(op.written())) && say(b"\n")
+    say_core(op, b" empties M[") && say_u16(b"] := ", op.written()) && say(b"\n")
 }

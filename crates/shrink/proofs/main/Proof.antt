@@ -12,11 +12,11 @@ modelled-requires c κs = search needs
 watch-requires : tie.Need-watch-requires
 watch-requires c κs = search needs
 
-slice-aggregate-say : tie.Need-slice-aggregate-say
-slice-aggregate-say c = search needs
+slice-aggregate-tell : tie.Need-slice-aggregate-tell
+slice-aggregate-tell c = search needs
 
-say-requires : tie.Need-say-requires
-say-requires c κs = search needs
+tell-requires : tie.Need-tell-requires
+tell-requires c κs = search needs
 
 returns : tie.Need-returns
 returns c = search needs
@@ -31,7 +31,7 @@ main-spec =
     asked-requires
     modelled-requires
     watch-requires
-    slice-aggregate-say
-    say-requires
+    slice-aggregate-tell
+    tell-requires
     returns
     returns-2)

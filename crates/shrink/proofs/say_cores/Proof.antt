@@ -1,14 +1,14 @@
--- `shrink::say_cores`: no core is past the last.
+-- `shrink::say_cores`: the cores are counted up.
 use Prim.Native.Nat.{_≤_, _-_}
 use borrow.Author.Needs.{needs}
 use Rattle.shrink.proofs.say_cores.Statement.{statement}
 use Rattle.shrink.proofs.say_cores.Tie as tie
 
 abbrev Inv-loop : tie.InvT-loop
-Inv-loop t old₀ t4 old = old ≤ 8
+Inv-loop t old₀ t4 t5 t6 old = old ≤ 8
 
 abbrev μ-loop : tie.MeasureT-loop
-μ-loop t old₀ t4 old = 8 - old
+μ-loop t old₀ t4 t5 t6 old = 8 - old
 
 loop-holds : tie.Need-loop-holds Inv-loop μ-loop
 loop-holds c = search needs
@@ -19,17 +19,23 @@ numbered-requires c κs = search needs
 used-requires : tie.Need-used-requires Inv-loop μ-loop
 used-requires c κs = search needs
 
-slice-aggregate-say-was : tie.Need-slice-aggregate-say-was Inv-loop μ-loop
-slice-aggregate-say-was c = search needs
+slice-aggregate-tell-u8 : tie.Need-slice-aggregate-tell-u8 Inv-loop μ-loop
+slice-aggregate-tell-u8 c = search needs
 
-core-requires : tie.Need-core-requires Inv-loop μ-loop
-core-requires c κs = search needs
+tell-u8-requires : tie.Need-tell-u8-requires Inv-loop μ-loop
+tell-u8-requires c κs = search needs
 
-core-requires-2 : tie.Need-core-requires-2 Inv-loop μ-loop
-core-requires-2 c κs = search needs
+slice-aggregate-tell-u8-2 : tie.Need-slice-aggregate-tell-u8-2 Inv-loop μ-loop
+slice-aggregate-tell-u8-2 c = search needs
 
-say-was-requires : tie.Need-say-was-requires Inv-loop μ-loop
-say-was-requires c κs = search needs
+tell-u8-requires-2 : tie.Need-tell-u8-requires-2 Inv-loop μ-loop
+tell-u8-requires-2 c κs = search needs
+
+slice-aggregate-tell : tie.Need-slice-aggregate-tell Inv-loop μ-loop
+slice-aggregate-tell c = search needs
+
+tell-requires : tie.Need-tell-requires Inv-loop μ-loop
+tell-requires c κs = search needs
 
 add-old : tie.Need-add-old Inv-loop μ-loop
 add-old c = search needs
@@ -52,10 +58,12 @@ say-cores-spec =
     loop-holds
     numbered-requires
     used-requires
-    slice-aggregate-say-was
-    core-requires
-    core-requires-2
-    say-was-requires
+    slice-aggregate-tell-u8
+    tell-u8-requires
+    slice-aggregate-tell-u8-2
+    tell-u8-requires-2
+    slice-aggregate-tell
+    tell-requires
     add-old
     loop-less
     loop-again

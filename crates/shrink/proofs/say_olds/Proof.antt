@@ -1,4 +1,4 @@
--- `shrink::say_olds`: the place stays within the list.
+-- `shrink::say_olds`: the place stays in the numbers.
 use Prim.Native.Nat.{_≤_, _-_}
 use lib.ListN.{length}
 use borrow.Author.Needs.{needs}
@@ -6,31 +6,37 @@ use Rattle.shrink.proofs.say_olds.Statement.{statement}
 use Rattle.shrink.proofs.say_olds.Tie as tie
 
 abbrev Inv-loop : tie.InvT-loop
-Inv-loop olds left i₀ t4 i = i ≤ length olds
+Inv-loop olds left i₀ t4 t5 t6 i = i ≤ length olds
 
 abbrev μ-loop : tie.MeasureT-loop
-μ-loop olds left i₀ t4 i = length olds - i
+μ-loop olds left i₀ t4 t5 t6 i = length olds - i
 
 loop-holds : tie.Need-loop-holds Inv-loop μ-loop
 loop-holds c = search needs
 
-slice-aggregate-say-was : tie.Need-slice-aggregate-say-was Inv-loop μ-loop
-slice-aggregate-say-was c = search needs
+slice-aggregate-tell-usize : tie.Need-slice-aggregate-tell-usize Inv-loop μ-loop
+slice-aggregate-tell-usize c = search needs
 
-long-requires : tie.Need-long-requires Inv-loop μ-loop
-long-requires c κs = search needs
+tell-usize-requires : tie.Need-tell-usize-requires Inv-loop μ-loop
+tell-usize-requires c κs = search needs
 
-mul-wide : tie.Need-mul-wide Inv-loop μ-loop
-mul-wide c = search needs
+slice-aggregate-tell-u16 : tie.Need-slice-aggregate-tell-u16 Inv-loop μ-loop
+slice-aggregate-tell-u16 c = search needs
 
-shared-slice-read-wide : tie.Need-shared-slice-read-wide Inv-loop μ-loop
-shared-slice-read-wide c = search needs
+mul-tell-u16 : tie.Need-mul-tell-u16 Inv-loop μ-loop
+mul-tell-u16 c = search needs
 
-wide-requires : tie.Need-wide-requires Inv-loop μ-loop
-wide-requires c κs = search needs
+shared-slice-read-tell-u16 : tie.Need-shared-slice-read-tell-u16 Inv-loop μ-loop
+shared-slice-read-tell-u16 c = search needs
 
-say-was-requires : tie.Need-say-was-requires Inv-loop μ-loop
-say-was-requires c κs = search needs
+tell-u16-requires : tie.Need-tell-u16-requires Inv-loop μ-loop
+tell-u16-requires c κs = search needs
+
+slice-aggregate-tell : tie.Need-slice-aggregate-tell Inv-loop μ-loop
+slice-aggregate-tell c = search needs
+
+tell-requires : tie.Need-tell-requires Inv-loop μ-loop
+tell-requires c κs = search needs
 
 add-i : tie.Need-add-i Inv-loop μ-loop
 add-i c = search needs
@@ -51,12 +57,14 @@ say-olds-spec =
     Inv-loop
     μ-loop
     loop-holds
-    slice-aggregate-say-was
-    long-requires
-    mul-wide
-    shared-slice-read-wide
-    wide-requires
-    say-was-requires
+    slice-aggregate-tell-usize
+    tell-usize-requires
+    slice-aggregate-tell-u16
+    mul-tell-u16
+    shared-slice-read-tell-u16
+    tell-u16-requires
+    slice-aggregate-tell
+    tell-requires
     add-i
     loop-less
     loop-again

@@ -12,29 +12,26 @@ leave-requires c κs = search needs
 enum-told-2 : tie.Need-enum-told-2
 enum-told-2 c = search needs
 
-slice-aggregate-say : tie.Need-slice-aggregate-say
-slice-aggregate-say c = search needs
+slice-aggregate-tell : tie.Need-slice-aggregate-tell
+slice-aggregate-tell c = search needs
 
-say-requires : tie.Need-say-requires
-say-requires c κs = search needs
+tell-requires : tie.Need-tell-requires
+tell-requires c κs = search needs
 
 enum-known-answer : tie.Need-enum-known-answer
 enum-known-answer c = search needs
 
-slice-aggregate-say-number : tie.Need-slice-aggregate-say-number
-slice-aggregate-say-number c = search needs
+slice-aggregate-tell-usize : tie.Need-slice-aggregate-tell-usize
+slice-aggregate-tell-usize c = search needs
 
-long-requires : tie.Need-long-requires
-long-requires c κs = search needs
+tell-usize-requires : tie.Need-tell-usize-requires
+tell-usize-requires c κs = search needs
 
-say-number-requires : tie.Need-say-number-requires
-say-number-requires c κs = search needs
+slice-aggregate-tell-2 : tie.Need-slice-aggregate-tell-2
+slice-aggregate-tell-2 c = search needs
 
-slice-aggregate-say-2 : tie.Need-slice-aggregate-say-2
-slice-aggregate-say-2 c = search needs
-
-say-requires-2 : tie.Need-say-requires-2
-say-requires-2 c κs = search needs
+tell-requires-2 : tie.Need-tell-requires-2
+tell-requires-2 c κs = search needs
 
 enum-told-3 : tie.Need-enum-told-3
 enum-told-3 c = search needs
@@ -64,14 +61,13 @@ tell-spec =
     enum-told
     leave-requires
     enum-told-2
-    slice-aggregate-say
-    say-requires
+    slice-aggregate-tell
+    tell-requires
     enum-known-answer
-    slice-aggregate-say-number
-    long-requires
-    say-number-requires
-    slice-aggregate-say-2
-    say-requires-2
+    slice-aggregate-tell-usize
+    tell-usize-requires
+    slice-aggregate-tell-2
+    tell-requires-2
     enum-told-3
     enum-told-4
     returns

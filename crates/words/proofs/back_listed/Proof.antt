@@ -23,11 +23,11 @@ back-requires c κs = search needs
 returns : tie.Need-returns
 returns c = search needs
 
-slice-aggregate-say : tie.Need-slice-aggregate-say
-slice-aggregate-say c = search needs
+slice-aggregate-tell : tie.Need-slice-aggregate-tell
+slice-aggregate-tell c = search needs
 
-say-requires : tie.Need-say-requires
-say-requires c κs = search needs
+tell-requires : tie.Need-tell-requires
+tell-requires c κs = search needs
 
 returns-2 : tie.Need-returns-2
 returns-2 c = search needs
@@ -42,6 +42,6 @@ back-listed-spec =
     slice-aggregate-back
     back-requires
     returns
-    slice-aggregate-say
-    say-requires
+    slice-aggregate-tell
+    tell-requires
     returns-2)

@@ -1,33 +1,36 @@
--- `words::print_line`: one word after the other.
-use Prim.Native.Nat.{_-_, _≤_}
+-- `words::print_line`: the place stays in the words.
+use Prim.Native.Nat.{_≤_, _-_}
 use lib.ListN.{length}
 use borrow.Author.Needs.{needs}
 use Rattle.words.proofs.print_line.Statement.{statement}
 use Rattle.words.proofs.print_line.Tie as tie
 
 abbrev Inv-loop : tie.InvT-loop
-Inv-loop words good₀ i₀ t4 t5 good i = i ≤ length words
+Inv-loop words good₀ i₀ t4 t5 t6 good i = i ≤ length words
 
 abbrev μ-loop : tie.MeasureT-loop
-μ-loop words good₀ i₀ t4 t5 good i = length words - i
+μ-loop words good₀ i₀ t4 t5 t6 good i = length words - i
 
 loop-holds : tie.Need-loop-holds Inv-loop μ-loop
 loop-holds c = search needs
 
-slice-aggregate-write-all : tie.Need-slice-aggregate-write-all Inv-loop μ-loop
-slice-aggregate-write-all c = search needs
+slice-aggregate-say : tie.Need-slice-aggregate-say Inv-loop μ-loop
+slice-aggregate-say c = search needs
 
-write-all-requires : tie.Need-write-all-requires Inv-loop μ-loop
-write-all-requires c κs = search needs
+say-requires : tie.Need-say-requires Inv-loop μ-loop
+say-requires c κs = search needs
 
-mul-print-decimal : tie.Need-mul-print-decimal Inv-loop μ-loop
-mul-print-decimal c = search needs
+slice-aggregate-say-number : tie.Need-slice-aggregate-say-number Inv-loop μ-loop
+slice-aggregate-say-number c = search needs
 
-shared-slice-read-print-decimal : tie.Need-shared-slice-read-print-decimal Inv-loop μ-loop
-shared-slice-read-print-decimal c = search needs
+mul-say-number : tie.Need-mul-say-number Inv-loop μ-loop
+mul-say-number c = search needs
 
-print-decimal-requires : tie.Need-print-decimal-requires Inv-loop μ-loop
-print-decimal-requires c κs = search needs
+shared-slice-read-say-number : tie.Need-shared-slice-read-say-number Inv-loop μ-loop
+shared-slice-read-say-number c = search needs
+
+say-number-requires : tie.Need-say-number-requires Inv-loop μ-loop
+say-number-requires c κs = search needs
 
 add-i : tie.Need-add-i Inv-loop μ-loop
 add-i c = search needs
@@ -38,11 +41,11 @@ loop-less c = search needs
 loop-again : tie.Need-loop-again Inv-loop μ-loop
 loop-again c = search needs
 
-slice-aggregate-write-all-2 : tie.Need-slice-aggregate-write-all-2 Inv-loop μ-loop
-slice-aggregate-write-all-2 c = search needs
+slice-aggregate-say-2 : tie.Need-slice-aggregate-say-2 Inv-loop μ-loop
+slice-aggregate-say-2 c = search needs
 
-write-all-requires-2 : tie.Need-write-all-requires-2 Inv-loop μ-loop
-write-all-requires-2 c κs = search needs
+say-requires-2 : tie.Need-say-requires-2 Inv-loop μ-loop
+say-requires-2 c κs = search needs
 
 returns : tie.Need-returns Inv-loop μ-loop
 returns c = search needs
@@ -54,14 +57,15 @@ print-line-spec =
     Inv-loop
     μ-loop
     loop-holds
-    slice-aggregate-write-all
-    write-all-requires
-    mul-print-decimal
-    shared-slice-read-print-decimal
-    print-decimal-requires
+    slice-aggregate-say
+    say-requires
+    slice-aggregate-say-number
+    mul-say-number
+    shared-slice-read-say-number
+    say-number-requires
     add-i
     loop-less
     loop-again
-    slice-aggregate-write-all-2
-    write-all-requires-2
+    slice-aggregate-say-2
+    say-requires-2
     returns)

@@ -1,36 +1,36 @@
--- `words::print_reads`: one read after the other.
-use Prim.Native.Nat.{_-_, _≤_}
+-- `words::print_reads`: the place stays in the reads.
+use Prim.Native.Nat.{_≤_, _-_}
 use lib.ListN.{length}
 use borrow.Author.Needs.{needs}
 use Rattle.words.proofs.print_reads.Statement.{statement}
 use Rattle.words.proofs.print_reads.Tie as tie
 
 abbrev Inv-loop : tie.InvT-loop
-Inv-loop reads good₀ i₀ t4 good i = i ≤ length reads
+Inv-loop reads good₀ i₀ t4 t5 good i = i ≤ length reads
 
 abbrev μ-loop : tie.MeasureT-loop
-μ-loop reads good₀ i₀ t4 good i = length reads - i
+μ-loop reads good₀ i₀ t4 t5 good i = length reads - i
 
 loop-holds : tie.Need-loop-holds Inv-loop μ-loop
 loop-holds c = search needs
 
-mul-wide : tie.Need-mul-wide Inv-loop μ-loop
-mul-wide c = search needs
+slice-aggregate-say-u16 : tie.Need-slice-aggregate-say-u16 Inv-loop μ-loop
+slice-aggregate-say-u16 c = search needs
 
-shared-slice-read-wide : tie.Need-shared-slice-read-wide Inv-loop μ-loop
-shared-slice-read-wide c = search needs
+mul-say-u16 : tie.Need-mul-say-u16 Inv-loop μ-loop
+mul-say-u16 c = search needs
 
-wide-requires : tie.Need-wide-requires Inv-loop μ-loop
-wide-requires c κs = search needs
+shared-slice-read-say-u16 : tie.Need-shared-slice-read-say-u16 Inv-loop μ-loop
+shared-slice-read-say-u16 c = search needs
 
-print-decimal-requires : tie.Need-print-decimal-requires Inv-loop μ-loop
-print-decimal-requires c κs = search needs
+say-u16-requires : tie.Need-say-u16-requires Inv-loop μ-loop
+say-u16-requires c κs = search needs
 
-slice-aggregate-write-all : tie.Need-slice-aggregate-write-all Inv-loop μ-loop
-slice-aggregate-write-all c = search needs
+slice-aggregate-say : tie.Need-slice-aggregate-say Inv-loop μ-loop
+slice-aggregate-say c = search needs
 
-write-all-requires : tie.Need-write-all-requires Inv-loop μ-loop
-write-all-requires c κs = search needs
+say-requires : tie.Need-say-requires Inv-loop μ-loop
+say-requires c κs = search needs
 
 add-i : tie.Need-add-i Inv-loop μ-loop
 add-i c = search needs
@@ -51,12 +51,12 @@ print-reads-spec =
     Inv-loop
     μ-loop
     loop-holds
-    mul-wide
-    shared-slice-read-wide
-    wide-requires
-    print-decimal-requires
-    slice-aggregate-write-all
-    write-all-requires
+    slice-aggregate-say-u16
+    mul-say-u16
+    shared-slice-read-say-u16
+    say-u16-requires
+    slice-aggregate-say
+    say-requires
     add-i
     loop-less
     loop-again

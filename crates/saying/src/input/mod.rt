@@ -13,7 +13,7 @@ pub struct Input {
 }
 
 // Whether a signal came before the last call had moved a byte.
-fn interrupted() -> bool {
+pub fn interrupted() -> bool {
     os::errno() == libc::EINTR
 }
 

@@ -1,10 +1,10 @@
--- `words::input::fill`: with each turn there is less room left, or a try fewer.
+-- `saying::input::fill`: with each turn there is less room left, or a try fewer.
 use mathlib.Core.Path.{_≡_}
 use Prim.Native.Nat.{_≤_, _-_, _+_}
 use lib.ListN.{length}
 use borrow.Author.Needs.{needs}
-use Rattle.words.proofs.input.fill.Statement.{statement}
-use Rattle.words.proofs.input.fill.Tie as tie
+use Rattle.saying.proofs.input.fill.Statement.{statement}
+use Rattle.saying.proofs.input.fill.Tie as tie
 
 abbrev Inv-loop : tie.InvT-loop
 Inv-loop buf₀ done₀ tries₀ buf done tries = (length buf ≡ length buf₀) × (done ≤ length buf)
