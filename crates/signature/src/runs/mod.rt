@@ -8,6 +8,7 @@ use crate::Answer;
 use crate::Found;
 use crate::packing::all_words;
 use crate::packing::loads_in;
+use crate::unpacking::all_places;
 use crate::unpacking::first_large;
 use crate::unpacking::put_run;
 use trace::Trace;
@@ -23,18 +24,19 @@ fn runs_in(reads: usize, loads: usize) -> usize
     reads / loads
 }
 
-// The reads of all runs, put into lent memory of their number.
+// The reads of all runs, put into lent memory of their number. Where the digits stand is worked out once.
 fn put_runs(t: Trace, words: &[u64], each: usize, loads: usize, runs: usize, out: &mut [u16])
     requires { ⌜ RunsGiven t (now words) (now out) each loads runs ⌝ }
     ensures { λ _. ⌜ now (out .exit) ≡ allReads t (now (words .entry)) runs ⌝ }
 {
+    let places = all_places(t);
     let mut i: usize = 0;
     while i < runs {
         let from = i * each;
         let to = from + each;
         let start = i * loads;
         let end = start + loads;
-        put_run(t, &words[from..to], &mut out[start..end]);
+        put_run(t, places, &words[from..to], &mut out[start..end]);
         i += 1;
     }
 }

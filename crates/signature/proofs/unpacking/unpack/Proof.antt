@@ -86,11 +86,15 @@ enum-known-k c = search needs
 enum-told : tie.Need-enum-told
 enum-told c = search needs
 
+all-places-requires : tie.Need-all-places-requires
+all-places-requires c κs = let n = c .before .before .before .before in form-iff (start n .args .t) .0 (sure n) .fits
+
 put-run-requires : tie.Need-put-run-requires
 put-run-requires c κs =
-    let u = c .before .before .before in
+    let g = c .before in
+    let u = g .before .before .before in
     let n = u .before .before in
-    (sure n, long n, u .before .if3 .left ∙ n .loads-in .ensures .0)
+    (sure n, g .all-places .ensures, long n, u .before .if3 .left ∙ n .loads-in .ensures .0)
 
 returns-4 : tie.Need-returns-4
 returns-4 c =
@@ -106,7 +110,7 @@ same-length c = search needs
 returns-5 : tie.Need-returns-5
 returns-5 c =
     let p = c .before .before in
-    let m = p .before .before in
+    let m = p .before .before .before in
     let u = m .before .before in
     let n = u .before .before in
     let a = start n .args in
@@ -125,6 +129,7 @@ unpack-spec =
     first-large-requires
     enum-known-k
     enum-told
+    all-places-requires
     put-run-requires
     returns-4
     same-length
