@@ -2,4 +2,5 @@
 pub mod FilledReads
 pub mod Block
 pub mod Many
+pub mod Sourced
 pub mod Unique

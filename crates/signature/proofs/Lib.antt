@@ -11,5 +11,7 @@ pub mod Laid
 pub mod Putting
 pub mod SignatureAnswers
 pub mod Taken
+pub mod Placed
 pub mod SignatureCases
+pub mod ManyRuns
 pub mod Unique

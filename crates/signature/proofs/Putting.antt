@@ -35,10 +35,10 @@ unfolding laidWords
 put-end ws o i h k e = sym (take-all i ws h) ∙ e ∙ ap (λ (n : ℕ). take n (o .of)) k
 
 -- the reads put by record number
-module _ (t : Trace) (ds : List ℕ) where
+module _ (t : Trace) (d : ℕ → ℕ) where
   -- what a record is told to have read
   abbrev pub told : ℕ → ℕ
-  told L = valueOf t L (getD ds L 0)
+  told L = valueOf t L (d L)
 
   -- what is put, and what is still to come, are all; and there is a place for each
   pub record Puts (vs : List ℕ) (k i : ℕ) : Type 0 where
@@ -53,11 +53,11 @@ module _ (t : Trace) (ds : List ℕ) where
   pub puts-room : (vs : List ℕ) (k i : ℕ) → i < t .len → Puts vs k i → So (reads (at t i)) → k < length vs
   puts-room vs k i h p s = omega (arith, p .places, p .long, ap length (loads-one t i h s))
 
-  pub puts-on : (vs : List ℕ) (k i : ℕ) → i < t .len → Puts vs k i → Puts (readPut t i k (getD ds i 0) vs) (placeAfter t i k) (i + 1)
+  pub puts-on : (vs : List ℕ) (k i : ℕ) → i < t .len → Puts vs k i → Puts (readPut t i k (d i) vs) (placeAfter t i k) (i + 1)
   unfolding readPut placeAfter each
   puts-on vs k i h p = go (reads (at t i)) refl
     where
-      go : (b : Bool) → reads (at t i) ≡ b → Puts (cond b (set vs k (valueOf t i (getD ds i 0))) vs) (cond b (k + 1) k) (i + 1)
+      go : (b : Bool) → reads (at t i) ≡ b → Puts (cond b (set vs k (valueOf t i (d i))) vs) (cond b (k + 1) k) (i + 1)
       go true e =
           let o = loads-one t i h e in
           let room : k < length vs = puts-room vs k i h p e in
@@ -74,7 +74,7 @@ module _ (t : Trace) (ds : List ℕ) where
           let o = loads-none t i h e in
           record { all = ap (λ (l : List ℕ). take k vs ++ each told l) (sym o) ∙ p .all; places = omega (arith, p .places, ap length o); long = p .long; low = omega (arith, p .low) }
 
-  pub puts-next : (vs us : List ℕ) (k r i : ℕ) → i < t .len → Puts vs k i → r ≡ placeAfter t i k → us ≡ readPut t i k (getD ds i 0) vs → Puts us r (i + 1)
+  pub puts-next : (vs us : List ℕ) (k r i : ℕ) → i < t .len → Puts vs k i → r ≡ placeAfter t i k → us ≡ readPut t i k (d i) vs → Puts us r (i + 1)
   puts-next vs us k r i h p e f = subst (λ (r : ℕ). Puts us r (i + 1)) (sym e) (subst (λ (us : List ℕ). Puts us (placeAfter t i k) (i + 1)) (sym f) (puts-on vs k i h p))
 
   pub puts-end : (vs : List ℕ) (k i : ℕ) → t .len ≤ i → Puts vs k i → vs ≡ each told (loads t)

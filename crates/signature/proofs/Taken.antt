@@ -7,7 +7,6 @@
 --   took-thread   == the digits of a thread stand at its loads, and the place is behind its words (Had)
 --   took-all      == so for all threads (Have)
 --   digit-taken, reads-taken == each load has its digit, and so its value
---   took-in .. every-over == what each function of the code comes to
 use mathlib.Core.Path.{_≡_, refl, sym, ap, ap₂, _∙_, subst}
 use mathlib.Core.Logic.{_≢_, _⊎_, inl, inr}
 use mathlib.Core.Bool.{Bool, true, false, cond, So, _&&_, false≢true}
@@ -32,8 +31,7 @@ use Rattle.signature.specs.DigitWords.{LIMIT, least, rest, nextWords, wo
 use Rattle.signature.specs.Reads.{picks, each, values, rangeOf, valueOf, reader, readers, loads}
 use Rattle.signature.specs.Signature.{wordsUpTo, tops, threadWords}
 use Rattle.signature.specs.Unpack.{wordCount, partFrom, partOf, digitIn, readOf, readsOf}
-use Rattle.signature.specs.inner.WordsLaid.{stepOn, tookOf, lookedOf, tookFrom, openedOf, shutOf, tookThread, tookAll, noneTaken}
-use Rattle.signature.specs.declared.Taking.{Taking}
+use Rattle.signature.specs.inner.WordsLaid.{Taking, stepOn, tookOf, lookedOf, tookFrom, openedOf, shutOf, tookThread, tookAll, noneTaken}
 use Rattle.signature.proofs.DigitWords.{take-more, words-some}
 use Rattle.signature.proofs.Lists.{each-at, each-on, each-append, pick-snoc, pick-facts, pick-low, pick-in}
 use Rattle.signature.proofs.Signature.{Chosen, reader-iff, thread-long, top-chosen}
@@ -329,62 +327,3 @@ module _ (t : Trace) (ws : List ℕ) (few : t .len ≤ RECORDS) (short : length 
   reads-taken form l =
       each-on (λ L. valueOf t L (getD (tookAll t ws noneTaken 0 THREADS .of) L 0)) (readOf t ws) (picks (λ L. reads (at t L)) 0 (t .len))
       (λ L h. let u = pick-facts (λ L. reads (at t L)) 0 (t .len) L h in ap (valueOf t L) (digit-taken form l L (omega (arith, u .0)) (u .1)))
-
--- ---- what each function of the code comes to, by the tests that lead there
-module _ (x : Taking) (ws : List ℕ) where
-  module _ (r i : ℕ) where
-    pub took-in : leb (suc (x .q) * r) LIMIT ≡ true → (l : List ℕ) (p : ℕ) → l ≡ set (x .of) i (x .left % r) → suc p ≡ suc (x .q) * r → record { of = l; at = x .at; q = p; left = x .left / r } ≡ tookOf x ws r i
-    unfolding tookOf
-    took-in b l p e f =
-        let g : p ≡ suc (x .q) * r - 1 = omega (arith, f) in
-        ap₂ (λ (l : List ℕ) (p : ℕ). record { of = l; at = x .at; q = p; left = x .left / r }) e g
-        ∙ ap (λ (b : Bool). cond b (record { of = set (x .of) i (x .left % r); at = x .at; q = suc (x .q) * r - 1; left = x .left / r })
-        (record { of = set (x .of) i (getD ws (stepOn (x .at)) 0 % r); at = stepOn (x .at); q = r - 1; left = getD ws (stepOn (x .at)) 0 / r })) (sym b)
-
-    pub took-out : leb (suc (x .q) * r) LIMIT ≡ false → (n w : ℕ) → n ≡ stepOn (x .at) → w ≡ getD ws n 0 → record { of = set (x .of) i (w % r); at = n; q = r - 1; left = w / r } ≡ tookOf x ws r i
-    unfolding tookOf
-    took-out b n w e f =
-        ap₂ (λ (n w : ℕ). record { of = set (x .of) i (w % r); at = n; q = r - 1; left = w / r }) e (f ∙ ap (λ (n : ℕ). getD ws n 0) e)
-        ∙ ap (λ (b : Bool). cond b (record { of = set (x .of) i (x .left % r); at = x .at; q = suc (x .q) * r - 1; left = x .left / r })
-        (record { of = set (x .of) i (getD ws (stepOn (x .at)) 0 % r); at = stepOn (x .at); q = r - 1; left = getD ws (stepOn (x .at)) 0 / r })) (sym b)
-
-  module _ (t : Trace) (τ : ℕ) where
-    pub looked-taken : (i : ℕ) → So (reader t τ i) → tookOf x ws (rangeOf t i) i ≡ lookedOf t τ ws x i
-    unfolding lookedOf
-    looked-taken i s = ap (λ (b : Bool). cond b (tookOf x ws (rangeOf t i) i) x) (sym s)
-
-    pub looked-left : (i : ℕ) → reader t τ i ≡ false → x ≡ lookedOf t τ ws x i
-    unfolding lookedOf
-    looked-left i s = ap (λ (b : Bool). cond b (tookOf x ws (rangeOf t i) i) x) (sym s)
-
-    pub took-on : (n i : ℕ) → i < n → tookFrom t τ ws (lookedOf t τ ws x i) (i + 1) (n - (i + 1)) ≡ tookFrom t τ ws x i (n - i)
-    unfolding tookFrom
-    took-on n i h = let e : n - i ≡ suc (n - (i + 1)) = omega arith in sym (ap (tookFrom t τ ws x i) e ∙ (rw add-one refl))
-
-    pub took-over : (n i : ℕ) → n ≤ i → tookFrom t τ ws x i (n - i) ≡ x
-    unfolding tookFrom
-    took-over n i h = let e : n - i ≡ 0 = omega arith in ap (tookFrom t τ ws x i) e
-
-    pub thread-took : So (any (t .len) (reader t τ)) → (y : Taking) (n : ℕ) → y ≡ tookFrom t τ ws (openedOf ws x) 0 (t .len) → n ≡ stepOn (y .at) → record { of = y .of; at = n; q = 0; left = 0 } ≡ tookThread t τ ws x
-    unfolding tookThread shutOf
-    thread-took s y n e f =
-        ap (λ (n : ℕ). record { of = y .of; at = n; q = 0; left = 0 }) f
-        ∙ ap (λ (y : Taking). record { of = y .of; at = stepOn (y .at); q = 0; left = 0 }) e
-        ∙ ap (λ (b : Bool). cond b (shutOf (tookFrom t τ ws (openedOf ws x) 0 (t .len))) x) (sym s)
-
-    pub thread-left : any (t .len) (reader t τ) ≡ false → x ≡ tookThread t τ ws x
-    unfolding tookThread
-    thread-left s = ap (λ (b : Bool). cond b (shutOf (tookFrom t τ ws (openedOf ws x) 0 (t .len))) x) (sym s)
-
-  pub opened-told : (w : ℕ) → w ≡ getD ws (x .at) 0 → record { of = x .of; at = x .at; q = 0; left = w } ≡ openedOf ws x
-  unfolding openedOf
-  opened-told w e = ap (λ (w : ℕ). record { of = x .of; at = x .at; q = 0; left = w }) e
-
-  module _ (t : Trace) where
-    pub every-on : (n τ : ℕ) → τ < n → tookAll t ws (tookThread t τ ws x) (τ + 1) (n - (τ + 1)) ≡ tookAll t ws x τ (n - τ)
-    unfolding tookAll
-    every-on n τ h = let e : n - τ ≡ suc (n - (τ + 1)) = omega arith in sym (ap (tookAll t ws x τ) e ∙ (rw add-one refl))
-
-    pub every-over : (n τ : ℕ) → n ≤ τ → tookAll t ws x τ (n - τ) ≡ x
-    unfolding tookAll
-    every-over n τ h = let e : n - τ ≡ 0 = omega arith in ap (tookAll t ws x τ) e

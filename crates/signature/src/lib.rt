@@ -4,6 +4,7 @@ use trace::RECORDS;
 mod choices;
 pub mod packing;
 mod products;
+pub mod runs;
 pub mod unpacking;
 
 // What packing and unpacking answer: a read that is not in its list is told with its record, a word that is too large with its place.
@@ -29,10 +30,12 @@ struct Open {
     word: u64,
 }
 
-// Digits taken so far, by record, and the open word: its place, the product of the ranges taken from it, less 1, and what is left of it.
-struct Taking {
-    of: [u64; RECORDS],
+// Where the digits of the loads stand, by record: the place of a digit's word, the product of the ranges below it there, less 1, and its range. And the
+// word that is open while they are laid out: its place, and the product of its ranges, less 1.
+struct Places {
+    word: [usize; RECORDS],
+    below: [u64; RECORDS],
+    range: [u64; RECORDS],
     at: usize,
     q: u64,
-    left: u64,
 }

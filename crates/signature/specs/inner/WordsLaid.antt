@@ -10,7 +10,10 @@
 --   allFrom t last o τ k == threads τ, τ + 1, .., k of them
 --   noneLaid            == nothing laid down
 --   laidWords o         == the words laid down
---   tookOf, lookedOf, tookFrom, tookThread, tookAll, noneTaken == the same for taking digits up again
+--   placedOf, placedAt, placedFrom, placedThread, placedAll, nonePlaced == the same for where the digits stand
+--   placesOf t          == where the digits of a program stand
+--   digitBy x ws i      == the digit of record i, by where it stands
+--   Taking, tookOf, lookedOf, tookFrom, tookThread, tookAll, noneTaken == the same for taking digits up one after the other, of which only the laws speak
 use mathlib.Core.Bool.{Bool, cond}
 use mathlib.Core.List.{List}
 use Prim.Native.Nat.{ℕ, zero, suc, _+_, _-_, _*_, _/_, _%_}
@@ -24,7 +27,7 @@ use Rattle.trace.specs.declared.Trace.{Trace}
 use Rattle.signature.specs.DigitWords.{LIMIT}
 use Rattle.signature.specs.Reads.{rangeOf, digitOf, reader}
 use Rattle.signature.specs.declared.Open.{Open}
-use Rattle.signature.specs.declared.Taking.{Taking}
+use Rattle.signature.specs.declared.Places.{Places}
 
 unfoldable pub choice : Trace → Bool → ℕ → ℕ
 choice t last L = cond last (rangeOf t L - 1) (digitOf t L (read (at t L)))
@@ -60,6 +63,46 @@ noneLaid = record { of = replicate RECORDS 0; count = 0; q = 0; word = 0 }
 
 unfoldable pub laidWords : Open → List ℕ
 laidWords o = take (o .count) (o .of)
+
+unfoldable pub placedOf : Places → ℕ → ℕ → Places
+placedOf x r i =
+    cond (leb (suc (x .q) * r) LIMIT)
+    (record { word = set (x .word) i (x .at); below = set (x .below) i (x .q); range = set (x .range) i r; at = x .at; q = suc (x .q) * r - 1 })
+    (record { word = set (x .word) i (stepOn (x .at)); below = set (x .below) i 0; range = set (x .range) i r; at = stepOn (x .at); q = r - 1 })
+
+unfoldable pub placedAt : Trace → ℕ → Places → ℕ → Places
+placedAt t τ x i = cond (reader t τ i) (placedOf x (rangeOf t i) i) x
+
+unfoldable pub placedFrom : Trace → ℕ → Places → ℕ → ℕ → Places
+placedFrom t τ x i zero = x
+placedFrom t τ x i (suc k) = placedFrom t τ (placedAt t τ x i) (suc i) k
+
+-- what stays when the thread's last word is done with
+unfoldable pub leftOf : Places → Places
+leftOf x = record { word = x .word; below = x .below; range = x .range; at = stepOn (x .at); q = 0 }
+
+unfoldable pub placedThread : Trace → ℕ → Places → Places
+placedThread t τ x = cond (any (t .len) (reader t τ)) (leftOf (placedFrom t τ x 0 (t .len))) x
+
+unfoldable pub placedAll : Trace → Places → ℕ → ℕ → Places
+placedAll t x τ zero = x
+placedAll t x τ (suc k) = placedAll t (placedThread t τ x) (suc τ) k
+
+abbrev pub nonePlaced : Places
+nonePlaced = record { word = replicate RECORDS 0; below = replicate RECORDS 0; range = replicate RECORDS 1; at = 0; q = 0 }
+
+abbrev pub placesOf : Trace → Places
+placesOf t = placedAll t nonePlaced 0 THREADS
+
+unfoldable pub digitBy : Places → List ℕ → ℕ → ℕ
+digitBy x ws i = getD ws (getD (x .word) i 0) 0 / suc (getD (x .below) i 0) % getD (x .range) i 0
+
+-- digits taken so far, by record, and the open word: its place, the product of the ranges taken from it, less 1, and what is left of it
+pub record Taking : Type 0 where
+  pub of : List ℕ
+  pub at : ℕ
+  pub q : ℕ
+  pub left : ℕ
 
 unfoldable pub tookOf : Taking → List ℕ → ℕ → ℕ → Taking
 tookOf x ws r i =

@@ -1,6 +1,6 @@
 // Products up to 2 to the 64th in 64 bits: what is kept is the product less 1.
 ghost use mathlib.Core.Path.{_≡_};
-ghost use Prim.Native.Nat.{suc, _+_, _*_, _<_, _≤_};
+ghost use Prim.Native.Nat.{suc, _+_, _*_, _/_, _<_, _≤_};
 ghost use lib.Dec.{leb};
 ghost use Rattle.signature.specs.DigitWords.{LIMIT};
 
@@ -29,4 +29,14 @@ pub(crate) fn with_digit(q: u64, word: u64, range: u64, digit: u64) -> u64
     ensures { λ r. ⌜ (r ≡ word + suc q * digit) × (suc r ≤ suc q * range) ⌝ }
 {
     word + (q * digit + digit)
+}
+
+// What is left of a word above the digits whose ranges have the product q + 1.
+pub(crate) fn left_above(word: u64, q: u64) -> u64
+    ensures { λ r. ⌜ r ≡ word / suc q ⌝ }
+{
+    if q == MAX {
+        return 0;
+    }
+    word / (q + 1)
 }

@@ -22,13 +22,7 @@ reads-requires : tie.Need-reads-requires
 reads-requires c κs = search needs
 
 returns : tie.Need-returns
-returns c = let r = c .before in let s = r .before .before .before in read-no (s .args .t1) (s .args .i) (s .args .k) (getD (s .args .t2 .of) (s .args .i) 0) (s .args .out .now) (sym (r .reads .ensures) ∙ not-true _ (c .if1 .taken))
-
-mul-value-of : tie.Need-mul-value-of
-mul-value-of c = search needs
-
-element-copy-out-value-of : tie.Need-element-copy-out-value-of
-element-copy-out-value-of c = search needs
+returns c = let r = c .before in let s = r .before .before .before in read-no (s .args .t1) (s .args .i) (s .args .k) (s .args .digit) (s .args .out .now) (sym (r .reads .ensures) ∙ not-true _ (c .if1 .taken))
 
 value-of-requires : tie.Need-value-of-requires
 value-of-requires c κs = search needs
@@ -37,7 +31,7 @@ mul-out : tie.Need-mul-out
 mul-out c = search needs
 
 slice-write-out : tie.Need-slice-write-out
-slice-write-out c = let e = c .before .before in let s = e .before .before .before .before in omega (arith, s .pre .2 (sym (e .before .reads .ensures) ∙ not-false _ (e .if1 .left)))
+slice-write-out c = let e = c .before in let s = e .before .before .before .before in omega (arith, s .pre .2 (sym (e .before .reads .ensures) ∙ not-false _ (e .if1 .left)))
 
 add-result : tie.Need-add-result
 add-result c = search needs
@@ -46,7 +40,7 @@ same-length : tie.Need-same-length
 same-length c = search needs
 
 returns-2 : tie.Need-returns-2
-returns-2 c = let e = c .before .before in let s = e .before .before .before .before in read-yes (s .args .t1) (s .args .i) (s .args .k) (getD (s .args .t2 .of) (s .args .i) 0) (s .args .out .now) (sym (e .before .reads .ensures) ∙ not-false _ (e .if1 .left)) (c .value-of .result) (c .value-of .ensures)
+returns-2 c = let e = c .before in let s = e .before .before .before .before in read-yes (s .args .t1) (s .args .i) (s .args .k) (s .args .digit) (s .args .out .now) (sym (e .before .reads .ensures) ∙ not-false _ (e .if1 .left)) (c .value-of .result) (c .value-of .ensures)
 
 pub put-read-spec : {M : Type 1} → statement M
 put-read-spec =
@@ -56,8 +50,6 @@ put-read-spec =
     element-copy-out-record
     reads-requires
     returns
-    mul-value-of
-    element-copy-out-value-of
     value-of-requires
     mul-out
     slice-write-out
