@@ -1,4 +1,4 @@
--- `edges::force::draw_kept_from`: the pairs from x to records below y are drawn, and it is known whether a fence of x's thread was passed.
+-- `edges::kept::draw_kept_from`: the pairs from x to records below y are drawn, and it is known whether a fence of x's thread was passed.
 use mathlib.Core.Path.{_≡_, sym, ap₂, _∙_}
 use mathlib.Core.Logic.{⊎-elim}
 use mathlib.Core.Bool.{_||_}
@@ -12,8 +12,8 @@ use Rattle.rows.specs.inner.AddedPairs.{Added}
 use Rattle.edges.proofs.PairSets.{adds-if, adds-only, union-more, union-skip}
 use Rattle.edges.proofs.DrawnEdges.{fenced-none, fenced-apart, fenced-same, kept-none, kept-apart, kept-at}
 use borrow.Author.Needs.{needs}
-use Rattle.edges.proofs.force.draw_kept_from.Statement.{statement}
-use Rattle.edges.proofs.force.draw_kept_from.Tie as tie
+use Rattle.edges.proofs.kept.draw_kept_from.Statement.{statement}
+use Rattle.edges.proofs.kept.draw_kept_from.Tie as tie
 
 abbrev Inv-loop : tie.InvT-loop
 Inv-loop model x edges₀ t n a passed₀ y₀ edges passed y = (x < y) × (y ≤ n) × (passed ≡ fenced t x y) × Added edges₀ (Union y (λ z. Only (keptOf model t x z) x z)) edges
