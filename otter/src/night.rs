@@ -1,13 +1,13 @@
-//! `otter night`: many runs of a few test programs. Equal runs, told by their signatures, are judged once.
+//! `otter night`: many runs of a few test programs. Equal runs, told by their signatures, are judged once, and those that differ by their words, many of a program in one call.
 
 use crate::files::Files;
 use crate::input;
-use crate::judged::{Judged, State};
+use crate::judged::{Found, Judged, State};
 use crate::memory::Memory;
 use crate::records::program;
 use crate::spread::Spread;
 use crate::status::{self, Done};
-use std::collections::HashMap;
+use std::collections::{BTreeMap, HashMap};
 use std::io::{self, Write};
 use std::path::{Path, PathBuf};
 
@@ -32,12 +32,23 @@ pub struct Options {
     spread: Spread,
 }
 
-/// A test program, and what was read: the signature's words, or the whole text where it has none.
-type Key = (Vec<u8>, Vec<u8>);
+/// How many runs of a program are judged in one call: what they share is worked out once for all of them, and yet every core has its part.
+const TOGETHER: usize = 100;
 
-/// Runs that are equal: one text for them all, how many there are, and the first of them.
+/// What was read: the signature's words, or the whole text where it has none.
+#[derive(Clone, PartialEq, Eq, Hash)]
+enum Read {
+    Words(Vec<u64>),
+    Unlisted(Vec<u8>),
+}
+
+/// A test program, and what was read.
+type Key = (Vec<u8>, Read);
+
+/// Runs that are equal: what they read, one text for them all, how many there are, and the first of them.
 struct Runs {
     program: usize,
+    read: Read,
     text: Vec<u8>,
     count: u64,
     first: PathBuf,
@@ -46,9 +57,8 @@ struct Runs {
 /// What a file tells before anything is judged; an Err says why it cannot be.
 fn told(path: &Path) -> Result<(Key, Vec<u8>), String> {
     let text = input::trace(path)?.into_bytes();
-    let words = wheelotter::signature(&text);
-    let reads = words.map(|words| words.iter().flat_map(|word| word.to_le_bytes()).collect()).unwrap_or_else(|_| text.clone());
-    Ok(((program(&text), reads), text))
+    let read = wheelotter::signature(&text).map(Read::Words).unwrap_or_else(|_| Read::Unlisted(text.clone()));
+    Ok(((program(&text), read), text))
 }
 
 /// All runs of a night, by program in the order in which they came.
@@ -71,10 +81,46 @@ impl Night {
         if program == self.names.len() {
             self.names.push(path.to_path_buf());
         }
+        let read = key.1.clone();
         let place = *self.places.entry(key).or_insert(self.runs.len());
         match self.runs.get_mut(place) {
             Some(runs) => runs.count += 1,
-            None => self.runs.push(Runs { program, text, count: 1, first: path.to_path_buf() }),
+            None => self.runs.push(Runs { program, read, text, count: 1, first: path.to_path_buf() }),
+        }
+    }
+
+    /// The places of what is judged in one call: runs of one program that have words, or one run by itself.
+    fn blocks(&self, alone: bool) -> Vec<Vec<usize>> {
+        let mut blocks: Vec<Vec<usize>> = Vec::new();
+        let mut open: HashMap<usize, usize> = HashMap::new();
+        for (place, runs) in self.runs.iter().enumerate() {
+            let last = open.get(&runs.program).copied().filter(|&block| blocks[block].len() < TOGETHER);
+            match (&runs.read, last) {
+                (Read::Words(_), Some(block)) if !alone => blocks[block].push(place),
+                (Read::Words(_), _) if !alone => {
+                    open.insert(runs.program, blocks.len());
+                    blocks.push(vec![place]);
+                }
+                _ => blocks.push(vec![place]),
+            }
+        }
+        blocks
+    }
+
+    /// A block's verdicts: by words, or where it has none, or its steps are counted, by its text.
+    fn judge(&self, block: &[usize], memory: Memory, steps: Option<u64>) -> Vec<Judged> {
+        let own: Vec<&Runs> = block.iter().map(|&place| &self.runs[place]).collect();
+        let words: Option<Vec<&[u64]>> = own
+            .iter()
+            .map(|runs| match &runs.read {
+                Read::Words(words) => Some(words.as_slice()),
+                Read::Unlisted(_) => None,
+            })
+            .collect();
+        let told = words.filter(|_| steps.is_none()).and_then(|words| wheelotter::night(&own[0].text, memory.model(), &words.concat(), own.len()).ok());
+        match told {
+            Some(verdicts) => verdicts.into_iter().map(|verdict| Judged::Found(vec![(memory, Found::Told(verdict))])).collect(),
+            None => own.iter().map(|runs| Judged::text(&runs.text, &[memory], steps)).collect(),
         }
     }
 
@@ -127,12 +173,13 @@ pub fn night(options: &Options) -> Done {
         Ok(())
     };
     options.spread.over(&files, |path| told(path), take)?;
-    let mut judged = Vec::new();
-    let judge = |runs: &Runs| Judged::text(&runs.text, &[options.model], options.steps);
-    options.spread.over(&night.runs, judge, |_, one| {
-        judged.push(one);
+    let mut told = BTreeMap::new();
+    let judge = |block: &Vec<usize>| night.judge(block, options.model, options.steps);
+    options.spread.over(&night.blocks(options.steps.is_some()), judge, |block, judged| {
+        told.extend(block.iter().copied().zip(judged));
         Ok(())
     })?;
+    let judged: Vec<Judged> = told.into_values().collect();
     night.write(options.model, &judged, &mut io::stdout().lock())?;
     Ok(crate::check::eased(status(&night, &judged), options.exit_zero))
 }

@@ -42,7 +42,7 @@ fill-long [] vs = refl
 fill-long (r ∷ rs) vs = ap suc (fill-long rs (cond (reads (r .op)) (drop 1 vs) vs))
 
 -- past an array's end the language has the first variant at zeros
-abbrev nothing : Record
+abbrev pub nothing : Record
 nothing = record { op = Load 0 0 0 }
 
 pub fill-at : (rs : List Record) (vs : List ℕ) (i : ℕ) → i < length rs → (j : ℕ) × (getD (fillReads rs vs) i nothing .op ≡ readAs (getD rs i nothing .op) (getD vs j 0))
@@ -167,7 +167,7 @@ same-fence (Fence t) v = refl
 
 module _ (t : Trace) (vs : List ℕ) where
   -- any place, used or not, holds what it did, but for what it read
-  place : (i : ℕ) → (v : ℕ) × (at (filledReads t vs) i ≡ readAs (at t i) v)
+  pub place : (i : ℕ) → (v : ℕ) × (at (filledReads t vs) i ≡ readAs (at t i) v)
   unfolding filledReads
   place i = elim (decLt i (length (t .records))) [
     | yes h ↦ let (j, e) = fill-at (t .records) vs i h in (getD vs j 0, e)
@@ -180,7 +180,7 @@ module _ (t : Trace) (vs : List ℕ) where
   threads : (i : ℕ) → thread (at (filledReads t vs) i) ≡ thread (at t i)
   threads i = let (v, e) = place i in ap thread e ∙ same-thread (at t i) v
 
-  addresses : (i : ℕ) → address (at (filledReads t vs) i) ≡ address (at t i)
+  pub addresses : (i : ℕ) → address (at (filledReads t vs) i) ≡ address (at t i)
   addresses i = let (v, e) = place i in ap address e ∙ same-address (at t i) v
 
   kinds : (i : ℕ) → kindOf (at (filledReads t vs) i) ≡ kindOf (at t i)

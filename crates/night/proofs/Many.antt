@@ -1,94 +1,64 @@
--- The words and the blocks of many runs.
+-- The words, the reads and the blocks of many runs.
 --
---   largest-of             == what unpacking answers says where the lowest word is that is too large
---   part-words, words-long == the words of a run are a part of all words, and as many as the program has
---   large-here, large-on, large-over == a run that has a word too large, one that has none, and none left
---   large-none             == where no run has one, unpacking takes the words of each
+--   loads-told, words-told, loads-few, tops-few == how many loads and words a well formed program has
+--   told-large, told-done, told-else, left-done, left-large, laid-large, laid-done == what an answer to the words of all runs says of the lowest word that is too large, and what it leaves
+--   large-none, large-some, large-told, nothing-told == that word tells the first run that has one
+--   fits-runs              == the reads of so many runs have their room
+--   part-same, part-small  == a part that two lists share; a part of small numbers
 --   block-part             == the block of a run is a part of the lent memory
---   put-long, block-here, block-before == the memory with a block put: as long, the block in its place, those before it as they were
---   told-judged            == the verdict on the program with the reads of a run, once it is laid out
+--   put-long, block-here, front-same, block-behind, block-put == the memory with a block put: as long, the block in its place, what lies in front and the blocks behind as they were
+--   Judging                == the runs from i on are judged, and the reads of those before it stand as they did
+--   judging-start, judging-more == it is so at first, and after one run more
+--   told-judged            == the verdict on a trace, once it is laid out
+--   all-judged             == each run is judged by its own reads
 --   ten, nine, wrong, too-large, all-done == the answers, each by the tests that lead to it
 use mathlib.Core.Path.{_≡_, refl, sym, ap, ap₂, _∙_, subst}
 use mathlib.Core.Logic.{_⊎_, _≢_, inl, inr}
-use mathlib.Core.Bool.{Bool, true, false, cond, So, _&&_}
+use mathlib.Core.Bool.{Bool, true, false, cond, So, _&&_, false≢true}
 use mathlib.Core.List.{List, _++_}
-use Prim.Native.Nat.{ℕ, zero, suc, _+_, _-_, _*_, _/_, _<_, _≤_}
-use native.Mathlib.Nat.{mul-le-mul-right, suc-mul}
+use mathlib.Core.Option.{Option, none, some}
+use Prim.Native.Nat.{ℕ, zero, suc, _+_, _-_, _*_, _/_, _%_, _<_, _≤_}
+use native.Mathlib.Nat.{mul-le-mul-left, mul-le-mul-right, suc-mul, mod-lt, mod-eq-of-lt, add-mul-mod-self-right, div-add-mod', div-lt-iff-lt-mul, mul-div-cancel}
+use native.Mathlib.Decide.{decLt}
+use native.Mathlib.Numerals.{add-one}
 use native.Mathlib.Omega.{arith}
-use borrow.Author.Tests.{eq-eqb, ne-eqb}
-use lib.Dec.{eqb}
-use lib.ListN.{length, getD, take, drop, length-append, length-take, length-drop, List·getD-append}
-use lib.Seq.{length-take-le, getD-take, getD-drop, take-at, drop-at, ext-getD}
-use Rattle.trace.specs.Bounds.{RECORDS}
+use borrow.Author.Tests.{eq-eqb, ne-eqb, ltb-false}
+use lib.Dec.{eqb, ltb}
+use lib.ListN.{length, getD, take, drop, length-append, length-take, length-drop, take-append-drop, List·getD-eq-default}
+use lib.Seq.{length-take-le, getD-take, getD-drop, take-at, drop-at, drop-drop, take-take, take-add, ext-getD}
+use Rattle.laws.specs.Lowest.{Lowest, lowest}
+use Rattle.laws.proofs.Tests.{off, eq?, so-lt}
+use Rattle.trace.specs.Bounds.{RECORDS, VALUES}
 use Rattle.trace.specs.Op.{reads}
 use Rattle.trace.specs.Trace.{at}
-use Rattle.trace.specs.Meaning.{frameOf}
 use Rattle.trace.specs.WellFormed.{wellFormed}
 use Rattle.trace.specs.declared.Trace.{Trace}
 use Rattle.trace.proofs.WellFormed.{form-iff}
-use Rattle.pairs.specs.Kept.{modelled, keptOf}
-use Rattle.rules.specs.Verdict as said
-use Rattle.verdict.specs.VerdictOf.{laid, Told}
+use Rattle.pairs.specs.Kept.{modelled}
+use Rattle.verdict.specs.VerdictOf.{Told}
 use Rattle.verdict.specs.declared.Verdict.{Verdict}
 use Rattle.signature.specs.Reads.{rangeOf, loads}
 use Rattle.signature.specs.Signature.{tops}
 use Rattle.signature.specs.Unpack.{readsOf}
-use Rattle.signature.specs.SignatureAnswers.{loadsIn, wordsIn, unpackOf, unpackLeft}
+use Rattle.signature.specs.SignatureAnswers.{loadsIn, wordsIn, unpackNext, unpackOf}
 use Rattle.signature.specs.SignatureCases as cases
-use Rattle.signature.specs.SignatureCases.{Unpacks}
+use Rattle.signature.specs.ManyRuns.{wordsAt, readRuns, largeInRuns, allReads, unpackRunsOf, unpackRunsLeft}
 use Rattle.signature.specs.declared.Answer as unpacking
 use Rattle.signature.specs.declared.Answer.the-variants as words
-use Rattle.signature.proofs.SignatureCases.{unpack-case}
-use Rattle.signature.proofs.Few.{pick-short, words-few}
+use Rattle.signature.proofs.Lists.{append-parts}
+use Rattle.signature.proofs.SignatureCases.{lowest-case, unpack-told}
+use Rattle.signature.proofs.ManyRuns.{some-words, run-fits, words-long, all-long, reads-at}
+use Rattle.signature.proofs.Few.{pick-short, words-few, words-loads}
 use Rattle.signature.proofs.Signature.{top-chosen}
-use Rattle.night.specs.FilledReads.{filledReads}
-use Rattle.night.specs.Block.{BLOCK, blockOf, toldIn, blockIn}
-use Rattle.night.specs.Night.{wordsAt, blockAt, runsIn, fitting, large, largeFrom, largeTold, nightOf, JudgedRun, allDone, Nights}
-use Rattle.night.specs.inner.Large.{Largest, Given}
-use Rattle.night.specs.declared.Large.{Large}
+use Rattle.night.specs.Block.{BLOCK, toldIn, blockIn}
+use Rattle.night.specs.Night.{blockAt, runsIn, fitting, large, largeFrom, largeTold, nightOf, allDone, Nights}
+use Rattle.night.specs.inner.RunsJudged.{JudgedAs, JudgedReads, ReadsLaid, BlockPut, AllJudged}
 use Rattle.night.specs.declared.Large.the-variants.{At, Nothing}
 use Rattle.night.specs.declared.Answer.{Answer}
 use Rattle.night.specs.declared.Answer.the-variants.{Done, NotWellFormed, NoModel, WrongLength, TooLarge}
-use Rattle.night.proofs.FilledReads.{seen-well, read-small}
 use Rattle.night.proofs.Block.{spelled-laid}
 
--- where an answer says that the lowest word is that is too large
-abbrev pub placeIn : unpacking.Answer → ℕ → ℕ
-placeIn words.Done n = n
-placeIn words.NotWellFormed n = n
-placeIn words.WrongLength n = n
-placeIn (words.NotListed L) n = n
-placeIn (words.TooLarge k) n = k
-
 module _ (t : Trace) (w : So (wellFormed t)) where
-  -- how the words of one run may be answered
-  abbrev Either : List ℕ → unpacking.Answer → Type 0
-  Either ws a = (a ≡ words.Done) ⊎ ((k : ℕ) × (a ≡ words.TooLarge k) × (k < length ws))
-
-  either-of : (ws : List ℕ) → length ws ≡ length (tops t) → (a : unpacking.Answer) → Unpacks t ws (loads t) a → Either ws a
-  either-of ws l _ (cases.ten n) = absurd (n (form-iff t .0 w))
-  either-of ws l _ (cases.wrong f (inl d)) = absurd (d l)
-  either-of ws l _ (cases.wrong f (inr d)) = absurd (d refl)
-  either-of ws l _ (cases.large k f e m h g low) = inr (k, refl, h)
-  either-of ws l _ (cases.done f e m h) = inl refl
-
-  pub either : (ws : List ℕ) → length ws ≡ length (tops t) → Either ws (unpackOf t ws (length (loads t)))
-  either ws l = either-of ws l _ (unpack-case t ws (loads t))
-
-  largest-as : (ws : List ℕ) (a : unpacking.Answer) → unpackOf t ws (length (loads t)) ≡ a → Either ws a → Largest t ws (placeIn a (length ws))
-  largest-as ws words.Done e p = record { some = λ h. absurd (omega arith); none = λ h. e }
-  largest-as ws words.NotWellFormed e (inl d) = let z : _≡_ {A = ℕ} 0 1 = cc in absurd (omega arith)
-  largest-as ws words.NotWellFormed e (inr (k, d, h)) = let z : _≡_ {A = ℕ} 0 1 = cc in absurd (omega arith)
-  largest-as ws words.WrongLength e (inl d) = let z : _≡_ {A = ℕ} 0 1 = cc in absurd (omega arith)
-  largest-as ws words.WrongLength e (inr (k, d, h)) = let z : _≡_ {A = ℕ} 0 1 = cc in absurd (omega arith)
-  largest-as ws (words.NotListed L) e (inl d) = let z : _≡_ {A = ℕ} 0 1 = cc in absurd (omega arith)
-  largest-as ws (words.NotListed L) e (inr (k, d, h)) = let z : _≡_ {A = ℕ} 0 1 = cc in absurd (omega arith)
-  largest-as ws (words.TooLarge k) e (inl d) = let z : _≡_ {A = ℕ} 0 1 = cc in absurd (omega arith)
-  largest-as ws (words.TooLarge k) e (inr (j, d, h)) = let q : k ≡ j = cc in record { some = λ z. e; none = λ z. absurd (omega (arith, q, h)) }
-
-  pub largest-of : (ws : List ℕ) → length ws ≡ length (tops t) → (a : unpacking.Answer) → a ≡ unpackOf t ws (length (loads t)) → Largest t ws (placeIn a (length ws))
-  largest-of ws l a e = largest-as ws a (sym e) (subst (Either ws) (sym e) (either ws l))
-
   pub loads-told : loadsIn t ≡ length (loads t)
   unfolding loadsIn
   loads-told = ap (λ (b : Bool). cond b (length (loads t)) 0) w
@@ -104,65 +74,170 @@ module _ (t : Trace) (w : So (wellFormed t)) where
   pub tops-few : length (tops t) ≤ RECORDS
   tops-few = omega (arith, words-few t (λ L. rangeOf t L - 1) (top-chosen t), form-iff t .0 w .fits)
 
-module _ (t : Trace) (ws : List ℕ) where
-  -- the words of run i lie within those of all runs
-  pub run-fits : (n runs : ℕ) → length ws ≡ runs * n → (i : ℕ) → i < runs → i * n + n ≤ length ws
-  run-fits n runs l i h = omega (arith, l, mul-le-mul-right {m = suc i} {n = runs} n h, suc-mul i n)
+-- an answer to words of the right numbers tells of the lowest word that is too large
+pub told-large : (o : Option ℕ) (k : ℕ) → words.TooLarge k ≡ unpackNext o → o ≡ some k
+told-large (some j) k e = let q : j ≡ k = cc in ap some q
+told-large none k e = let z : _≡_ {A = ℕ} 0 1 = cc in absurd (omega arith)
 
-  pub part-words : (n : ℕ) → n ≡ length (tops t) → (z i : ℕ) → z ≡ n → take z (drop (i * n) ws) ≡ wordsAt t ws i
-  part-words n e z i q = ap₂ (λ (z n : ℕ). take z (drop (i * n) ws)) (q ∙ e) e
+pub told-done : (o : Option ℕ) → words.Done ≡ unpackNext o → o ≡ none
+told-done (some j) e = let z : _≡_ {A = ℕ} 0 1 = cc in absurd (omega arith)
+told-done none e = refl
 
-  pub words-long : (n : ℕ) → n ≡ length (tops t) → (i : ℕ) → i * n + n ≤ length ws → length (wordsAt t ws i) ≡ length (tops t)
-  words-long n e i h = sym (ap length (part-words n e n i refl)) ∙ length-take-le n (drop (i * n) ws) (omega (arith, length-drop (i * n) ws)) ∙ e
+-- and is no other refusal
+abbrev pub refuses : unpacking.Answer → Bool
+refuses words.Done = false
+refuses words.NotWellFormed = true
+refuses words.WrongLength = true
+refuses (words.NotListed L) = true
+refuses (words.TooLarge k) = false
+
+pub told-else : (o : Option ℕ) (a : unpacking.Answer) → a ≡ unpackNext o → refuses a ≡ true → ⊥
+told-else (some j) a e r = false≢true (sym (ap refuses e) ∙ r)
+told-else none a e r = false≢true (sym (ap refuses e) ∙ r)
+
+-- what unpacking leaves
+pub left-done : (t : Trace) (ws b : List ℕ) → unpackRunsOf t ws (length b) ≡ words.Done → unpackRunsLeft t ws b ≡ allReads t ws (readRuns t (length b))
+unfolding unpackRunsLeft
+left-done t ws b e = rw e refl
+
+pub left-large : (t : Trace) (ws b : List ℕ) (k : ℕ) → unpackRunsOf t ws (length b) ≡ words.TooLarge k → unpackRunsLeft t ws b ≡ b
+unfolding unpackRunsLeft
+left-large t ws b k e = rw e refl
+
+-- the reads laid into the front, or all as it was
+module _ (t : Trace) (ws out b : List ℕ) (m runs : ℕ) (room : runs * m ≤ length out) where
+  pub laid-large : (i k : ℕ) → b ≡ take (runs * m) out → At i k ≡ largeFrom t ws 0 runs → ReadsLaid t ws m runs out (b ++ drop (runs * m) out) (At i k)
+  laid-large i k e f =
+      let same : b ++ drop (runs * m) out ≡ out = ap (λ (l : List ℕ). l ++ drop (runs * m) out) e ∙ take-append-drop (runs * m) out in
+      record { answer = f; long = ap length same; stays = λ x y z. same; front = λ z. let y : _≡_ {A = ℕ} 0 1 = cc in absurd (omega arith) }
+
+  pub laid-done : b ≡ allReads t ws runs → m ≡ length (loads t) → Nothing ≡ largeFrom t ws 0 runs → ReadsLaid t ws m runs out (b ++ drop (runs * m) out) Nothing
+  laid-done e q f =
+      let l : length b ≡ runs * m = ap length e ∙ all-long t ws runs ∙ ap (λ (k : ℕ). runs * k) (sym q) in
+      record {
+        answer = f;
+        long = omega (arith, length-append b (drop (runs * m) out), length-drop (runs * m) out, l, room);
+        stays = λ x y z. let u : _≡_ {A = ℕ} 0 1 = cc in absurd (omega arith);
+        front = λ z. take-at b (drop (runs * m) out) (runs * m) l ∙ e;
+      }
+
+module _ (t : Trace) (w : So (wellFormed t)) (ws : List ℕ) (runs : ℕ) (l : length ws ≡ runs * length (tops t)) where
+  abbrev n : ℕ
+  n = length (tops t)
 
   -- what unpacking answers to the words of a run
   abbrev answerTo : ℕ → unpacking.Answer
   answerTo i = unpackOf t (wordsAt t ws i) (length (loads t))
 
-  pub large-here : (n i k : ℕ) → i < n → answerTo i ≡ words.TooLarge k → At i k ≡ largeFrom t ws i (n - i)
+  long : (i : ℕ) → i < runs → length (wordsAt t ws i) ≡ n
+  long i h = words-long t ws n refl i (run-fits t ws n runs l i h)
+
+  -- a word of a run among all words
+  word-at : (i j : ℕ) → j < n → getD (wordsAt t ws i) j 0 ≡ getD ws (i * n + j) 0
+  word-at i j h = getD-take n (drop (i * n) ws) j 0 h ∙ getD-drop (i * n) ws j 0
+
+  place-at : (i j : ℕ) → j < n → (i * n + j) % n ≡ j
+  place-at i j h = ap (λ (x : ℕ). x % n) (let e : i * n + j ≡ j + i * n = omega arith in e) ∙ add-mul-mod-self-right j i n ∙ mod-eq-of-lt h
+
+  large-word : (i j : ℕ) → j < n → largeInRuns t ws (i * n + j) ≡ ltb (getD (tops t) j 0) (getD (wordsAt t ws i) j 0)
+  unfolding largeInRuns
+  large-word i j h = ap₂ (λ (x y : ℕ). ltb (getD (tops t) x 0) y) (place-at i j h) (sym (word-at i j h))
+
+  small : (i j : ℕ) → j < n → largeInRuns t ws (i * n + j) ≡ false → getD (wordsAt t ws i) j 0 ≤ getD (tops t) j 0
+  small i j h e = ltb-false (getD (tops t) j 0) (getD (wordsAt t ws i) j 0) (sym (large-word i j h) ∙ e)
+
+  -- a run none of whose words is too large, and one whose lowest is
+  takes : (i : ℕ) → i < runs → ((j : ℕ) → j < n → largeInRuns t ws (i * n + j) ≡ false) → answerTo i ≡ words.Done
+  takes i h f = unpack-told t (wordsAt t ws i) (loads t) words.Done (cases.done (form-iff t .0 w) (long i h) refl (λ j b. small i j (omega (arith, long i h)) (f j (omega (arith, long i h)))))
+
+  turns : (i j : ℕ) → i < runs → j < n → So (largeInRuns t ws (i * n + j)) → ((k : ℕ) → k < j → largeInRuns t ws (i * n + k) ≡ false) → answerTo i ≡ words.TooLarge j
+  turns i j h b s f = unpack-told t (wordsAt t ws i) (loads t) (words.TooLarge j)
+      (cases.large j (form-iff t .0 w) (long i h) refl (omega (arith, long i h)) (so-lt .0 (sym (large-word i j b) ∙ s)) (λ k d. small i k (omega arith) (f k d)))
+
+  pub large-none : ((k : ℕ) → k < length ws → largeInRuns t ws k ≡ false) → (d i : ℕ) → i + d ≡ runs → largeFrom t ws i d ≡ Nothing
   unfolding largeFrom
-  large-here n i k h e =
-      let s : n - i ≡ suc (n - (i + 1)) = omega arith in
-      sym (ap (largeFrom t ws i) s ∙ ap (λ (a : unpacking.Answer). large a i (largeFrom t ws (suc i) (n - (i + 1)))) e)
+  large-none f zero i e = refl
+  large-none f (suc d) i e =
+      ap (λ (a : unpacking.Answer). large a i (largeFrom t ws (suc i) d)) (takes i (omega arith) (λ j b. f (i * n + j) (omega (arith, run-fits t ws n runs l i (omega arith)))))
+      ∙ large-none f d (suc i) (omega arith)
 
-  pub large-on : (n i : ℕ) → i < n → answerTo i ≡ words.Done → largeFrom t ws (i + 1) (n - (i + 1)) ≡ largeFrom t ws i (n - i)
-  unfolding largeFrom
-  large-on n i h e =
-      let s : n - i ≡ suc (n - (i + 1)) = omega arith in
-      let q : i + 1 ≡ suc i = omega arith in
-      ap (λ (j : ℕ). largeFrom t ws j (n - (i + 1))) q ∙ sym (ap (largeFrom t ws i) s ∙ ap (λ (a : unpacking.Answer). large a i (largeFrom t ws (suc i) (n - (i + 1)))) e)
+  module _ (k : ℕ) (b : k < length ws) (s : So (largeInRuns t ws k)) (f : (j : ℕ) → j < k → largeInRuns t ws j ≡ false) where
+    has : 0 < n
+    has = some-words runs n (omega (arith, l))
 
-  pub large-over : (n i : ℕ) → n ≤ i → largeFrom t ws i (n - i) ≡ Nothing
-  unfolding largeFrom
-  large-over n i h = let s : n - i ≡ 0 = omega arith in ap (largeFrom t ws i) s
+    whole : k / n * n + k % n ≡ k
+    whole = div-add-mod' k n
 
-  module _ (w : So (wellFormed t)) where
-    -- one run of those that have no word too large
-    first-none : (a : unpacking.Answer) (i : ℕ) (rest : Large) → Either t w (wordsAt t ws i) a → large a i rest ≡ Nothing → (a ≡ words.Done) × (rest ≡ Nothing)
-    first-none words.Done i rest p e = (refl, e)
-    first-none words.NotWellFormed i rest (inl d) e = (d, e)
-    first-none words.NotWellFormed i rest (inr (k, d, h)) e = let z : _≡_ {A = ℕ} 0 1 = cc in absurd (omega arith)
-    first-none words.WrongLength i rest (inl d) e = (d, e)
-    first-none words.WrongLength i rest (inr (k, d, h)) e = let z : _≡_ {A = ℕ} 0 1 = cc in absurd (omega arith)
-    first-none (words.NotListed L) i rest (inl d) e = (d, e)
-    first-none (words.NotListed L) i rest (inr (k, d, h)) e = let z : _≡_ {A = ℕ} 0 1 = cc in absurd (omega arith)
-    first-none (words.TooLarge k) i rest p e = let z : _≡_ {A = ℕ} 0 1 = cc in absurd (omega arith)
+    in-run : k % n < n
+    in-run = mod-lt k has
 
-    pub large-none : (k i : ℕ) → ((j : ℕ) → i ≤ j → j < i + k → length (wordsAt t ws j) ≡ length (tops t)) → largeFrom t ws i k ≡ Nothing → (j : ℕ) → i ≤ j → j < i + k → answerTo j ≡ words.Done
+    run-of : k / n < runs
+    run-of = div-lt-iff-lt-mul {k = n} {x = k} {y = runs} has .1 (omega (arith, l))
+
+    -- the runs before its own have no word too large
+    before-it : (i : ℕ) → i < k / n → (j : ℕ) → j < n → i * n + j < k
+    before-it i h j c = omega (arith, whole, mul-le-mul-right {m = suc i} {n = k / n} n h, suc-mul i n)
+
+    pub large-some : (d i : ℕ) → i + d ≡ runs → i ≤ k / n → largeFrom t ws i d ≡ At (k / n) (k % n)
     unfolding largeFrom
-    large-none zero i long e j a b = absurd (omega arith)
-    large-none (suc k) i long e j a b =
-        let p = first-none (answerTo i) i (largeFrom t ws (suc i) k) (either t w (wordsAt t ws i) (long i (omega arith) (omega arith))) e in
-        elim (later i j a) [
-          | inl q ↦ subst (λ (j : ℕ). answerTo j ≡ words.Done) q (p .0)
-          | inr q ↦ large-none k (suc i) (λ j x y. long j (omega arith) (omega arith)) (p .1) j q (omega arith)
-        ]
-      where
-        later : (i j : ℕ) → i ≤ j → (i ≡ j) ⊎ (suc i ≤ j)
-        later zero zero h = inl refl
-        later zero (suc j) h = inr (omega arith)
-        later (suc i) zero h = absurd (omega arith)
-        later (suc i) (suc j) h = elim (later i j (omega arith)) [ inl e ↦ inl (ap suc e) | inr e ↦ inr (omega arith) ]
+    large-some zero i e h = absurd (omega (arith, run-of))
+    large-some (suc d) i e h = elim (eq? i (k / n)) [
+      | inl q ↦ ap (λ (a : unpacking.Answer). large a i (largeFrom t ws (suc i) d)) (ap answerTo q ∙ turns (k / n) (k % n) run-of in-run (subst (λ (x : ℕ). So (largeInRuns t ws x)) (sym whole) s) (λ j c. f (k / n * n + j) (omega (arith, whole)))) ∙ ap (λ (x : ℕ). At x (k % n)) q
+      | inr q ↦ ap (λ (a : unpacking.Answer). large a i (largeFrom t ws (suc i) d)) (takes i (omega arith) (λ j c. f (i * n + j) (before-it i (omega arith) j c))) ∙ large-some d (suc i) (omega arith) (omega arith)
+    ]
+
+  -- so the lowest word too large, if any, tells which run is the first that has one
+  pub large-told : (k : ℕ) → lowest (largeInRuns t ws) (length ws) 0 ≡ some k → (At (k / n) (k % n) ≡ largeFrom t ws 0 runs) × (0 < n)
+  large-told k e =
+      let c = subst (λ (o : Option ℕ). Lowest (λ k. (k < length ws) × So (largeInRuns t ws k)) o) e (lowest-case (largeInRuns t ws) (length ws)) in
+      let low : (j : ℕ) → j < k → largeInRuns t ws j ≡ false = λ j h. off (λ u. omega (arith, c .1 j (omega (arith, c .0 .0), u))) in
+      (sym (large-some k (c .0 .0) (c .0 .1) low runs 0 (omega arith) (omega arith)), has k (c .0 .0) (c .0 .1) low)
+
+  pub nothing-told : lowest (largeInRuns t ws) (length ws) 0 ≡ none → Nothing ≡ largeFrom t ws 0 runs
+  nothing-told e =
+      let c = subst (λ (o : Option ℕ). Lowest (λ k. (k < length ws) × So (largeInRuns t ws k)) o) e (lowest-case (largeInRuns t ws) (length ws)) in
+      sym (large-none (λ k h. off (λ u. c k (h, u))) runs 0 (omega arith))
+
+-- the reads of so many runs fit as many: where a run has none there are no words either
+module _ (t : Trace) (ws out : List ℕ) (runs : ℕ) (l : length ws ≡ runs * length (tops t)) (r : length out ≡ runs * length (loads t)) where
+  abbrev m : ℕ
+  m = length (loads t)
+
+  few : length (tops t) ≤ m
+  few = words-loads t (λ L. rangeOf t L - 1) (top-chosen t)
+
+  -- how many runs there are is lost only where a run has no loads
+  counted : 0 < m → readRuns t (length out) ≡ runs
+  counted h = ap (λ (k : ℕ). k / m) r ∙ mul-div-cancel runs h
+
+  abbrev pub Fits : ℕ → Type 0
+  Fits k = (length out ≡ k * m) × (length ws ≡ k * length (tops t)) × (allReads t ws k ≡ allReads t ws runs)
+
+  none-fits : m ≡ 0 → Fits (readRuns t (length out))
+  none-fits z =
+      let a : runs * m ≡ 0 = ap (λ (k : ℕ). runs * k) z ∙ omega arith in
+      let q : readRuns t (length out) * m ≡ 0 = ap (λ (k : ℕ). readRuns t (length out) * k) z ∙ omega arith in
+      let y : length (tops t) ≡ 0 = omega (arith, few) in
+      let b : runs * length (tops t) ≡ 0 = ap (λ (k : ℕ). runs * k) y ∙ omega arith in
+      let c : readRuns t (length out) * length (tops t) ≡ 0 = ap (λ (k : ℕ). readRuns t (length out) * k) y ∙ omega arith in
+      (r ∙ a ∙ sym q, l ∙ b ∙ sym c, ext-getD 0 (allReads t ws (readRuns t (length out))) (allReads t ws runs) (all-long t ws (readRuns t (length out)) ∙ q ∙ sym (all-long t ws runs ∙ a)) (λ i h. absurd (omega (arith, h, all-long t ws (readRuns t (length out)), q))))
+
+  pub fits-runs : Fits (readRuns t (length out))
+  fits-runs = elim (eq? m 0) [
+    | inl z ↦ none-fits z
+    | inr d ↦ subst Fits (sym (counted (omega arith))) (r, l, refl)
+  ]
+
+-- a part that two lists share
+pub part-same : (a b : List ℕ) (x y : ℕ) → x + y ≤ length a → x + y ≤ length b → take (x + y) a ≡ take (x + y) b → take y (drop x a) ≡ take y (drop x b)
+part-same a b x y h k f = append-parts (take x a) (take x b) (take y (drop x a)) (take y (drop x b)) (length-take-le x a (omega arith) ∙ sym (length-take-le x b (omega arith))) (sym (take-add x y a) ∙ f ∙ take-add x y b) .1
+
+-- a part of small numbers
+pub part-small : (out : List ℕ) → ((j : ℕ) → getD out j 0 < VALUES) → (x y j : ℕ) → getD (take y (drop x out)) j 0 < VALUES
+part-small out f x y j = elim (decLt j (length (take y (drop x out)))) [
+  | yes h ↦ subst (λ (v : ℕ). v < VALUES) (sym (getD-take y (drop x out) j 0 (omega (arith, length-take y (drop x out))) ∙ getD-drop x out j 0)) (f (x + j))
+  | no h ↦ omega (arith, List·getD-eq-default (take y (drop x out)) 0 {n = j} (omega arith))
+]
 
 pub block-part : (out : List ℕ) (i z : ℕ) → z ≡ BLOCK → i * BLOCK + BLOCK ≤ length out → length (take z (drop (i * BLOCK) out)) ≡ BLOCK
 block-part out i z e h = length-take-le z (drop (i * BLOCK) out) (omega (arith, length-drop (i * BLOCK) out)) ∙ e
@@ -184,51 +259,87 @@ module _ (out b : List ℕ) (r : ℕ) (fits : r * BLOCK + BLOCK ≤ length out) 
   pub block-here : blockAt put r ≡ b
   block-here = rw (drop-at (take (r * BLOCK) out) (b ++ drop BLOCK (drop (r * BLOCK) out)) (r * BLOCK) front-long) (take-at b _ BLOCK l)
 
-  pub block-before : (s : ℕ) → s < r → blockAt put s ≡ blockAt out s
-  block-before s d =
-      ext-getD 0 _ _ (rw (length-take, length-take, length-drop, length-drop, put-long) refl)
-      (λ i h. let k : i < BLOCK = omega (arith, length-take BLOCK (drop (s * BLOCK) put)) in
-      getD-take BLOCK (drop (s * BLOCK) put) i 0 k
-      ∙ getD-drop (s * BLOCK) put i 0
-      ∙ (List·getD-append (take (r * BLOCK) out) _ 0 (s * BLOCK + i) (omega (arith, front-long)) ∙ getD-take (r * BLOCK) out (s * BLOCK + i) 0 (omega arith))
-      ∙ sym (getD-drop (s * BLOCK) out i 0)
-      ∙ sym (getD-take BLOCK (drop (s * BLOCK) out) i 0 k))
+  pub front-same : take (r * BLOCK) put ≡ take (r * BLOCK) out
+  front-same = take-at (take (r * BLOCK) out) (b ++ drop BLOCK (drop (r * BLOCK) out)) (r * BLOCK) front-long
 
-module _ (t : Trace) (m : ℕ) (ws : List ℕ) where
-  -- so many runs are judged
-  pub record Judging (out : List ℕ) (runs i : ℕ) : Type 0 where
-    pub long : length out ≡ runs * BLOCK
-    pub judged : (j : ℕ) → j < i → JudgedRun t m (wordsAt t ws j) (blockAt out j)
+  rest-same : drop (r * BLOCK + BLOCK) put ≡ drop (r * BLOCK + BLOCK) out
+  rest-same =
+      sym (drop-drop BLOCK (r * BLOCK) put)
+      ∙ ap (drop BLOCK) (drop-at (take (r * BLOCK) out) (b ++ drop BLOCK (drop (r * BLOCK) out)) (r * BLOCK) front-long)
+      ∙ drop-at b (drop BLOCK (drop (r * BLOCK) out)) BLOCK l
+      ∙ drop-drop BLOCK (r * BLOCK) out
 
-  pub judging-more : (out b : List ℕ) (runs i z : ℕ) → Judging out runs i → i < runs → length b ≡ BLOCK → z ≡ BLOCK → JudgedRun t m (wordsAt t ws i) b
-      → Judging (take (i * BLOCK) out ++ (b ++ drop z (drop (i * BLOCK) out))) runs (i + 1)
-  judging-more out b runs i z p h l e q = subst (λ (z : ℕ). Judging (take (i * BLOCK) out ++ (b ++ drop z (drop (i * BLOCK) out))) runs (i + 1)) (sym e) made
-    where
-      fits : i * BLOCK + BLOCK ≤ length out
-      fits = omega (arith, p .long)
+  pub block-behind : (s : ℕ) → r < s → blockAt put s ≡ blockAt out s
+  block-behind s d =
+      let y = s * BLOCK - (r * BLOCK + BLOCK) in
+      let e : s * BLOCK ≡ r * BLOCK + BLOCK + y = omega arith in
+      ap (λ (x : ℕ). take BLOCK (drop x put)) e
+      ∙ ap (take BLOCK) (sym (drop-drop y (r * BLOCK + BLOCK) put) ∙ ap (drop y) rest-same ∙ drop-drop y (r * BLOCK + BLOCK) out)
+      ∙ sym (ap (λ (x : ℕ). take BLOCK (drop x out)) e)
 
-      each : (j : ℕ) → (j ≡ i) ⊎ (j < i) → JudgedRun t m (wordsAt t ws j) (blockAt (put out b i fits l) j)
-      each j (inl d) = subst (λ (j : ℕ). JudgedRun t m (wordsAt t ws j) (blockAt (put out b i fits l) j)) (sym d) (subst (JudgedRun t m (wordsAt t ws i)) (sym (block-here out b i fits l)) q)
-      each j (inr d) = subst (JudgedRun t m (wordsAt t ws j)) (sym (block-before out b i fits l j d)) (p .judged j d)
+module _ (t : Trace) (m n : ℕ) where
+  -- a block put in its place, the part that was lent being as long as one
+  pub block-put : (out b : List ℕ) (i z : ℕ) → i * BLOCK + BLOCK ≤ length out → length b ≡ BLOCK → z ≡ BLOCK → JudgedReads t m (take n (drop (i * n) out)) b → BlockPut t m n out (take (i * BLOCK) out ++ (b ++ drop z (drop (i * BLOCK) out))) i
+  block-put out b i z fits l e q = subst (λ (z : ℕ). BlockPut t m n out (take (i * BLOCK) out ++ (b ++ drop z (drop (i * BLOCK) out))) i) (sym e) (record {
+    long = put-long out b i fits l;
+    front = front-same out b i fits l;
+    behind = block-behind out b i fits l;
+    judged = subst (JudgedReads t m (take n (drop (i * n) out))) (sym (block-here out b i fits l)) q;
+  })
 
-      last : (j i : ℕ) → j < i + 1 → (j ≡ i) ⊎ (j < i)
-      last zero zero h = inl refl
-      last zero (suc i) h = inr (omega arith)
-      last (suc j) zero h = absurd (omega arith)
-      last (suc j) (suc i) h = elim (last j i (omega arith)) [ inl e ↦ inl (ap suc e) | inr e ↦ inr (omega arith) ]
+  -- the runs from i on are judged, and the reads of those before it stand as they did
+  pub record Judging (before out : List ℕ) (runs i : ℕ) : Type 0 where
+    pub long : length out ≡ length before
+    pub front : take (i * n) out ≡ take (i * n) before
+    pub judged : (j : ℕ) → i ≤ j → j < runs → JudgedReads t m (take n (drop (j * n) before)) (blockAt out j)
 
-      made : Judging (put out b i fits l) runs (i + 1)
-      made = record { long = put-long out b i fits l ∙ p .long; judged = λ j d. each j (last j i d) }
+  pub judging-start : (out : List ℕ) (runs : ℕ) → Judging out out runs runs
+  judging-start out runs = record { long = refl; front = refl; judged = λ j a b. absurd (omega arith) }
 
-  pub told-judged : So (wellFormed t) → So (modelled m) → (v : Verdict) → Told (filledReads t (readsOf t ws)) m v → JudgedRun t m ws (blockIn (toldIn v))
-  told-judged w k v h =
-      let (u, s, e) = h .says k (seen-well t (readsOf t ws) (read-small t (form-iff t .0 w) ws) w) in
-      (u, s, ap (λ (v : Verdict). blockIn (toldIn v)) e ∙ spelled-laid u)
+  module _ (few : n ≤ RECORDS) (before out after : List ℕ) (runs i : ℕ) (room : length before ≡ runs * BLOCK) (h : i < runs) (p : Judging before out runs (i + 1)) (q : BlockPut t m n out after i) where
+    step : (i + 1) * n ≡ i * n + n
+    step = ap (λ (k : ℕ). k * n) (add-one i) ∙ suc-mul i n
 
--- what unpacking leaves where it takes the words
-pub left-done : (t : Trace) (ws b : List ℕ) → unpackOf t ws (length b) ≡ words.Done → unpackLeft t ws b ≡ readsOf t ws
-unfolding unpackLeft
-left-done t ws b e = rw e refl
+    low : i * n ≤ i * BLOCK
+    low = mul-le-mul-left i (omega arith)
+
+    room-here : i * n + n ≤ length out
+    room-here = omega (arith, low, p .long, room)
+
+    -- the reads of run i stand as they did
+    own-reads : take n (drop (i * n) out) ≡ take n (drop (i * n) before)
+    own-reads = part-same out before (i * n) n room-here (omega (arith, room-here, p .long)) (ap (λ (k : ℕ). take k out) (sym step) ∙ p .front ∙ ap (λ (k : ℕ). take k before) step)
+
+    judged-from : (j : ℕ) → i ≤ j → j < runs → JudgedReads t m (take n (drop (j * n) before)) (blockAt after j)
+    judged-from j a b = elim (eq? j i) [
+      | inl e ↦ subst (λ (j : ℕ). JudgedReads t m (take n (drop (j * n) before)) (blockAt after j)) (sym e) (subst (λ (vs : List ℕ). JudgedReads t m vs (blockAt after i)) own-reads (q .judged))
+      | inr d ↦ subst (JudgedReads t m (take n (drop (j * n) before))) (sym (q .behind j (omega arith))) (p .judged j (omega arith) b)
+    ]
+
+    pub judging-more : Judging before after runs i
+    judging-more = record {
+      long = q .long ∙ p .long;
+      front = sym (take-take (i * n) (i * BLOCK) after low) ∙ ap (take (i * n)) (q .front) ∙ take-take (i * n) (i * BLOCK) out low
+          ∙ (sym (take-take (i * n) (i * n + n) out (omega arith)) ∙ ap (take (i * n)) (ap (λ (k : ℕ). take k out) (sym step) ∙ p .front ∙ ap (λ (k : ℕ). take k before) step) ∙ take-take (i * n) (i * n + n) before (omega arith));
+      judged = judged-from;
+    }
+
+-- the verdict on a trace, once it is laid out
+pub told-judged : (u : Trace) (m : ℕ) → So (wellFormed u) → So (modelled m) → (v : Verdict) → Told u m v → JudgedAs u m (blockIn (toldIn v))
+told-judged u m w k v h = let (x, s, e) = h .says k w in (x, s, ap (λ (v : Verdict). blockIn (toldIn v)) e ∙ spelled-laid x)
+
+-- where the reads of all runs stood in front, each run is judged by its own
+pub all-judged : (t : Trace) (m n : ℕ) (ws before after : List ℕ) (runs : ℕ) → n ≡ length (loads t) → length before ≡ runs * BLOCK → runs * n ≤ length before → take (runs * n) before ≡ allReads t ws runs → AllJudged t m n before after runs → allDone t m ws runs after
+all-judged t m n ws before after runs e long room f (l, j) = (l ∙ long, λ i h. subst (λ (vs : List ℕ). JudgedReads t m vs (blockAt after i)) (same i h) (j i h))
+  where
+    fits : (i : ℕ) → i < runs → i * n + n ≤ runs * n
+    fits i h = omega (arith, mul-le-mul-right {m = suc i} {n = runs} n h, suc-mul i n)
+
+    same : (i : ℕ) → i < runs → take n (drop (i * n) before) ≡ readsOf t (wordsAt t ws i)
+    same i h =
+        part-same before (allReads t ws runs) (i * n) n (omega (arith, fits i h, room)) (omega (arith, fits i h, all-long t ws runs, ap (λ (k : ℕ). runs * k) e)) (sym (take-take (i * n + n) (runs * n) before (fits i h)) ∙ ap (take (i * n + n)) f)
+        ∙ ap (λ (n : ℕ). take n (drop (i * n) (allReads t ws runs))) e
+        ∙ reads-at t ws runs i h
 
 module _ (t : Trace) (m : ℕ) (ws before : List ℕ) where
   -- a refusal leaves all as it was

@@ -23,7 +23,8 @@ use Rattle.rules.proofs.Says.{verdict-one}
 use Rattle.signature.specs.Unpack.{readsOf}
 use Rattle.night.specs.FilledReads.{filledReads}
 use Rattle.night.specs.Block.{BLOCK, blockOf}
-use Rattle.night.specs.Night.{wordsAt, blockAt, runsIn, nightOf, JudgedRun, allDone, Nights}
+use Rattle.signature.specs.ManyRuns.{wordsAt}
+use Rattle.night.specs.Night.{blockAt, runsIn, nightOf, JudgedRun, allDone, Nights}
 use Rattle.night.specs.declared.Answer.{Answer}
 use Rattle.night.specs.declared.Answer.the-variants.{Done, NotWellFormed, NoModel, WrongLength, TooLarge}
 use Rattle.night.proofs.seeing.seen.Reads as sees

@@ -1,6 +1,5 @@
 -- A night's worth of runs of one test program: the words of each run, one behind the other, and a block of numbers for the verdict on each.
 --
---   wordsAt t ws i    == the words of run i
 --   blockAt out i     == its numbers
 --   runsIn n          == how many runs have room in n numbers
 --   fitting t ws n    == the words are those of as many runs, and no number is left over
@@ -28,6 +27,7 @@ use Rattle.signature.specs.Reads.{loads}
 use Rattle.signature.specs.Signature.{tops}
 use Rattle.signature.specs.Unpack.{readsOf}
 use Rattle.signature.specs.SignatureAnswers.{unpackOf}
+use Rattle.signature.specs.ManyRuns.{wordsAt}
 use Rattle.signature.specs.declared.Answer as unpacking
 use Rattle.signature.specs.declared.Answer.the-variants as words
 use Rattle.night.specs.FilledReads.{filledReads}
@@ -36,9 +36,6 @@ use Rattle.night.specs.declared.Large.{Large}
 use Rattle.night.specs.declared.Large.the-variants.{At, Nothing}
 use Rattle.night.specs.declared.Answer.{Answer}
 use Rattle.night.specs.declared.Answer.the-variants.{Done, NotWellFormed, NoModel, WrongLength, TooLarge}
-
-abbrev pub wordsAt : Trace → List ℕ → ℕ → List ℕ
-wordsAt t ws i = take (length (tops t)) (drop (i * length (tops t)) ws)
 
 abbrev pub blockAt : List ℕ → ℕ → List ℕ
 blockAt out i = take BLOCK (drop (i * BLOCK) out)

@@ -3,7 +3,7 @@
 --   pick-short  == no more pass than there are
 --   pick-none   == none pass
 --   range-small == a load's list is at most one longer than the trace
---   words-few   == no more words than records
+--   words-few, words-loads == no more words than records, and no more than loads
 use mathlib.Core.Path.{_≡_, refl, sym, ap, _∙_}
 use mathlib.Core.Logic.{_⊎_, inl, inr}
 use mathlib.Core.Bool.{Bool, true, false, cond, So, _&&_, false≢true}
@@ -18,7 +18,7 @@ use Rattle.trace.specs.Op.{thread, reads, written}
 use Rattle.trace.specs.Trace.{at}
 use Rattle.trace.specs.declared.Trace.{Trace}
 use Rattle.signature.specs.DigitWords.{LIMIT, wordsFrom, wordsOf, packed}
-use Rattle.signature.specs.Reads.{other, picks, each, values, rangeOf, reader, readers}
+use Rattle.signature.specs.Reads.{other, picks, each, values, rangeOf, reader, readers, loads}
 use Rattle.signature.specs.Signature.{threadWords, wordsUpTo, wordsBy}
 use Rattle.signature.proofs.Lists.{each-long}
 use Rattle.signature.proofs.Signature.{Chosen, thread-long, reader-iff}
@@ -99,3 +99,11 @@ module _ (t : Trace) where
 
   pub words-few : (g : ℕ → ℕ) → Chosen t g → length (wordsBy t g) ≤ t .len
   words-few g h = omega (arith, up-few g h THREADS 0, pick-short (behind 0) 0 (t .len))
+
+  pub words-loads : (g : ℕ → ℕ) → Chosen t g → length (wordsBy t g) ≤ length (loads t)
+  unfolding loads behind
+  words-loads g h = omega (
+    arith,
+    up-few g h THREADS 0,
+    split-few (behind 0) (λ j. false) (λ j. reads (at t j)) (λ j s. (and-iff (same-iff {a = reads (at t j)}) (so-le {m = 0} {n = thread (at t j)}) .0 s .0, refl)) (λ j s. absurd (false≢true s)) 0 (t .len),
+  )

@@ -12,4 +12,5 @@ pub mod Putting
 pub mod SignatureAnswers
 pub mod Taken
 pub mod SignatureCases
+pub mod ManyRuns
 pub mod Unique

@@ -5,12 +5,14 @@
 --   words-none, words-some, size-none, size-some, loads-none, loads-some == how many words and reads there are
 --   pack-ten, pack-length, pack-unlisted, pack-done == packing
 --   unpack-ten, unpack-words, unpack-reads, unpack-large, unpack-done == unpacking
+--   lowest-like, large-same, large-one == a word is too large exactly where it is above the one laid down, in one run as in many
 use mathlib.Core.Path.{_≡_, refl, sym, ap, ap₂, _∙_, subst}
 use mathlib.Core.Logic.{_≢_, _↔_, inl, inr}
 use mathlib.Core.Bool.{Bool, true, false, cond, So, _&&_, false≢true}
 use mathlib.Core.List.{List}
 use mathlib.Core.Option.{Option, none, some}
-use Prim.Native.Nat.{ℕ, _+_, _-_, _<_, _≤_}
+use Prim.Native.Nat.{ℕ, _+_, _-_, _%_, _<_, _≤_}
+use native.Mathlib.Nat.{mod-lt, mod-eq-of-lt}
 use native.Mathlib.Omega.{arith}
 use lib.Dec.{eqb, ltb}
 use lib.ListN.{length, getD, take}
@@ -30,6 +32,7 @@ use Rattle.signature.specs.Reads.{values, rangeOf, digitOf, loads, unlis
 use Rattle.signature.specs.Signature.{signature, tops, tooLarge}
 use Rattle.signature.specs.Unpack.{wordCount, readsOf}
 use Rattle.signature.specs.SignatureAnswers.{wordsIn, sizeIn, loadsIn, readIn, packNext, packThen, packOf, packLeft, unpackNext, unpackThen, unpackOf, unpackLeft}
+use Rattle.signature.specs.ManyRuns.{largeInRuns}
 use Rattle.signature.specs.inner.WordsLaid.{choice, threadOf, allFrom, noneLaid, laidWords}
 use Rattle.signature.specs.inner.LoadLists.{foundOf, DigitsBelow, over}
 use Rattle.signature.specs.declared.Answer.{Answer}
@@ -154,14 +157,26 @@ module _ (t : Trace) where
           unfolding unpackOf
           unpack-done e now f = pair Done now (rw (w, eq-eqb (length ws) (length (tops t)) l, eq-eqb (length b) (length (loads t)) m, e) refl) f
 
--- above the largest word laid down is above the largest that the digits make
-pub large-same : (t : Trace) → t .len ≤ RECORDS → (ws : List ℕ) → length ws ≡ length (tops t)
-    → lowest (over (allFrom t true noneLaid 0 THREADS .of) ws) (length ws) 0 ≡ lowest (tooLarge t ws) (length ws) 0
-unfolding over tooLarge laidWords
-large-same t few ws l =
-    lowest-one (λ k. (k < length ws) × So (tooLarge t ws k)) (lowest (over (allFrom t true noneLaid 0 THREADS .of) ws) (length ws) 0) (lowest (tooLarge t ws) (length ws) 0)
-    (lowest-iff (over (allFrom t true noneLaid 0 THREADS .of) ws) (λ k. (k < length ws) × So (tooLarge t ws k)) (length ws) (λ k h. (λ u. (h, subst (λ (b : Bool). So b) (same k h) u), λ p. subst (λ (b : Bool). So b) (sym (same k h)) (p .1))) (λ k p. p .0) (length ws) 0 (omega arith) (λ k p. omega arith))
-    (passes (tooLarge t ws) (length ws))
+-- two tests that agree have the same lowest place
+pub lowest-like : (p q : ℕ → Bool) (n : ℕ) → ((k : ℕ) → k < n → p k ≡ q k) → lowest p n 0 ≡ lowest q n 0
+lowest-like p q n e =
+    lowest-one (λ k. (k < n) × So (q k)) (lowest p n 0) (lowest q n 0)
+    (lowest-iff p (λ k. (k < n) × So (q k)) n (λ k h. (λ u. (h, subst (λ (b : Bool). So b) (e k h) u), λ r. subst (λ (b : Bool). So b) (sym (e k h)) (r .1))) (λ k r. r .0) n 0 (omega arith) (λ k r. omega arith))
+    (passes q n)
+
+-- above the largest word laid down is above the largest that the digits make, in whichever run
+pub large-same : (t : Trace) → t .len ≤ RECORDS → (ws : List ℕ) → (0 < length ws → 0 < length (tops t))
+    → lowest (over (allFrom t true noneLaid 0 THREADS .of) (allFrom t true noneLaid 0 THREADS .count) ws) (length ws) 0 ≡ lowest (largeInRuns t ws) (length ws) 0
+unfolding over largeInRuns laidWords
+large-same t few ws has = lowest-like (over (allFrom t true noneLaid 0 THREADS .of) (allFrom t true noneLaid 0 THREADS .count) ws) (largeInRuns t ws) (length ws) same
   where
-    same : (k : ℕ) → k < length ws → over (allFrom t true noneLaid 0 THREADS .of) ws k ≡ tooLarge t ws k
-    same k h = ap (λ (n : ℕ). ltb n (getD ws k 0)) (sym (getD-take (allFrom t true noneLaid 0 THREADS .count) (allFrom t true noneLaid 0 THREADS .of) k 0 (omega (arith, h, l, tops-count t few))) ∙ ap (λ (us : List ℕ). getD us k 0) (tops-laid t few))
+    same : (k : ℕ) → k < length ws → over (allFrom t true noneLaid 0 THREADS .of) (allFrom t true noneLaid 0 THREADS .count) ws k ≡ largeInRuns t ws k
+    same k h =
+        let m : k % length (tops t) < length (tops t) = mod-lt k (has (omega arith)) in
+        ap (λ (n : ℕ). ltb (getD (allFrom t true noneLaid 0 THREADS .of) (k % n) 0) (getD ws k 0)) (tops-count t few)
+        ∙ ap (λ (n : ℕ). ltb n (getD ws k 0)) (sym (getD-take (allFrom t true noneLaid 0 THREADS .count) (allFrom t true noneLaid 0 THREADS .of) (k % length (tops t)) 0 (omega (arith, m, tops-count t few))) ∙ ap (λ (us : List ℕ). getD us (k % length (tops t)) 0) (tops-laid t few))
+
+-- one run is the first of its runs
+pub large-one : (t : Trace) (ws : List ℕ) → length ws ≡ length (tops t) → lowest (largeInRuns t ws) (length ws) 0 ≡ lowest (tooLarge t ws) (length ws) 0
+unfolding largeInRuns tooLarge
+large-one t ws l = lowest-like (largeInRuns t ws) (tooLarge t ws) (length ws) (λ k h. ap (λ (n : ℕ). ltb (getD (tops t) n 0) (getD ws k 0)) (mod-eq-of-lt (omega (arith, l))))

@@ -15,6 +15,8 @@ use Rattle.signature.proofs.packing.pack.Reads as pack
 use Rattle.signature.proofs.packing.pack.Kinds as pack-kinds
 use Rattle.signature.proofs.unpacking.unpack.Reads as unpack
 use Rattle.signature.proofs.unpacking.unpack.Kinds as unpack-kinds
+use Rattle.signature.proofs.runs.unpack_runs.Reads as unpack-runs
+use Rattle.signature.proofs.runs.unpack_runs.Kinds as unpack-runs-kinds
 
 pub words-of-settles : Settles 0 words-of-kinds.ps words-of-kinds.r words-of.Post
 words-of-settles κs a x y s t p q = p ∙ sym q
@@ -36,3 +38,9 @@ unpack-settles κs a x y s t p q = p .0 ∙ sym (q .0)
 
 pub unpack-leaves : Leaves 2 unpack-kinds.ps unpack-kinds.r (λ κs s. now (s .1 .1 .0)) unpack.Post
 unpack-leaves κs a x y s t p q = p .1 ∙ sym (q .1)
+
+pub unpack-runs-settles : Settles 2 unpack-runs-kinds.ps unpack-runs-kinds.r unpack-runs.Post
+unpack-runs-settles κs a x y s t p q = p .0 ∙ sym (q .0)
+
+pub unpack-runs-leaves : Leaves 2 unpack-runs-kinds.ps unpack-runs-kinds.r (λ κs s. now (s .1 .1 .0)) unpack-runs.Post
+unpack-runs-leaves κs a x y s t p q = p .1 ∙ sym (q .1)

@@ -4,6 +4,7 @@ use trace::RECORDS;
 mod choices;
 pub mod packing;
 mod products;
+pub mod runs;
 pub mod unpacking;
 
 // What packing and unpacking answer: a read that is not in its list is told with its record, a word that is too large with its place.

@@ -3,17 +3,21 @@
 --   foundOf x    == a lowest place, or none
 --   DigitsBelow t last == the digit that is packed is one of its load's
 --   placeAfter t i k, readPut t i k d vs == the next place, and the reads, once record i is looked at: its digit is d
---   over us ws k == word k of ws is larger than that of us
+--   over us n ws k == word k of ws is larger than the one at its place among the n words of us
+--   RunsGiven t ws out n m k == a well formed program has n words and m loads; ws are the words of k runs, and out has room for their reads
 use mathlib.Core.Bool.{Bool, So, cond}
 use mathlib.Core.List.{List}
 use mathlib.Core.Option.{Option, none, some}
-use Prim.Native.Nat.{ℕ, _+_, _<_}
+use mathlib.Core.Path.{_≡_}
+use Prim.Native.Nat.{ℕ, _+_, _*_, _%_, _<_}
 use lib.Dec.{ltb}
-use lib.ListN.{getD, set}
+use lib.ListN.{length, getD, set}
 use Rattle.trace.specs.Op.{reads}
 use Rattle.trace.specs.Trace.{at}
+use Rattle.trace.specs.WellFormed.{wellFormed}
 use Rattle.trace.specs.declared.Trace.{Trace}
-use Rattle.signature.specs.Reads.{rangeOf, valueOf}
+use Rattle.signature.specs.Reads.{rangeOf, valueOf, loads}
+use Rattle.signature.specs.Signature.{tops}
 use Rattle.signature.specs.inner.WordsLaid.{choice}
 use Rattle.signature.specs.declared.Found.{Found}
 use Rattle.signature.specs.declared.Found.the-variants.{At, Nothing}
@@ -25,8 +29,15 @@ foundOf none = Nothing
 abbrev pub DigitsBelow : Trace → Bool → Type 0
 DigitsBelow t last = (L : ℕ) → L < t .len → So (reads (at t L)) → choice t last L < rangeOf t L
 
-unfoldable pub over : List ℕ → List ℕ → ℕ → Bool
-over us ws k = ltb (getD us k 0) (getD ws k 0)
+unfoldable pub over : List ℕ → ℕ → List ℕ → ℕ → Bool
+over us n ws k = ltb (getD us (k % n) 0) (getD ws k 0)
+
+pub record RunsGiven (t : Trace) (ws out : List ℕ) (n m k : ℕ) : Type 0 where
+  pub well : So (wellFormed t)
+  pub each : n ≡ length (tops t)
+  pub some : m ≡ length (loads t)
+  pub long : length ws ≡ k * n
+  pub room : length out ≡ k * m
 
 unfoldable pub placeAfter : Trace → ℕ → ℕ → ℕ
 placeAfter t i k = cond (reads (at t i)) (k + 1) k

@@ -7,7 +7,10 @@ ghost use Rattle.laws.specs.Lowest.{lowest};
 ghost use Rattle.trace.specs.Bounds.{RECORDS, THREADS};
 ghost use Rattle.trace.specs.Op.{reads};
 ghost use Rattle.trace.specs.Trace.{at};
+ghost use Rattle.trace.specs.WellFormed.{wellFormed};
 ghost use Rattle.signature.specs.Reads.{each, valueOf, loads};
+ghost use Rattle.signature.specs.Signature.{tops};
+ghost use Rattle.signature.specs.Unpack.{readsOf};
 ghost use Rattle.signature.specs.SignatureAnswers.{unpackOf, unpackLeft};
 ghost use Rattle.signature.specs.inner.WordsLaid.{tookOf, lookedOf, tookThread, tookAll, noneTaken};
 ghost use Rattle.signature.specs.inner.LoadLists.{foundOf, over, placeAfter, readPut};
@@ -130,14 +133,16 @@ fn all_digits(t: Trace, words: &[u64]) -> Taking
     built
 }
 
-// The lowest word that is larger than the one beside it.
-fn first_large(words: &[u64], largest: Open) -> Found
-    requires { ⌜ length (now words) ≤ RECORDS ⌝ }
-    ensures { λ r. ⌜ r ≡ foundOf (lowest (over (largest .of) (now (words .entry))) (length (now (words .entry))) 0) ⌝ }
+// The lowest word, of whichever run, that is larger than the largest one at its place among the words of the run.
+pub(crate) fn first_large(words: &[u64], largest: Open) -> Found
+    requires { ⌜ (largest .count ≤ RECORDS) × (0 < length (now words) → 0 < largest .count) ⌝ }
+    ensures { λ r. ⌜ r ≡ foundOf (lowest (over (largest .of) (largest .count) (now (words .entry))) (length (now (words .entry))) 0) ⌝ }
 {
+    let each = largest.count;
     let mut k: usize = 0;
     while k < words.len() {
-        if largest.of[k] < words[k] {
+        let at = k % each;
+        if largest.of[at] < words[k] {
             return Found::At(k);
         }
         k += 1;
@@ -173,6 +178,15 @@ fn put_reads(t: Trace, x: Taking, out: &mut [u16])
     }
 }
 
+// What the words of a run stand for, put into lent memory of the reads' number.
+pub(crate) fn put_run(t: Trace, words: &[u64], out: &mut [u16])
+    requires { ⌜ So (wellFormed t) × (length (now words) ≡ length (tops t)) × (length (now out) ≡ length (loads t)) ⌝ }
+    ensures { λ _. ⌜ now (out .exit) ≡ readsOf t (now (words .entry)) ⌝ }
+{
+    let digits = all_digits(t, words);
+    put_reads(t, digits, out);
+}
+
 // Unpacks words into lent reads, both of the right number; beside a refusal all is as it was.
 pub fn unpack(t: Trace, words: &[u64], reads: &mut [u16]) -> Answer
     ensures { λ r. ⌜ (r ≡ unpackOf t (now (words .entry)) (length (now (reads .entry)))) × (now (reads .exit) ≡ unpackLeft t (now (words .entry)) (now (reads .entry))) ⌝ }
@@ -190,8 +204,7 @@ pub fn unpack(t: Trace, words: &[u64], reads: &mut [u16]) -> Answer
     match first_large(words, largest) {
         Found::At(k) => Answer::TooLarge(k),
         Found::Nothing => {
-            let digits = all_digits(t, words);
-            put_reads(t, digits, reads);
+            put_run(t, words, reads);
             Answer::Done
         }
     }

@@ -11,10 +11,12 @@ use lib.ListN.{length}
 use Rattle.trace.specs.Bounds.{RECORDS}
 use Rattle.trace.specs.WellFormed.{wellFormed}
 use Rattle.pairs.specs.Kept.{modelled}
+use Rattle.signature.specs.Reads.{loads}
 use Rattle.signature.specs.Signature.{tops}
 use Rattle.night.specs.Block.{BLOCK}
-use Rattle.night.specs.Night.{runsIn}
-use Rattle.night.proofs.Many.{words-told, tops-few, ten, nine, wrong-room, wrong-words, too-large, all-done}
+use Rattle.night.specs.Night.{runsIn, Nights}
+use Rattle.night.specs.declared.Answer.the-variants.{TooLarge}
+use Rattle.night.proofs.Many.{loads-told, loads-few, words-told, tops-few, all-judged, ten, nine, wrong-room, wrong-words, too-large, all-done}
 use Rattle.night.proofs.runs.night.Statement.{statement}
 use Rattle.night.proofs.runs.night.Tie as tie
 
@@ -75,14 +77,37 @@ returns-4 c =
     let a = start w .args in
     wrong-words (a .t) (a .model) (a .words .now) (a .out .now) (well (w .before .before .before)) (known (w .before)) (r .if3 .left) (λ z. c .if4 .taken (z ∙ ap (λ (n : ℕ). runsIn (length (a .out .now)) * n) (sym (counted w))))
 
-first-large-requires : tie.Need-first-large-requires
-first-large-requires c κs =
-    let w = c .before .before in
-    record { well = well (w .before .before .before); each = counted w; long = c .if4 .left }
-
 -- there are the words of as many runs as have room
 fit : (c : tie.Else4) → let a = start (c .before .before) .args in length (a .words .now) ≡ runsIn (length (a .out .now)) * length (tops (a .t))
 fit c = let w = c .before .before in c .if4 .left ∙ ap (λ (n : ℕ). runsIn (length (start w .args .out .now)) * n) (counted w)
+
+loads-of-requires : tie.Need-loads-of-requires
+loads-of-requires c κs = search needs
+
+abbrev words-at : tie.After-loads-of → tie.After-words-of
+words-at n = n .before .before .before
+
+sure : (n : tie.After-loads-of) → So (wellFormed (start (words-at n) .args .t))
+sure n = well (words-at n .before .before .before)
+
+-- how many loads a run has, no more than a block has numbers
+loaded : (n : tie.After-loads-of) → n .loads-of .result ≡ length (loads (start (words-at n) .args .t))
+loaded n = n .loads-of .ensures ∙ loads-told (start (words-at n) .args .t) (sure n)
+
+few : (n : tie.After-loads-of) → n .loads-of .result ≤ RECORDS
+few n = omega (arith, loaded n, loads-few (start (words-at n) .args .t) (sure n))
+
+-- so the reads of all runs have room
+room : (n : tie.After-loads-of) → let a = start (words-at n) .args in runsIn (length (a .out .now)) * n .loads-of .result ≤ length (a .out .now)
+room n =
+    let a = start (words-at n) .args in
+    let low : n .loads-of .result ≤ BLOCK = omega (arith, few n) in
+    omega (arith, mul-le-mul-left (runsIn (length (a .out .now))) low, div-mul-le-self (length (a .out .now)) BLOCK)
+
+put-reads-requires : tie.Need-put-reads-requires
+put-reads-requires c κs =
+    let n = c .before in
+    (record { well = sure n; each = counted (words-at n); some = loaded n; long = n .before .if4 .left }, room n)
 
 enum-known-i : tie.Need-enum-known-i
 enum-known-i c = search needs
@@ -92,33 +117,38 @@ enum-told c = search needs
 
 put-runs-requires : tie.Need-put-runs-requires
 put-runs-requires c κs =
-    let e = c .before in
-    let f = e .before .before in
-    let l = f .before in
-    let w = l .before .before in
-    (known (w .before), record { well = well (w .before .before .before); each = counted w; long = l .if4 .left }, sym (f .first-large .ensures) ∙ e .enum-told .given .1, l .before .if3 .left)
-
-returns-5 : tie.Need-returns-5
-returns-5 c =
-    let i = c .before in
-    let f = i .before .before in
-    let l = f .before in
-    let w = l .before .before in
-    let a = start w .args in
-    too-large (a .t) (a .model) (a .words .now) (a .out .now) (well (w .before .before .before)) (known (w .before)) (l .before .if3 .left) (fit l) _ _ (sym (i .i .given .1) ∙ f .first-large .ensures)
+    let p = c .before .before .before .before .before in
+    let n = p .before .before in
+    (sure n, known (words-at n .before), few n, p .put-reads .ensures .long ∙ n .before .before .if3 .left)
 
 same-length : tie.Need-same-length
 same-length c = search needs
 
+returns-5 : tie.Need-returns-5
+returns-5 c =
+    let i = c .before in
+    let p = i .before .before .before .before in
+    let n = p .before .before in
+    let l = n .before in
+    let a = start (words-at n) .args in
+    subst (λ (after : List ℕ). Nights (a .t) (a .model) (a .words .now) (a .out .now) after (TooLarge (i .i .given .0 .0) (i .i .given .0 .1 .0))) (sym (p .put-reads .ensures .stays _ _ (i .i .given .1)))
+    (too-large (a .t) (a .model) (a .words .now) (a .out .now) (sure n) (known (words-at n .before)) (l .before .if3 .left) (fit l) _ _ (sym (i .i .given .1) ∙ p .put-reads .ensures .answer))
+
+same-length-2 : tie.Need-same-length-2
+same-length-2 c = search needs
+
 returns-6 : tie.Need-returns-6
 returns-6 c =
-    let p = c .before .before in
-    let e = p .before .before in
-    let f = e .before .before in
-    let l = f .before in
-    let w = l .before .before in
-    let a = start w .args in
-    all-done (a .t) (a .model) (a .words .now) (a .out .now) (well (w .before .before .before)) (known (w .before)) (l .before .if3 .left) (fit l) (sym (e .enum-told .given .1) ∙ f .first-large .ensures) _ (p .put-runs .ensures)
+    let q = c .before .before in
+    let e = q .before .before in
+    let p = e .before .before .before .before in
+    let n = p .before .before in
+    let l = n .before in
+    let a = start (words-at n) .args in
+    let m = p .put-reads .ensures in
+    let long = m .long ∙ l .before .if3 .left in
+    all-done (a .t) (a .model) (a .words .now) (a .out .now) (sure n) (known (words-at n .before)) (l .before .if3 .left) (fit l) (sym (e .enum-told .given .1) ∙ m .answer) _
+    (all-judged (a .t) (a .model) (n .loads-of .result) (a .words .now) _ _ (runsIn (length (a .out .now))) (loaded n) long (omega (arith, room n, m .long)) (m .front (e .enum-told .given .1)) (q .put-runs .ensures))
 
 pub night-spec : {M : Type 1} → statement M
 night-spec =
@@ -133,10 +163,12 @@ night-spec =
     returns-3
     mul-if4
     returns-4
-    first-large-requires
+    loads-of-requires
+    put-reads-requires
     enum-known-i
     enum-told
     put-runs-requires
-    returns-5
     same-length
+    returns-5
+    same-length-2
     returns-6)

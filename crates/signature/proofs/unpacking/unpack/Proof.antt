@@ -11,14 +11,11 @@ use Rattle.laws.specs.Lowest.{lowest}
 use Rattle.trace.specs.WellFormed.{wellFormed}
 use Rattle.trace.proofs.WellFormed.{form-iff}
 use Rattle.signature.specs.declared.Open.{Open}
-use Rattle.signature.specs.declared.Taking.{Taking}
-use Rattle.signature.specs.Reads.{each, valueOf, loads}
 use Rattle.signature.specs.Signature.{tops, tooLarge}
 use Rattle.signature.specs.inner.WordsLaid.{allFrom, noneLaid}
 use Rattle.signature.specs.inner.LoadLists.{foundOf, over}
 use Rattle.signature.proofs.Laid.{top-below, tops-count, tops-fit}
-use Rattle.signature.proofs.Taken.{reads-taken}
-use Rattle.signature.proofs.SignatureAnswers.{unpack-ten, unpack-words, unpack-reads, unpack-large, unpack-done, found-some, found-none, large-same}
+use Rattle.signature.proofs.SignatureAnswers.{unpack-ten, unpack-words, unpack-reads, unpack-large, unpack-done, found-some, found-none, large-same, large-one}
 use borrow.Author.Needs.{needs}
 use Rattle.signature.proofs.unpacking.unpack.Statement.{statement}
 use Rattle.signature.proofs.unpacking.unpack.Tie as tie
@@ -42,13 +39,14 @@ long : (n : tie.After-loads-in) → length (start n .args .words .now) ≡ lengt
 long n = n .before .if2 .left ∙ counted (n .before .before .before)
 
 -- a word too large is one above the largest that was laid down
-same : (u : tie.After-first-large) → lowest (over (u .before .before .before .before .before .all-words .result .of) (start (u .before .before) .args .words .now)) (length (start (u .before .before) .args .words .now)) 0
+same : (u : tie.After-first-large) → lowest (over (u .before .before .before .before .before .all-words .result .of) (u .before .before .before .before .before .all-words .result .count) (start (u .before .before) .args .words .now)) (length (start (u .before .before) .args .words .now)) 0
     ≡ lowest (tooLarge (start (u .before .before) .args .t) (start (u .before .before) .args .words .now)) (length (start (u .before .before) .args .words .now)) 0
 same u =
     let n = u .before .before in
     let a = start n .args in
-    ap (λ (o : Open). lowest (over (o .of) (a .words .now)) (length (a .words .now)) 0) (n .before .before .before .all-words .ensures)
-    ∙ large-same (a .t) (form-iff (a .t) .0 (sure n) .fits) (a .words .now) (long n)
+    ap (λ (o : Open). lowest (over (o .of) (o .count) (a .words .now)) (length (a .words .now)) 0) (n .before .before .before .all-words .ensures)
+    ∙ large-same (a .t) (form-iff (a .t) .0 (sure n) .fits) (a .words .now) (λ h. subst (λ (k : ℕ). 0 < k) (long n) h)
+    ∙ large-one (a .t) (a .words .now) (long n)
 
 well-formed-requires : tie.Need-well-formed-requires
 well-formed-requires c κs = search needs
@@ -76,7 +74,11 @@ returns-3 c =
     unpack-reads (a .t) (a .words .now) (a .reads .now) (sure n) (long n) (λ z. c .if3 .taken (z ∙ sym (n .loads-in .ensures .0)))
 
 first-large-requires : tie.Need-first-large-requires
-first-large-requires c κs = let n = c .before in let t = start n .args .t in subst (λ (k : ℕ). k ≤ RECORDS) (sym (long n ∙ sym (tops-count t (form-iff t .0 (sure n) .fits)))) (tops-fit t (form-iff t .0 (sure n) .fits))
+first-large-requires c κs =
+    let n = c .before in
+    let t = start n .args .t in
+    let w = n .before .before .before in
+    (subst (λ (o : Open). o .count ≤ RECORDS) (sym (w .all-words .ensures)) (tops-fit t (form-iff t .0 (sure n) .fits)), λ h. subst (λ (k : ℕ). 0 < k) (n .before .if2 .left) h)
 
 enum-known-k : tie.Need-enum-known-k
 enum-known-k c = search needs
@@ -84,14 +86,11 @@ enum-known-k c = search needs
 enum-told : tie.Need-enum-told
 enum-told c = search needs
 
-all-digits-requires : tie.Need-all-digits-requires
-all-digits-requires c κs = let n = c .before .before .before .before in form-iff (start n .args .t) .0 (sure n) .fits
-
-put-reads-requires : tie.Need-put-reads-requires
-put-reads-requires c κs =
-    let g = c .before .before .before .before .before in
-    let n = g .before in
-    (form-iff (start n .args .t) .0 (sure n) .fits, g .if3 .left ∙ n .loads-in .ensures .0)
+put-run-requires : tie.Need-put-run-requires
+put-run-requires c κs =
+    let u = c .before .before .before in
+    let n = u .before .before in
+    (sure n, long n, u .before .if3 .left ∙ n .loads-in .ensures .0)
 
 returns-4 : tie.Need-returns-4
 returns-4 c =
@@ -107,15 +106,11 @@ same-length c = search needs
 returns-5 : tie.Need-returns-5
 returns-5 c =
     let p = c .before .before in
-    let d = p .before .before in
-    let m = d .before in
+    let m = p .before .before in
     let u = m .before .before in
     let n = u .before .before in
     let a = start n .args in
-    let f = form-iff (a .t) .0 (sure n) in
-    unpack-done (a .t) (a .words .now) (a .reads .now) (sure n) (long n) (u .before .if3 .left ∙ n .loads-in .ensures .0) (sym (same u) ∙ found-none _ (sym (u .first-large .ensures) ∙ m .enum-told .given .1)) _
-    (p .put-reads .ensures ∙ ap (λ (x : Taking). each (λ L. valueOf (a .t) L (getD (x .of) L 0)) (loads (a .t))) (d .all-digits .ensures)
-    ∙ reads-taken (a .t) (a .words .now) (f .fits) (subst (λ (k : ℕ). k ≤ RECORDS) (sym (long n ∙ sym (tops-count (a .t) (f .fits)))) (tops-fit (a .t) (f .fits))) f (long n))
+    unpack-done (a .t) (a .words .now) (a .reads .now) (sure n) (long n) (u .before .if3 .left ∙ n .loads-in .ensures .0) (sym (same u) ∙ found-none _ (sym (u .first-large .ensures) ∙ m .enum-told .given .1)) _ (p .put-run .ensures)
 
 pub unpack-spec : {M : Type 1} → statement M
 unpack-spec =
@@ -130,8 +125,7 @@ unpack-spec =
     first-large-requires
     enum-known-k
     enum-told
-    all-digits-requires
-    put-reads-requires
+    put-run-requires
     returns-4
     same-length
     returns-5)
