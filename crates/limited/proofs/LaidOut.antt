@@ -27,7 +27,7 @@ use Rattle.rules.specs.Missing.{Missing, Sourced}
 use Rattle.rules.specs.ShownCircle.{Circled}
 use Rattle.pairs.specs.Kept.{modelled, keptOf}
 use Rattle.edges.specs.ForcedPairs.{answered}
-use Rattle.circle.specs.CircleOf.{ruledOf, CircleOf}
+use Rattle.circle.specs.CircleOf.{ruledOf, CircleBy, CircleOf}
 use Rattle.circle.specs.declared.show.Circle as ring
 use Rattle.rules.specs.Verdict.{Verdict, noSource, circle, order, noneLeft, Says}
 use Rattle.rules.specs.Ready.{operations}
@@ -83,13 +83,13 @@ module _ (t : Trace) (m l : ℕ) where
       }
 
       -- a verdict of the full entry that costs no step
-      told-full : (v : held.Verdict) → full.Told t m v → ((u : Verdict) → v .outcome ≡ full.laid u .outcome → counted (frameOf t) (keptOf m t) u ≡ 0) → ToldLimited t m l (of v 0)
+      told-full : (v : held.Verdict) → full.ToldBy t (keptOf m t) v → ((u : Verdict) → v .outcome ≡ full.laid u .outcome → counted (frameOf t) (keptOf m t) u ≡ 0) → ToldLimited t m l (of v 0)
       told-full v p free =
-          let (u, s, e) = p .says k w in
+          let (u, s, e) = p .says w in
           told-says (decided u 0) (s, sym (free u (ap (λ (v : held.Verdict). v .outcome) e)), omega arith) (of v 0) (ap (λ (v : held.Verdict). of v 0) e) (p .fits)
 
       pub told-source : (x : ℕ) → At x ≡ missingOf t → ToldLimited t m l (of (full.bare (NoSource x)) 0)
-      told-source x e = told-full (full.bare (NoSource x)) (verdict.told-source t m k w x e) free
+      told-source x e = told-full (full.bare (NoSource x)) (verdict.told-source t (keptOf m t) w x e) free
         where
           free : (u : Verdict) → NoSource x ≡ full.laid u .outcome → counted (frameOf t) (keptOf m t) u ≡ 0
           free (noSource y) e = refl
@@ -98,8 +98,18 @@ module _ (t : Trace) (m l : ℕ) where
           free noneLeft e = absurd (let z : _≡_ {A = ℕ} 0 1 = cc in omega arith)
 
 module _ (t : Trace) (m l : ℕ) (h : full.Reaches t m) (c : ring.Circle) (p : CircleOf t m c) where
+  -- the circle as it is said of any kept pairs
+  ringed : CircleBy t (keptOf m t) c
+  ringed = record {
+    fits = p .fits;
+    long = p .long;
+    rest = p .rest;
+    circle = λ w. p .circle (and-iff (same-iff {a = wellFormed t}) (same-iff {a = modelled m}) .1 (w, h .model));
+    nothing = λ n. absurd (false≢true (sym n ∙ h .well));
+  }
+
   pub told-circle : 0 < c .len → ToldLimited t m l (of (record { outcome = Circle; len = c .len; operations = c .operations; rules = c .rules }) 0)
-  told-circle g = told-full t m l (h .model) (h .well) _ (verdict.told-circle t m h c p g) free
+  told-circle g = told-full t m l (h .model) (h .well) _ (verdict.told-circle t (keptOf m t) (h .well) (h .sourced) c ringed g) free
     where
       free : (u : Verdict) → Circle ≡ full.laid u .outcome → counted (frameOf t) (keptOf m t) u ≡ 0
       free (noSource y) e = refl

@@ -5,6 +5,7 @@
 --   seen-well           == it is well formed where the program is, and the reads are values
 --   read-small          == what words stand for are values
 --   kept-seen           == a model keeps the same pairs of it, whatever the reads
+--   kept-rows-seen      == so the rows of its kept pairs are those of the program
 --   Filled t vs u k i   == u has the reads in its first i records, k of them used; those still to come make it the program with all of them
 --   filled-start, filled-more, filled-end == it is so at first, after one record more, and at the end it is all
 use mathlib.Core.Path.{_≡_, refl, sym, ap, ap₂, _∙_, subst}
@@ -34,6 +35,7 @@ use Rattle.trace.proofs.WellFormed.{form-iff}
 use Rattle.pairs.specs.Kept.{kindOf, modelled, keptBy, fenced, keptOf}
 use Rattle.signature.specs.Reads.{each, picks, other, values, valueOf, loads}
 use Rattle.signature.specs.Unpack.{digitIn, readsOf}
+use Rattle.edges.specs.KeptRows.{KeptRows}
 use Rattle.night.specs.FilledReads.{readAs, fillReads, filledReads}
 
 pub fill-long : (rs : List Record) (vs : List ℕ) → length (fillReads rs vs) ≡ length rs
@@ -197,6 +199,13 @@ module _ (t : Trace) (vs : List ℕ) where
     where
       len : filledReads t vs .len ≡ t .len
       len = seen-len t vs
+
+  pub kept-rows-seen : (m : ℕ) (kept : List ℕ) → KeptRows t m kept → KeptRows (filledReads t vs) m kept
+  kept-rows-seen m kept k = record {
+    full = k .full;
+    has = λ l x y. k .has (omega (arith, seen-len t vs)) x y ∙ sym (kept-seen m x y);
+    none = λ l. k .none (omega (arith, seen-len t vs));
+  }
 
 module _ (t : Trace) (vs : List ℕ) where
   pub record Filled (u : Trace) (k i : ℕ) : Type 0 where

@@ -32,7 +32,7 @@ use Rattle.rules.specs.Verdict.{faulty}
 use Rattle.rules.proofs.ComputedVerdict.{verdict?}
 use Rattle.rules.proofs.Says.{faulty-exactly}
 use Rattle.rules.proofs.VerdictComputed.{verdict-says}
-use Rattle.edges.specs.ForcedPairs.{Forces}
+use Rattle.edges.specs.ForcedPairs.{ForcesBy, Forces}
 use Rattle.edges.specs.declared.Forced.{Forced}
 use Rattle.search.proofs.Guiding.{refuted-none}
 use Rattle.search.specs.FirstOrder.{found?, FirstOrder}
@@ -61,7 +61,9 @@ faulty-found t w m k o q = go (o .found) (q .first (and-iff same-iff same-iff .1
     go false l = (λ _. l, λ _. refl)
 
 pub circled-none : (t : Trace) → So (wellFormed t) → (m : ℕ) → So (modelled m) → (r : Forced) → Forces t m (emptyOf CELLS) r → So (r .contradicted) → NoOrder t m
-circled-none t w m k r q = refuted-none t m (and-iff same-iff same-iff .1 (w, k)) r q
+circled-none t w m k r q =
+    let by : ForcesBy t (keptOf m t) (emptyOf CELLS) r = record { full = q .full; closing = λ _. q .closing (and-iff same-iff same-iff .1 (w, k)); none = λ n. absurd (false≢true (sym n ∙ w)) } in
+    refuted-none t (keptOf m t) (kept-joins m t) w r by
 
 pub not-there : (a b : Bool) → So b → (a && b) ≡ false → a ≡ false
 not-there a b h e = elim (test a) [ inl s ↦ absurd (false≢true (sym e ∙ and-iff same-iff same-iff .1 (s, h))) | inr n ↦ n ]

@@ -115,11 +115,18 @@ enum-known-i c = search needs
 enum-told : tie.Need-enum-told
 enum-told c = search needs
 
+kept-rows-requires : tie.Need-kept-rows-requires
+kept-rows-requires c κs = search needs
+
+slice-aggregate-put-runs : tie.Need-slice-aggregate-put-runs
+slice-aggregate-put-runs c = search needs
+
 put-runs-requires : tie.Need-put-runs-requires
 put-runs-requires c κs =
-    let p = c .before .before .before .before .before in
+    let k = c .before .before in
+    let p = k .before .before .before .before .before in
     let n = p .before .before in
-    (sure n, known (words-at n .before), few n, p .put-reads .ensures .long ∙ n .before .before .if3 .left)
+    (sure n, known (words-at n .before), k .kept-rows .ensures, few n, p .put-reads .ensures .long ∙ n .before .before .if3 .left)
 
 same-length : tie.Need-same-length
 same-length c = search needs
@@ -140,7 +147,7 @@ same-length-2 c = search needs
 returns-6 : tie.Need-returns-6
 returns-6 c =
     let q = c .before .before in
-    let e = q .before .before in
+    let e = q .before .before .before .before in
     let p = e .before .before .before .before in
     let n = p .before .before in
     let l = n .before in
@@ -167,6 +174,8 @@ night-spec =
     put-reads-requires
     enum-known-i
     enum-told
+    kept-rows-requires
+    slice-aggregate-put-runs
     put-runs-requires
     same-length
     returns-5

@@ -10,10 +10,11 @@ use lib.ListN.{length, getD, take, drop}
 use Rattle.trace.specs.Bounds.{VALUES}
 use Rattle.trace.specs.WellFormed.{wellFormed}
 use Rattle.trace.specs.declared.Trace.{Trace}
+use Rattle.edges.specs.KeptRows.{KeptRows}
 use Rattle.night.specs.FilledReads.{filledReads}
 use Rattle.night.specs.Block.{BLOCK}
 use Rattle.night.specs.inner.RunsJudged.{JudgedAs, BlockPut}
-use Rattle.night.proofs.FilledReads.{seen-well}
+use Rattle.night.proofs.FilledReads.{seen-well, kept-rows-seen}
 use Rattle.night.proofs.Many.{part-small, block-part, block-put}
 use Rattle.night.proofs.runs.put_run.Statement.{statement}
 use Rattle.night.proofs.runs.put_run.Tie as tie
@@ -21,11 +22,11 @@ use Rattle.night.proofs.runs.put_run.Tie as tie
 -- the reads of the run lie within the lent memory
 reach : (s : tie.Start) → s .args .i * s .args .loads + s .args .loads ≤ length (s .args .out .now)
 reach s =
-    let few : s .args .loads ≤ BLOCK = omega (arith, s .pre .2) in
-    omega (arith, mul-le-mul-left (s .args .i) few, s .pre .3)
+    let few : s .args .loads ≤ BLOCK = omega (arith, s .pre .3) in
+    omega (arith, mul-le-mul-left (s .args .i) few, s .pre .4)
 
 abbrev start : tie.After-seen → tie.Start
-start g = g .before .before .before .before
+start g = g .before .before .before .before .before
 
 -- they are
 abbrev own : tie.Start → List ℕ
@@ -39,43 +40,43 @@ saw : (g : tie.After-seen) → g .seen .result ≡ filledReads (start g .args .t
 saw g = let s = start g in g .seen .ensures ∙ ap (λ (z : ℕ). filledReads (s .args .t) (take z (drop (s .args .i * s .args .loads) (s .args .out .now)))) (same (s .args .i) (s .args .loads))
 
 mul-from : tie.Need-mul-from
-mul-from c = omega (arith, reach (c .before))
+mul-from c = omega (arith, reach (c .before .before))
 
 add-to : tie.Need-add-to
-add-to c = omega (arith, reach (c .before))
+add-to c = omega (arith, reach (c .before .before))
 
 mul-seen : tie.Need-mul-seen
-mul-seen c = omega (arith, reach (c .before))
+mul-seen c = omega (arith, reach (c .before .before))
 
 sub-seen : tie.Need-sub-seen
-sub-seen c = omega (arith, reach (c .before))
+sub-seen c = omega (arith, reach (c .before .before))
 
 part-seen-start : tie.Need-part-seen-start
-part-seen-start c = omega (arith, reach (c .before .before))
+part-seen-start c = omega (arith, reach (c .before .before .before))
 
 part-seen-end : tie.Need-part-seen-end
-part-seen-end c = omega (arith, reach (c .before .before))
+part-seen-end c = omega (arith, reach (c .before .before .before))
 
 seen-requires : tie.Need-seen-requires
 seen-requires c κs = search needs
 
 mul-start : tie.Need-mul-start
-mul-start c = omega (arith, start c .pre .3)
+mul-start c = omega (arith, start c .pre .4)
 
 add-end : tie.Need-add-end
-add-end c = omega (arith, start c .pre .3)
+add-end c = omega (arith, start c .pre .4)
 
 mul-put-verdict : tie.Need-mul-put-verdict
-mul-put-verdict c = omega (arith, start c .pre .3)
+mul-put-verdict c = omega (arith, start c .pre .4)
 
 sub-put-verdict : tie.Need-sub-put-verdict
-sub-put-verdict c = omega (arith, start c .pre .3)
+sub-put-verdict c = omega (arith, start c .pre .4)
 
 part-put-verdict-start : tie.Need-part-put-verdict-start
-part-put-verdict-start c = omega (arith, start c .pre .3)
+part-put-verdict-start c = omega (arith, start c .pre .4)
 
 part-put-verdict-end : tie.Need-part-put-verdict-end
-part-put-verdict-end c = omega (arith, start c .pre .3)
+part-put-verdict-end c = omega (arith, start c .pre .4)
 
 -- the program with these reads is well formed
 well : (g : tie.After-seen) → So (wellFormed (g .seen .result))
@@ -85,16 +86,16 @@ well g =
     subst (λ (u : Trace). So (wellFormed u)) (sym (saw g)) (seen-well (s .args .t) (own s) (part-small (s .args .out .now) small (s .args .i * s .args .loads) (s .args .loads)) (s .pre .0))
 
 put-verdict-requires : tie.Need-put-verdict-requires
-put-verdict-requires c κs = let g = c .before in let s = start g in (well g, s .pre .1, block-part (s .args .out .now) (s .args .i) _ (same (s .args .i) BLOCK) (s .pre .3))
+put-verdict-requires c κs = let g = c .before in let s = start g in (well g, s .pre .1, subst (λ (u : Trace). KeptRows u (s .args .model) (s .args .kept .now)) (sym (saw g)) (kept-rows-seen (s .args .t) (own s) (s .args .model) (s .args .kept .now) (s .pre .2)), block-part (s .args .out .now) (s .args .i) _ (same (s .args .i) BLOCK) (s .pre .4))
 
 -- so the block is put
-put : (p : tie.After-put-verdict) → let s = start (p .before .before) in let i = s .args .i in let b = p .put-verdict .last .1 .1 .0 in
+put : (p : tie.After-put-verdict) → let s = start (p .before .before) in let i = s .args .i in let b = p .put-verdict .last .1 .1 .1 .0 in
     BlockPut (s .args .t) (s .args .model) (s .args .loads) (s .args .out .now) (take (i * BLOCK) (s .args .out .now) ++ (b ++ drop (i * BLOCK + BLOCK - i * BLOCK) (drop (i * BLOCK) (s .args .out .now)))) i
 put p =
     let g = p .before .before in
     let s = start g in
-    block-put (s .args .t) (s .args .model) (s .args .loads) (s .args .out .now) (p .put-verdict .last .1 .1 .0) (s .args .i) _ (s .pre .3) (p .put-verdict .ensures .0) (same (s .args .i) BLOCK)
-    (subst (λ (u : Trace). JudgedAs u (s .args .model) (p .put-verdict .last .1 .1 .0)) (saw g) (p .put-verdict .ensures .1))
+    block-put (s .args .t) (s .args .model) (s .args .loads) (s .args .out .now) (p .put-verdict .last .1 .1 .1 .0) (s .args .i) _ (s .pre .4) (p .put-verdict .ensures .0) (same (s .args .i) BLOCK)
+    (subst (λ (u : Trace). JudgedAs u (s .args .model) (p .put-verdict .last .1 .1 .1 .0)) (saw g) (p .put-verdict .ensures .1))
 
 same-length : tie.Need-same-length
 same-length c = put (c .before .before) .long
