@@ -1,8 +1,8 @@
 -- How the tables of the search are laid from a trace and what is held in it.
 --
 --   Filled n R rows     == row y of the rows has exactly the x with R x y, where both are below n
---   heldWriters f held  == the writers of y's address but y that are held before it
---   Addressed t k by    == row a of the rows has exactly those of the first k records that write address a
+--   reader? f y x       == x writes the address of y, which is another record
+--   Addressed t all k by == row a of the rows has exactly those of the first k records that write address a; with `all`, those that have it
 --   Rowed y In Out a b  == b is a, where row y took what In has and then lost what Out has
 --   Filling k n R rows  == the rows below k are as Filled says, and the others are empty
 --   Counted f ops m     == ops is the set of the operations, and m their number
@@ -10,7 +10,7 @@
 --   Guided f K held     == what is held joins records, and guides the search for the valid orders under K
 use mathlib.Core.Path.{_≡_}
 use mathlib.Core.Logic.{_⊎_, _↔_}
-use mathlib.Core.Bool.{So, _&&_}
+use mathlib.Core.Bool.{Bool, So, _||_}
 use mathlib.Core.List.{List}
 use Prim.Native.Nat.{ℕ, _<_}
 use lib.ListN.{length, getD}
@@ -32,12 +32,12 @@ use Rattle.rules.specs.inner.Discipline.{Guide}
 pub record Filled (n : ℕ) (R : Table) (rows : List ℕ) : Type 0 where
   pub pairs : (x y : ℕ) → So (bit rows y x) ↔ ((y < n) × (x < n) × So (R x y))
 
-abbrev pub heldWriters : Frame → List ℕ → Table
-heldWriters f held x y = writer? f x y && bit held x y
+abbrev pub reader? : Frame → Table
+reader? f y x = writer? f x y
 
-pub record Addressed (t : Trace) (k : ℕ) (by : List ℕ) : Type 0 where
+pub record Addressed (t : Trace) (all : Bool) (k : ℕ) (by : List ℕ) : Type 0 where
   pub long : length by ≡ CELLS
-  pub pairs : (a x : ℕ) → So (bit by a x) ↔ ((x < k) × So (writes (at t x)) × (address (at t x) ≡ a))
+  pub pairs : (a x : ℕ) → So (bit by a x) ↔ ((x < k) × So (writes (at t x) || all) × (address (at t x) ≡ a))
 
 pub record Rowed (y : ℕ) (In Out : ℕ → Type 0) (rows next : List ℕ) : Type 0 where
   pub long : length next ≡ length rows
