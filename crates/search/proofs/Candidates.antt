@@ -42,7 +42,7 @@ rest-of from words x out y one two e d =
     record { long = r .long ∙ empty-long WORDS; has = rest-out _ _ two r }
 
 -- a walk along a row: what is below z and in the row has been passed
-pub next-seen : {P : ℕ → Type 0} (row : List ℕ) (z r : ℕ) → ((x : ℕ) → x < z → So (bit row 0 x) → P x) → (So (bit row 0 z) → P z) → NextInRow row 0 (z + 1) r → (x : ℕ) → x < r → So (bit row 0 x) → P x
+pub next-seen : {P : ℕ → Type 0} {m : ℕ} (row : List ℕ) (z r : ℕ) → ((x : ℕ) → x < z → So (bit row m x) → P x) → (So (bit row m z) → P z) → NextInRow row m (z + 1) r → (x : ℕ) → x < r → So (bit row m x) → P x
 next-seen row z r seen here n x h t = elim (eq? x z) [
   | inl e ↦ rw e (here (rw e at t))
   | inr d ↦ elim (ltOrGe x z) [ inl b ↦ seen x b t | inr b ↦ absurd (n .skips x (omega arith) h t) ]
@@ -55,10 +55,10 @@ next-seen row z r seen here n x h t = elim (eq? x z) [
 pub in-rest : {from out r : List ℕ} {x y : ℕ} → Rest from x out y r → (z : ℕ) → So (bit from x z) → (So (bit r 0 z) → ⊥) → So (bit out y z)
 in-rest {from} {out} {r} {x} {y} p z t n = elim (test (bit out y z)) [ inl u ↦ u | inr u ↦ absurd (n (p .has z .1 (t, λ v. false≢true (sym u ∙ v)))) ]
 
-pub next-on : (row : List ℕ) (z r : ℕ) → NextInRow row 0 (z + 1) r → z < RECORDS → z < r
+pub next-on : {m : ℕ} (row : List ℕ) (z r : ℕ) → NextInRow row m (z + 1) r → z < RECORDS → z < r
 next-on row z r n h = elim (n .there) [ inl t ↦ omega (arith, t .0) | inr e ↦ omega arith ]
 
-pub next-at : (row : List ℕ) (from r : ℕ) → NextInRow row 0 from r → So (bit row 0 r) ⊎ (r ≡ RECORDS)
+pub next-at : {m : ℕ} (row : List ℕ) (from r : ℕ) → NextInRow row m from r → So (bit row m r) ⊎ (r ≡ RECORDS)
 next-at row from r n = elim (n .there) [ inl t ↦ inl (t .1) | inr e ↦ inr e ]
 
 -- what may be ready is left to place
