@@ -10,7 +10,7 @@ type Row = [u64; 4];
 /// As many sets are remembered as in crates/search.
 const SLOTS: u64 = 4093;
 
-/// The third stop is asked where the search below a failed operation cost so many placements.
+/// The third stop is asked once for a set, when the search below it has cost so many placements.
 const PATIENCE: u64 = 64;
 
 pub struct Found {
@@ -91,12 +91,12 @@ impl Search {
 
     /// Whoever reads from y is placed; or each other writer there that did not fail has an unplaced one before it; or, where it is worth asking, the
     /// rules refute the set.
-    fn stops(&self, placed: &Row, failed: &Row, y: usize, below: u64) -> bool {
+    fn stops(&self, placed: &Row, failed: &Row, y: usize, asks: bool) -> bool {
         let led = |z: usize| (0..self.records()).any(|x| has(&self.writers[z], x) && has(&self.before[z], x) && !has(placed, x));
         let open = |z: usize| has(&self.writers[y], z) && !has(placed, z) && !has(failed, z);
         (0..self.records()).all(|load| self.sources[load] != Some(y) || has(placed, load))
             || (0..self.records()).all(|z| !open(z) || led(z))
-            || (below >= PATIENCE && self.refuted(placed))
+            || (asks && self.refuted(placed))
     }
 
     /// With all that is placed before all that is not, rules 6 and 7 close a circle.
@@ -144,9 +144,10 @@ impl Search {
                 if below == 0 {
                     return 0;
                 }
+                let patient = cost < PATIENCE;
                 cost = PATIENCE.min(cost + below + 1);
                 put(&mut failed, y);
-                if self.stops(placed, &failed, y, below) {
+                if self.stops(placed, &failed, y, patient && cost == PATIENCE) {
                     break;
                 }
             }

@@ -1,53 +1,78 @@
 -- What may come next, and when the loop may stop.
 --
---   waits-apart, waits-is, waits-iff == who waits for c
---   still-iff, still-is              == which writers are still to come
---   lacks                            == what a set lacks stands nowhere in its list
---   ready-iff                        == the test of the tables is readiness after any list with that set
---   stop-of                          == so is the test for the two stops by exchange
-use mathlib.Core.Path.{_≡_, refl, sym, _∙_}
-use mathlib.Core.Logic.{inl, inr, _↔_}
-use mathlib.Core.Bool.{Bool, true, false, So, not, _&&_, false≢true}
+--   rest-of, in-rest            == what is left of a row; what is not left was dropped
+--   next-seen, next-on, next-at == a walk along a row: what it has passed one step later; it goes on; where it is
+--   in-left, readied, unready-on == what may be ready is left to place; one that is left and free is ready; none is, further on
+--   lacks                       == what a set lacks stands nowhere in its list
+--   ready-iff                   == the test of the tables is readiness after any list with that set
+--   stop-of                     == so is the test for the two stops by exchange
+use mathlib.Core.Path.{_≡_, sym, _∙_}
+use mathlib.Core.Logic.{_⊎_, inl, inr, _↔_}
+use mathlib.Core.Bool.{false, So, false≢true}
 use mathlib.Core.List.{List}
-use Prim.Native.Nat.{ℕ, _<_, _≤_}
+use Prim.Native.Nat.{ℕ, _+_, _<_, _≤_}
+use native.Mathlib.Decide.{decLt}
 use native.Mathlib.Omega.{arith}
 use lib.ListN.{getD}
 use Rattle.laws.specs.Places.{count}
 use Rattle.laws.specs.Relation.{Table}
-use Rattle.laws.specs.Tests.{any}
-use Rattle.laws.proofs.Tests.{test, off, so-not, and-iff, same-iff, any-iff, so-any, eq?}
+use Rattle.laws.proofs.Tests.{test, off, eq?}
 use Rattle.trace.specs.Bounds.{RECORDS}
 use Rattle.rules.specs.Frame.{Frame, Writer, Source}
-use Rattle.rows.specs.Rows.{bit}
-use Rattle.rows.specs.Within.{Within}
+use Rattle.rows.specs.Rows.{bit, Words}
+use Rattle.rows.specs.Bounds.{WORDS}
+use Rattle.rows.specs.Empty.{emptyOf}
+use Rattle.rows.specs.Next.{NextInRow}
+use Rattle.rows.specs.AddRow.{addRowOf}
+use Rattle.rows.specs.DropRow.{dropRowOf}
 use Rattle.rows.proofs.Rows.{bit-bounds}
+use Rattle.rows.proofs.Whole.{empty-long}
 use Rattle.pairs.proofs.SourceOf.{source-of-is, source-of-has}
 use Rattle.rules.specs.Ready.{Ready}
 use Rattle.rules.specs.inner.EarlyStop.{Stop, unread, covered}
+use Rattle.search.specs.inner.Rest.{Rest}
 use Rattle.search.specs.inner.SearchTables.{Tables, Led, Laid}
 use Rattle.rows.specs.inner.Sets.{Holds}
-use Rattle.search.specs.inner.Candidates.{waitsFor, Readied, Unread, still, Covered, Enough}
+use Rattle.search.specs.inner.Candidates.{Free, Readied, Unread, Covered, Enough}
+use Rattle.search.proofs.Rowing.{rowed, rest-out}
 
-module _ (writers sources placed : List ℕ) (c L : ℕ) where
-  pub waits-apart : bit writers L c ≡ false → waitsFor writers sources placed c L ≡ false
-  unfolding waitsFor
-  waits-apart e = rw e refl
+pub rest-of : (from : List ℕ) → Words from → (x : ℕ) (out : List ℕ) (y : ℕ) (one two : List ℕ) → one ≡ addRowOf from x (emptyOf WORDS) 0 → two ≡ dropRowOf out y one 0 → Rest from x out y two
+rest-of from words x out y one two e d =
+    let r = rowed from words x out y 0 (omega arith) (emptyOf WORDS) one two (omega (arith, empty-long WORDS)) e d in
+    record { long = r .long ∙ empty-long WORDS; has = rest-out _ _ two r }
 
-  pub waits-is : So (bit writers L c) → waitsFor writers sources placed c L ≡ (bit placed 0 (getD sources L 0) && not (bit placed 0 L))
-  unfolding waitsFor
-  waits-is e = rw e refl
+-- a walk along a row: what is below z and in the row has been passed
+pub next-seen : {P : ℕ → Type 0} {m : ℕ} (row : List ℕ) (z r : ℕ) → ((x : ℕ) → x < z → So (bit row m x) → P x) → (So (bit row m z) → P z) → NextInRow row m (z + 1) r → (x : ℕ) → x < r → So (bit row m x) → P x
+next-seen row z r seen here n x h t = elim (eq? x z) [
+  | inl e ↦ rw e (here (rw e at t))
+  | inr d ↦ elim (ltOrGe x z) [ inl b ↦ seen x b t | inr b ↦ absurd (n .skips x (omega arith) h t) ]
+]
+  where
+    ltOrGe : (x z : ℕ) → (x < z) ⊎ (z ≤ x)
+    ltOrGe x z = elim (decLt x z) [ yes b ↦ inl b | no b ↦ inr (omega arith) ]
 
-  pub waits-iff : So (waitsFor writers sources placed c L) ↔ (So (bit writers L c) × (So (bit placed 0 (getD sources L 0)) × (So (bit placed 0 L) → ⊥)))
-  unfolding waitsFor
-  waits-iff = and-iff same-iff (and-iff same-iff so-not)
+-- what is not left of a row was dropped
+pub in-rest : {from out r : List ℕ} {x y : ℕ} → Rest from x out y r → (z : ℕ) → So (bit from x z) → (So (bit r 0 z) → ⊥) → So (bit out y z)
+in-rest {from} {out} {r} {x} {y} p z t n = elim (test (bit out y z)) [ inl u ↦ u | inr u ↦ absurd (n (p .has z .1 (t, λ v. false≢true (sym u ∙ v)))) ]
 
-pub still-iff : (writers placed failed : List ℕ) (y z : ℕ) → So (still writers placed failed y z) ↔ ((So (bit writers y z) × (So (bit placed 0 z) → ⊥)) × (So (bit failed 0 z) → ⊥))
-unfolding still
-still-iff writers placed failed y z = and-iff (and-iff same-iff so-not) so-not
+pub next-on : {m : ℕ} (row : List ℕ) (z r : ℕ) → NextInRow row m (z + 1) r → z < RECORDS → z < r
+next-on row z r n h = elim (n .there) [ inl t ↦ omega (arith, t .0) | inr e ↦ omega arith ]
 
-pub still-is : (writers placed failed : List ℕ) (y z : ℕ) (a b c : Bool) → a ≡ bit writers y z → b ≡ bit placed 0 z → c ≡ bit failed 0 z → (a && not b && not c) ≡ still writers placed failed y z
-unfolding still
-still-is writers placed failed y z a b c p q r = rw (p, q, r) refl
+pub next-at : {m : ℕ} (row : List ℕ) (from r : ℕ) → NextInRow row m from r → So (bit row m r) ⊎ (r ≡ RECORDS)
+next-at row from r n = elim (n .there) [ inl t ↦ inl (t .1) | inr e ↦ inr e ]
+
+-- what may be ready is left to place
+module _ {n : ℕ} {operations before readers sources placed : List ℕ} where
+  pub in-left : {left : List ℕ} → Rest operations 0 placed 0 left → (x : ℕ) → Readied n operations before readers sources placed x → So (bit left 0 x)
+  in-left p x r = p .has x .1 (r .operation, r .unplaced)
+
+  pub readied : {left : List ℕ} (y : ℕ) → y < RECORDS → Rest operations 0 placed 0 left → Free n before readers sources placed y → So (bit left 0 y) ⊎ (y ≡ RECORDS) → Readied n operations before readers sources placed y
+  readied y h p free (inl t) = let (o, u) = p .has y .0 t in record { operation = o; unplaced = u; free = free }
+  readied y h p free (inr e) = absurd (omega arith)
+
+  pub unready-on : (y r : ℕ) → (Readied n operations before readers sources placed y → ⊥) → ((x : ℕ) → y + 1 ≤ x → x < r → Readied n operations before readers sources placed x → ⊥)
+      → (x : ℕ) → y ≤ x → x < r → Readied n operations before readers sources placed x → ⊥
+  unready-on y r here on x a h t = elim (eq? x y) [ inl e ↦ here (rw e at t) | inr d ↦ on x (omega arith) h t ]
 
 pub lacks : (set p : List ℕ) → Holds set p → (x : ℕ) → (bit set 0 x ≡ false) ↔ (count x p ≡ 0)
 lacks set p h x = (
@@ -74,14 +99,14 @@ module _ (f : Frame) (K : Table) (T : Tables) (laid : Laid f K T) (small : T .n 
       let e = laid .source L l in
       rw e (source-of-is f L (omega (arith, bit-bounds placed 0 (getD (T .sources) L 0) t .1, e)))
 
-  pub ready-iff : (c : ℕ) → Readied (T .n) (T .operations) (T .before) (T .writers) (T .sources) placed c ↔ Ready f (Led (T .before)) p c
+  pub ready-iff : (c : ℕ) → Readied (T .n) (T .operations) (T .before) (T .readers) (T .sources) placed c ↔ Ready f (Led (T .before)) p c
   ready-iff c = (forth, back)
     where
-      forth : Readied (T .n) (T .operations) (T .before) (T .writers) (T .sources) placed c → Ready f (Led (T .before)) p c
+      forth : Readied (T .n) (T .operations) (T .before) (T .readers) (T .sources) placed c → Ready f (Led (T .before)) p c
       forth r = record {
         operation = laid .operation c .0 (r .operation);
-        unplaced = lacks placed p h c .0 (r .unplaced);
-        after = λ x t. h x .0 (r .after x t);
+        unplaced = lacks placed p h c .0 (off (r .unplaced));
+        after = λ x t. h x .0 (r .free .after x t);
         quiet = quiet;
       }
         where
@@ -92,19 +117,17 @@ module _ (f : Frame) (K : Table) (T : Tables) (laid : Laid f K T) (small : T .n 
                 let l = reader s in
                 let e = source-there s in
                 let there : So (bit placed 0 (getD (T .sources) L 0)) = rw e (h S .1 k) in
-                absurd (false≢true (sym (r .quiet)
-                ∙ so-any (T .n) (waitsFor (T .writers) (T .sources) placed c) .1 (L, l, waits-iff (T .writers) (T .sources) placed c L .1 (laid .writer c L l .1 w, (there, λ u. false≢true (sym t ∙ u))))))
+                absurd (r .free .quiet L l (record { there = laid .reader c L l .1 w; due = there; unplaced = λ u. false≢true (sym t ∙ u) }))
           ]
 
-      back : Ready f (Led (T .before)) p c → Readied (T .n) (T .operations) (T .before) (T .writers) (T .sources) placed c
+      back : Ready f (Led (T .before)) p c → Readied (T .n) (T .operations) (T .before) (T .readers) (T .sources) placed c
       back r = record {
         operation = laid .operation c .1 (r .operation);
-        unplaced = lacks placed p h c .1 (r .unplaced);
-        after = λ x t. h x .1 (r .after x t);
-        quiet = off (λ t.
-            let (L, l, u) = so-any (T .n) (waitsFor (T .writers) (T .sources) placed c) .0 t in
-            let (w, (s, n)) = waits-iff (T .writers) (T .sources) placed c L .0 u in
-            n (h L .1 (r .quiet (getD (T .sources) L 0) L (source-is L l s) (laid .writer c L l .0 w) (h (getD (T .sources) L 0) .0 s))));
+        unplaced = λ u. false≢true (sym (lacks placed p h c .1 (r .unplaced)) ∙ u);
+        free = record {
+          after = λ x t. h x .1 (r .after x t);
+          quiet = λ L l w. w .unplaced (h L .1 (r .quiet (getD (T .sources) L 0) L (source-is L l (w .due)) (laid .reader c L l .0 (w .there)) (h (getD (T .sources) L 0) .0 (w .due))));
+        };
       }
 
   module _ (failed : List ℕ) (y : ℕ) (tried : So (bit failed 0 y)) where
@@ -112,26 +135,10 @@ module _ (f : Frame) (K : Table) (T : Tables) (laid : Laid f K T) (small : T .n 
     abbrev F : ℕ → Type 0
     F z = So (bit failed 0 z)
 
-    stop-unread : Unread (T .n) (T .sources) placed y → Stop f (Led (T .before)) p F
-    stop-unread u = unread y tried (λ L s. h L .0 (u L (reader s) (source-there s)))
+    stop-unread : Unread (T .n) (T .readers) (T .sources) placed y → Stop f (Led (T .before)) p F
+    stop-unread u = unread y tried (λ L s. h L .0 (u L (reader s) (laid .reader y L (reader s) .1 (s .writer)) (source-there s)))
 
-    -- some record leads z and is not placed
-    leader : (z : ℕ) → z < T .n → (Within (T .leaders) z placed 0 → ⊥) → (w : ℕ) × Writer f w z × (count w p ≡ 0) × Led (T .before) w z
-    leader z l n = elim (test (any RECORDS (λ w. bit (T .leaders) z w && not (bit placed 0 w)))) [
-      | inl t ↦
-          let (w, _, u) = each .0 t in
-          let k = laid .leader w z l .0 (u .0) in
-          (w, k .0, lacks placed p h w .0 (off (u .1)), k .1)
-      | inr t ↦ absurd (n (λ w u. elim (test (bit placed 0 w)) [
-        | inl v ↦ v
-        | inr v ↦ absurd (false≢true (sym t ∙ each .1 (w, bit-bounds (T .leaders) z w u .1, (u, λ q. false≢true (sym v ∙ q)))))
-      ]))
-    ]
-      where
-        each : So (any RECORDS (λ w. bit (T .leaders) z w && not (bit placed 0 w))) ↔ ((w : ℕ) × (w < RECORDS) × (So (bit (T .leaders) z w) × (So (bit placed 0 w) → ⊥)))
-        each = any-iff (λ w. and-iff same-iff so-not)
-
-    stop-covered : Covered (T .n) (T .writers) (T .leaders) placed failed y → Stop f (Led (T .before)) p F
+    stop-covered : Covered (T .before) (T .writers) placed failed y → Stop f (Led (T .before)) p F
     stop-covered k = elim (test (f .writes y)) [
       | inr t ↦ unread y tried (λ L s. absurd (false≢true (sym t ∙ s .writer .writes)))
       | inl t ↦ covered y tried t (λ z zw e far. elim (eq? z y) [
@@ -139,15 +146,17 @@ module _ (f : Frame) (K : Table) (T : Tables) (laid : Laid f K T) (small : T .n 
         | inr d ↦ elim (test (bit failed 0 z)) [
           | inl u ↦ inl u
           | inr u ↦
-              let l = writes-below zw in
               let w : Writer f z y = record { writes = zw; same = e; other = d } in
-              let s = still-iff (T .writers) placed failed y z .1
-              ((laid .writer z y (writes-below t) .1 w, λ v. false≢true (sym (lacks placed p h z .1 far) ∙ v)), λ v. false≢true (sym u ∙ v)) in
-              inr (leader z l (k z l s))
+              let (x, ahead, writes, far′) = k z (record {
+                writer = laid .writer z y (writes-below t) .1 w;
+                unplaced = λ v. false≢true (sym (lacks placed p h z .1 far) ∙ v);
+                untried = λ v. false≢true (sym u ∙ v);
+              }) in
+              inr (x, laid .writer x z (writes-below zw) .0 writes, lacks placed p h x .0 (off far′), ahead)
         ]
       ])
     ]
 
-    pub stop-of : Enough (T .n) (T .writers) (T .leaders) (T .sources) placed failed y → Stop f (Led (T .before)) p F
+    pub stop-of : Enough (T .n) (T .before) (T .writers) (T .readers) (T .sources) placed failed y → Stop f (Led (T .before)) p F
     stop-of (inl u) = stop-unread u
     stop-of (inr k) = stop-covered k

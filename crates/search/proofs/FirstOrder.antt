@@ -33,6 +33,7 @@ use Rattle.rows.specs.Lent.{lentOf}
 use Rattle.rows.specs.Rows.{bit}
 use Rattle.rules.specs.RuleTests.{writer?}
 use Rattle.pairs.specs.Kept.{modelled, keptOf}
+use Rattle.pairs.specs.SourceOf.{sourceOf}
 use Rattle.edges.specs.ForcedPairs.{answered}
 use Rattle.edges.specs.KeptRows.{KeptRows}
 use Rattle.edges.proofs.ForcedPairs.{answered-iff, unanswered, kept-same}
@@ -40,7 +41,7 @@ use Rattle.rules.specs.Ready.{operations}
 use Rattle.pairs.proofs.ValidOrders.{well-fits}
 use Rattle.search.specs.inner.Bounds.{SLOTS}
 use Rattle.search.specs.inner.SearchTables.{tables}
-use Rattle.search.specs.inner.TablesLaid.{Filled, heldWriters, Counted, Sources}
+use Rattle.search.specs.inner.TablesLaid.{Filled, reader?, Counted, Sources}
 use Rattle.search.specs.inner.SearchBelow.{followsAs, Sought}
 use Rattle.search.specs.inner.SearchAnswer.{Looked}
 use Rattle.search.specs.FirstOrder.{found?, orderOf, FirstOrderBy, FirstOrder}
@@ -106,13 +107,28 @@ counted-fits t w ops m c = omega (arith, c .total, sum-bound (t .len) 1 (λ x. c
     few false = omega arith
 
 -- the search in the first m places of a list: they are lent, and the others stand
-module _ (t : Trace) (w : So (wellFormed t)) (held ops list : List ℕ) (m : ℕ) (before writers leaders sources part dead : List ℕ) (r : Bool)
+module _ (t : Trace) (w : So (wellFormed t)) (held ops list : List ℕ) (m : ℕ) (before writers readers sources lent part dead : List ℕ) (r : Bool)
     (fits : m ≤ length list) (c : Counted (frameOf t) ops m) (b : Filled (t .len) (bit held) before) (ws : Filled (t .len) (writer? (frameOf t)) writers)
-    (ls : Filled (t .len) (heldWriters (frameOf t) held) leaders) (ss : Sources (frameOf t) (t .len) sources)
-    (k : ℕ) (e : k ≡ m) (s : Sought (tables (t .len) m ops before writers leaders sources) (take k list) 0 (emptyOf WORDS) (emptyOf (SLOTS * WORDS)) part dead r)
+    (rs : Filled (t .len) (reader? (frameOf t)) readers) (ss : Sources (frameOf t) (t .len) sources) (n : ℕ) (d : n ≡ t .len) (le : lent ≡ take n sources)
+    (k : ℕ) (e : k ≡ m) (s : Sought (tables (length lent) (length (take k list)) ops before writers readers lent) (take k list) 0 (emptyOf WORDS) (emptyOf (SLOTS * WORDS)) part dead r)
     (long : length part ≡ length (take k list)) where
+  lent-long : length lent ≡ t .len
+  lent-long = ap length le ∙ length-take-le n sources (omega (arith, ss .long, well-fits t w)) ∙ d
+
+  lent-source : (L : ℕ) → L < t .len → getD lent L 0 ≡ sourceOf (frameOf t) L
+  lent-source L l = ap (λ (xs : List ℕ). getD xs L 0) le ∙ getD-take n sources L 0 (omega arith) ∙ ss .source L l
+
+  places-long : length (take k list) ≡ m
+  places-long = length-take-le k list (omega arith) ∙ e
+
+  -- by the numbers of records and of operations
+  sought : Sought (tables (t .len) m ops before writers readers lent) (take k list) 0 (emptyOf WORDS) (emptyOf (SLOTS * WORDS)) part dead r
+  sought =
+      subst (λ (n : ℕ). Sought (tables n m ops before writers readers lent) (take k list) 0 (emptyOf WORDS) (emptyOf (SLOTS * WORDS)) part dead r) lent-long
+      (subst (λ (n : ℕ). Sought (tables (length lent) n ops before writers readers lent) (take k list) 0 (emptyOf WORDS) (emptyOf (SLOTS * WORDS)) part dead r) places-long s)
+
   part-long : length part ≡ m
-  part-long = long ∙ length-take-le k list (omega arith) ∙ e
+  part-long = long ∙ places-long
 
   first-places : take m (part ++ drop m list) ≡ take m part
   first-places = take-at part (drop m list) m part-long ∙ sym (take-all m part (omega (arith, part-long)))
@@ -124,7 +140,7 @@ module _ (t : Trace) (w : So (wellFormed t)) (held ops list : List ℕ) (m : ℕ
         let q : m + (i - m) ≡ i = omega arith in
         ap (λ j. getD (part ++ drop m list) j 0) p ∙ getD-append-add part (drop m list) (i - m) 0 ∙ getD-drop m list (i - m) 0 ∙ ap (λ j. getD list j 0) q;
     right = λ K g o.
-        let a = s .right (frameOf t) K (laid t w K held g o m ops before writers leaders sources c b ws ls ss) (record { built = tt; holds = empty-holds WORDS }) (dead-none (frameOf t) K before) .0 in
+        let a = sought .right (frameOf t) K (laid t w K held g o m ops before writers readers lent c b ws rs lent-source) (record { built = tt; holds = empty-holds WORDS }) (dead-none (frameOf t) K before) .0 in
         subst (Answer (Valid (frameOf t) K) []) (sym (same r)) a;
   }
     where

@@ -9,6 +9,7 @@ use mathlib.Core.Bool.{false, So, false≢true}
 use mathlib.Core.List.{List}
 use Prim.Native.Nat.{ℕ, _<_}
 use native.Mathlib.Omega.{arith}
+use lib.ListN.{getD}
 use Rattle.laws.specs.Relation.{Table}
 use Rattle.laws.proofs.Tests.{and-iff, same-iff}
 use Rattle.rules.specs.Frame.{Frame, Writer}
@@ -23,6 +24,7 @@ use Rattle.rows.specs.Empty.{emptyOf}
 use Rattle.rows.proofs.Whole.{empty-bit}
 use Rattle.rules.specs.Rules.{Held, Joins, nothing}
 use Rattle.rules.specs.RuleTests.{writer?}
+use Rattle.pairs.specs.SourceOf.{sourceOf}
 use Rattle.edges.specs.Supposed.{supposedOf}
 use Rattle.rules.specs.Missing.{Sourced}
 use Rattle.edges.specs.ForcedPairs.{ForcesBy}
@@ -34,7 +36,7 @@ use Rattle.rules.proofs.Ends.{held-joins}
 use Rattle.rules.proofs.Sound.{contradicted-none}
 use Rattle.rules.proofs.Ready.{held-guide}
 use Rattle.search.specs.inner.SearchTables.{tables, Led, Laid}
-use Rattle.search.specs.inner.TablesLaid.{Filled, heldWriters, Counted, Sources, Guided}
+use Rattle.search.specs.inner.TablesLaid.{Filled, reader?, Counted, Guided}
 
 module _ (t : Trace) (K : Table) (joins : Joins (frameOf t) K) (well : So (wellFormed t)) (r : Forced) (forces : ForcesBy t K (emptyOf CELLS) r) where
   abbrev f : Frame
@@ -77,9 +79,9 @@ module _ (t : Trace) (w : So (wellFormed t)) (K : Table) (held : List ℕ) (guid
   unfolding frameOf
   records-are = refl
 
-  pub laid : (m : ℕ) (ops before writers leaders sources : List ℕ) → Counted (frameOf t) ops m → Filled (t .len) (bit held) before → Filled (t .len) (writer? (frameOf t)) writers
-      → Filled (t .len) (heldWriters (frameOf t) held) leaders → Sources (frameOf t) (t .len) sources → Laid (frameOf t) K (tables (t .len) m ops before writers leaders sources)
-  laid m ops before writers leaders sources c b ws ls ss = record {
+  pub laid : (m : ℕ) (ops before writers readers sources : List ℕ) → Counted (frameOf t) ops m → Filled (t .len) (bit held) before → Filled (t .len) (writer? (frameOf t)) writers
+      → Filled (t .len) (reader? (frameOf t)) readers → ((L : ℕ) → L < t .len → getD sources L 0 ≡ sourceOf (frameOf t) L) → Laid (frameOf t) K (tables (t .len) m ops before writers readers sources)
+  laid m ops before writers readers sources c b ws rs ss = record {
     good = good t w;
     sourced = sourced;
     guide = record {
@@ -94,12 +96,11 @@ module _ (t : Trace) (w : So (wellFormed t)) (K : Table) (held : List ℕ) (guid
       λ u. writer-iff (frameOf t) x y .0 (ws .pairs x y .0 u .2),
       λ u. ws .pairs x y .1 (h, writes-below x u, writer-iff (frameOf t) x y .1 u),
     );
-    leader = λ x y h.
-        let i = and-iff (writer-iff (frameOf t) x y) (same-iff {a = bit held x y}) in (
-          λ u. let q = i .0 (ls .pairs x y .0 u .2) in (q .0, led x y .1 (q .1)),
-          λ u. ls .pairs x y .1 (h, writes-below x (u .0), i .1 (u .0, led x y .0 (u .1))),
-        );
-    source = ss .source;
+    reader = λ x y h. (
+      λ u. writer-iff (frameOf t) x y .0 (rs .pairs y x .0 u .2),
+      λ u. rs .pairs y x .1 (writes-below x u, h, writer-iff (frameOf t) x y .1 u),
+    );
+    source = ss;
   }
     where
       writes-below : (x : ℕ) {y : ℕ} → Writer (frameOf t) x y → x < t .len

@@ -3,28 +3,30 @@
 --   grown-none, grown-then           == nothing; one thing after another
 --   grown-weaker                     == what holds in more rankings holds in fewer
 --   Behind led a set, behind-of      == the set has at most a and what is before it; so has the row of a with a in it
---   passes                           == the test that lets a pair be added
---   row-past, lead-row               == a number past the records has no row; one row more takes a and what is before it
---   settled                          == rules 6 and 7 for one writer
+--   took, lead-row                   == a row that takes a set; one row more takes what is ahead of the heads
+--   leads-all, own-only              == a number with what is before it, ahead of the heads; one head
+--   settled-late, settled-early      == rule 7; rule 6
+--   part-one, settle-one             == what a ranking owes to one load
+--   put-some                         == one number more, where a test passed
+--   both                             == what is left of a row when what is left of it is taken out
 --   Follows O before led             == in rankings with O, led ranks no more than before
 --   partly-none, partly-then, partly-row     == nothing; one thing after another; a row without what is placed
 --   follows-part, follows-more, follows-none == at the first round; after one round more; with a circle there is no such ranking
 --   refuted-none                     == where there is no ranking, no valid order goes on
 use mathlib.Core.Path.{_≡_, refl, sym, ap, _∙_, subst}
-use mathlib.Core.Logic.{_≢_, _⊎_, inl, inr}
-use mathlib.Core.Bool.{Bool, true, false, So, not, _&&_, _||_, false≢true}
+use mathlib.Core.Logic.{_⊎_, inl, inr}
+use mathlib.Core.Bool.{Bool, true, false, So, false≢true}
 use mathlib.Core.List.{List, _++_}
 use mathlib.Core.Option.{none}
 use Prim.Native.Nat.{ℕ, _+_, _*_, _<_, _≤_}
 use native.Mathlib.Decide.{decLt}
 use native.Mathlib.Omega.{arith}
-use borrow.Author.Tests.{le-ltb}
 use lib.ListN.{length, getD}
 use Rattle.laws.specs.Places.{pos, count, Before}
 use Rattle.laws.specs.Relation.{Table}
 use Rattle.laws.specs.Dict.{Answer}
 use Rattle.laws.specs.Tests.{any}
-use Rattle.laws.proofs.Tests.{off, so-not, and-iff, or-iff, same-iff}
+use Rattle.laws.proofs.Tests.{off, eq?}
 use Rattle.laws.proofs.Places.{pos-lt}
 use Rattle.laws.proofs.Prefixes.{pos-in, pos-out}
 use Rattle.trace.specs.Bounds.{RECORDS}
@@ -32,12 +34,13 @@ use Rattle.rules.specs.Frame.{Frame, Writer, Source}
 use Rattle.rules.specs.Order.{Valid}
 use Rattle.rows.specs.Bounds.{WORDS, CELLS}
 use Rattle.rows.specs.Rows.{bit, Edges, Words}
+use Rattle.rows.specs.Within.{Meets}
 use Rattle.rows.specs.Empty.{emptyOf}
 use Rattle.rows.specs.inner.AddedPairs.{Added}
 use Rattle.rows.specs.AddRow.{addRowOf}
 use Rattle.rows.specs.DropRow.{dropRowOf}
-use Rattle.rows.specs.Put.{putOf}
-use Rattle.rows.proofs.Rows.{self-iff}
+use Rattle.rows.specs.Put.{putOf, putIf}
+use Rattle.rows.proofs.Rows.{bit-bounds, self-iff}
 use Rattle.rows.proofs.Closing.{row-added}
 use Rattle.rows.proofs.Dropping.{drop-long, row-dropped}
 use Rattle.rows.proofs.Whole.{empty-long, empty-bit, empty-words}
@@ -48,8 +51,10 @@ use Rattle.rules.proofs.Sound.{gives-sound}
 use Rattle.pairs.proofs.SourceOf.{source-of-is}
 use Rattle.search.specs.inner.SearchTables.{Tables, Laid}
 use Rattle.rows.specs.inner.Sets.{Holds}
-use Rattle.search.specs.inner.Refutation.{RankedRows, Leads, Obeys, Settling, Ranking, Grown, Partly, Refuted}
-use Rattle.search.proofs.Candidates.{lacks}
+use Rattle.search.specs.inner.Refutation.{RankedRows, Below, Parted, Leads, Sixth, Settling, Ranking, Grown, Partly, Refuted}
+use Rattle.search.specs.inner.Rest.{Rest}
+use Rattle.search.proofs.Rowing.{own-out}
+use Rattle.search.proofs.Candidates.{lacks, in-rest}
 
 pub grown-none : (O : (ℕ → ℕ) → Type 0) (a : List ℕ) → Grown O a a
 grown-none O a = record { long = refl; ranks = λ pos o h. h }
@@ -81,51 +86,76 @@ behind-of led words a one two e d = (subst Words (sym d) (put-words one 0 a (sub
       | no h ↦ inr (row j (subst (λ (r : List ℕ). So (bit r 0 j)) (d ∙ put-right one 0 a (omega arith)) t))
     ]
 
-pub passes : (b c : Bool) → (not b || c) ≡ false → So b
-passes true c e = refl
-passes false c e = absurd (false≢true (sym e))
+pub took : (ahead : List ℕ) → Words ahead → (y : ℕ) → y < RECORDS → (led next : List ℕ) → length led ≡ CELLS → next ≡ addRowOf ahead 0 led y → Grown (Below ahead y) led next
+took ahead words y hy led next l e =
+    let added = row-added ahead words 0 led y hy (omega (arith, hy, l)) in
+    record {
+      long = ap length e ∙ added .long;
+      ranks = λ pos o q i j t. elim (added .pairs j i .0 (subst (λ (r : List ℕ). So (bit r j i)) e t)) [
+        | inl u ↦ q i j u
+        | inr (s, v) ↦ subst (λ (k : ℕ). pos i < pos k) (sym s) (o i v)
+      ];
+    }
 
-row-past : (from : List ℕ) (m : ℕ) (to : List ℕ) (x : ℕ) → RECORDS ≤ x → addRowOf from m to x ≡ to
-unfolding addRowOf
-row-past from m to x h = rw (le-ltb x RECORDS h) refl
+-- one row more takes what is ahead of the heads
+pub lead-row : (ahead heads start led next : List ℕ) → Grown (Parted ahead heads) start led → (y : ℕ) → So (bit heads 0 y) ⊎ Meets led y heads 0 → Grown (Below ahead y) led next → Grown (Parted ahead heads) start next
+lead-row ahead heads start led next now y up took = record {
+  long = took .long ∙ now .long;
+  ranks = λ pos o r.
+      let q = now .ranks pos o r in
+      took .ranks pos (λ x t. elim up [ inl u ↦ o y u x t | inr (z, b, u) ↦ omega (arith, o z u x t, q z y b) ]) q;
+}
 
-module _ (b : Bool) (x y : ℕ) (start led : List ℕ) (now : Grown (Leads b x y) start led) (ahead : List ℕ) (words : Words ahead) (few : Behind start x ahead) (passed : So b)
-    (l : length led ≡ CELLS) (z : ℕ) (up : (z ≡ y) ⊎ So (bit led z y)) (next : List ℕ) (e : next ≡ addRowOf ahead 0 led z) where
-  -- what the row takes is ranked below its number
-  below : (pos : ℕ → ℕ) → Leads b x y pos → RankedRows start pos → RankedRows led pos → (j : ℕ) → So (bit ahead 0 j) → pos j < pos z
-  below pos o r q j t = elim (few j t) [ inl s ↦ rw s high | inr s ↦ omega (arith, r j x s, high) ]
-    where
-      high : pos x < pos z
-      high = elim up [ inl s ↦ rw s (o passed) | inr s ↦ omega (arith, o passed, q y z s) ]
+-- what is before x comes with it
+pub leads-all : (x : ℕ) (ahead heads led next : List ℕ) → Behind led x ahead → Grown (Parted ahead heads) led next → Grown (Leads x heads) led next
+leads-all x ahead heads led next few g = record {
+  long = g .long;
+  ranks = λ pos o r. g .ranks pos (λ y u z t. elim (few z t) [ inl e ↦ rw e (o y u) | inr b ↦ omega (arith, r z x b, o y u) ]) r;
+}
 
-  pub lead-row : Grown (Leads b x y) start next
-  lead-row = elim (decLt z RECORDS) [
-    | no h ↦ subst (λ (r : List ℕ). Grown (Leads b x y) start r) (sym (e ∙ row-past ahead 0 led z (omega arith))) now
-    | yes h ↦
-        let added = row-added ahead words 0 led z h (omega (arith, h, l)) in
-        record {
-          long = ap length e ∙ added .long ∙ now .long;
-          ranks = λ pos o r i j t.
-              let q = now .ranks pos o r in
-              elim (added .pairs j i .0 (subst (λ (r : List ℕ). So (bit r j i)) e t)) [
-                | inl u ↦ q i j u
-                | inr (s, v) ↦ subst (λ (k : ℕ). pos i < pos k) (sym s) (below pos o r q i v)
-              ];
-        }
-  ]
+-- the set of one number has no other
+pub own-only : (S : ℕ) → S < RECORDS → (own : List ℕ) → own ≡ putOf (emptyOf WORDS) 0 S → (pos : ℕ → ℕ) (z : ℕ) → pos z < pos S → Leads z own pos
+own-only S h own e pos z l y t = subst (λ (k : ℕ). pos z < pos k) (sym (own-out S h own e y .0 t)) l
 
-module _ (placed : List ℕ) (S L z : ℕ) (a b c : List ℕ) where
-  pub settled : (early late p q : Bool) → early ≡ bit a L z → late ≡ bit a z S → p ≡ bit placed 0 S → q ≡ bit placed 0 z
-      → Grown (Leads early z S) a b → Grown (Leads (late || (p && not q)) L z) b c → Grown (Obeys placed S L z) a c
-  settled early late p q e₁ e₂ e₃ e₄ first second = record {
-    long = second .long ∙ first .long;
-    ranks = λ pos o r.
-        second .ranks pos (λ t. later pos o r (or-iff (same-iff {a = late}) (and-iff (same-iff {a = p}) so-not) .0 t)) (first .ranks pos (λ t. o .sixth (r z L (sym e₁ ∙ t))) r);
+-- rule 7 by the rows that come after the source, then rule 6 by those before the load
+module _ (set : List ℕ) (S L : ℕ) (a b : List ℕ) where
+  pub settled-late : (heads : List ℕ) → ((z : ℕ) → So (bit heads 0 z) → So (bit set 0 z) × So (bit a z S)) → Grown (Leads L heads) a b → Grown (Settling set S L) a b
+  settled-late heads some g = record {
+    long = g .long;
+    ranks = λ pos o r. g .ranks pos (λ z t. elim (eq? z S) [
+      | inl e ↦ absurd (omega (arith, r S z (some z t .1), ap pos e))
+      | inr d ↦ o z (some z t .0) d .1 (r S z (some z t .1))
+    ]) r;
   }
-    where
-      later : (pos : ℕ → ℕ) → Obeys placed S L z pos → RankedRows a pos → So late ⊎ (So p × (So q → ⊥)) → pos L < pos z
-      later pos o r (inl u) = o .seventh (r S z (sym e₂ ∙ u))
-      later pos o r (inr u) = o .seventh (o .split (sym e₃ ∙ u .0) (sym e₄ ∙ off (u .1)))
+
+  pub settled-early : (ahead : List ℕ) → ((z : ℕ) → So (bit ahead 0 z) → So (bit set 0 z) × So (bit a L z)) → Grown (Sixth ahead S) a b → Grown (Settling set S L) a b
+  settled-early ahead some g = record {
+    long = g .long;
+    ranks = λ pos o r. g .ranks pos (λ z t d. o z (some z t .0) d .0 (r z L (some z t .1))) r;
+  }
+
+-- what the rules ask of a ranking for one load, with what is not placed of the writers of its address
+module _ (n : ℕ) (writers sources placed set : List ℕ) (L : ℕ) (l : L < n) where
+  pub part-one : So (bit placed 0 (getD sources L 0)) → Rest writers L placed 0 set → (pos : ℕ → ℕ) → Ranking n writers sources placed pos → Leads L set pos
+  part-one due r pos o z t =
+      let h = r .has z .0 t in
+      let b = o L l (bit-bounds placed 0 (getD sources L 0) due .1) z (h .0) (λ e. h .1 (subst (λ (k : ℕ). So (bit placed 0 k)) (sym e) due)) in
+      b .seventh (b .split due (off (h .1)))
+
+  pub settle-one : getD sources L 0 < RECORDS → Rest writers L placed 0 set → (pos : ℕ → ℕ) → Ranking n writers sources placed pos → Settling set (getD sources L 0) L pos
+  settle-one s r pos o z t d = let b = o L l s z (r .has z .0 t .0) d in (b .sixth, b .seventh)
+
+-- one number more is put where a test passed
+pub put-some : {P : ℕ → Type 0} (set next : List ℕ) (b : Bool) (z : ℕ) → length set ≡ WORDS → z < RECORDS → next ≡ putIf set b 0 z → (So b → P z) → ((x : ℕ) → So (bit set 0 x) → P x) → (length next ≡ WORDS) × ((x : ℕ) → So (bit next 0 x) → P x)
+unfolding putIf
+put-some set next true z l h e p q =
+    let more = put-more set z l h in
+    rw e (more .long, λ x t. elim (more .has x .0 t) [ inl u ↦ q x u | inr d ↦ rw d (p refl) ])
+put-some set next false z l h e p q = rw e (l, q)
+
+-- what a row has that another has not lost: both have it
+pub both : {from out r s : List ℕ} {x y : ℕ} → Rest from x out y r → Rest from x r 0 s → (z : ℕ) → So (bit s 0 z) → So (bit from x z) × So (bit out y z)
+both p q z t = let h = q .has z .0 t in (h .0, in-rest p z (h .0) (h .1))
 
 pub partly-none : (before a : List ℕ) → Partly before a a
 partly-none before a = record { long = refl; pairs = λ x y t. inl t }

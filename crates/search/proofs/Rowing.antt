@@ -4,17 +4,18 @@
 --   rowed, own-out                 == a row that takes a row and loses another; the set of one number
 --   filling-none, filling-row      == no row yet; one row more
 --   filling-all                    == past the last row
---   writers-row, both-row, both-led == what the row of an address gives to a record; what is before it and writes its address; in the words of the trace
+--   writers-row, readers-row       == what the row of an address gives to a record of that address; to one that writes it
+--   filling-skip                   == a record that writes nothing has none
 use mathlib.Core.Path.{_≡_, refl, sym, ap, _∙_, subst}
 use mathlib.Core.Logic.{_⊎_, inl, inr, _↔_}
-use mathlib.Core.Bool.{Bool, false, So, not, _&&_, false≢true}
+use mathlib.Core.Bool.{Bool, true, false, So, not, _&&_, _||_, false≢true}
 use mathlib.Core.List.{List}
 use Prim.Native.Nat.{ℕ, _+_, _*_, _<_, _≤_}
 use native.Mathlib.Omega.{arith}
 use lib.Dec.{eqb}
 use lib.ListN.{length}
 use Rattle.laws.specs.Relation.{Table}
-use Rattle.laws.proofs.Tests.{test, eq?, and-iff, same-iff, so-eq, not-iff}
+use Rattle.laws.proofs.Tests.{eq?, and-iff, or-iff, same-iff, so-eq, not-iff}
 use Rattle.trace.specs.Bounds.{RECORDS}
 use Rattle.trace.specs.Meaning.{frameOf}
 use Rattle.trace.specs.Op.{address, writes}
@@ -34,27 +35,27 @@ use Rattle.rows.proofs.Whole.{empty-bit, empty-long}
 use Rattle.edges.specs.inner.PairSets.{Only}
 use Rattle.edges.proofs.DrawnEdges.{writer-at}
 use Rattle.rules.specs.RuleTests.{writer?}
-use Rattle.search.specs.inner.TablesLaid.{Filled, heldWriters, Addressed, Rowed, Filling}
+use Rattle.search.specs.inner.TablesLaid.{Filled, reader?, Addressed, Rowed, Filling}
 
-pub addressed-none : (t : Trace) (by : List ℕ) → by ≡ emptyOf CELLS → Addressed t 0 by
-addressed-none t by e = rw e (record {
+pub addressed-none : (t : Trace) (all : Bool) (by : List ℕ) → by ≡ emptyOf CELLS → Addressed t all 0 by
+addressed-none t all by e = rw e (record {
   long = empty-long CELLS;
   pairs = λ a x. (λ u. absurd (false≢true (sym (empty-bit CELLS a x) ∙ u)), λ h. absurd (omega (arith, h .0)));
 })
 
-module _ (t : Trace) (k : ℕ) (by next : List ℕ) (now : Addressed t k by) (b : Bool) (a : ℕ) (p : b ≡ writes (at t k)) (q : a ≡ address (at t k)) (adds : Added by (Only b a k) next) where
-  pub addressed-more : Addressed t (k + 1) next
+module _ (t : Trace) (all : Bool) (k : ℕ) (by next : List ℕ) (now : Addressed t all k by) (b : Bool) (a : ℕ) (p : b ≡ (writes (at t k) || all)) (q : a ≡ address (at t k)) (adds : Added by (Only b a k) next) where
+  pub addressed-more : Addressed t all (k + 1) next
   addressed-more = record { long = adds .long ∙ now .long; pairs = λ i x. (forth i x, back i x) }
     where
-      forth : (i x : ℕ) → So (bit next i x) → (x < k + 1) × So (writes (at t x)) × (address (at t x) ≡ i)
+      forth : (i x : ℕ) → So (bit next i x) → (x < k + 1) × So (writes (at t x) || all) × (address (at t x) ≡ i)
       forth i x u = elim (adds .pairs i x .0 u) [
         | inl e ↦ let h = now .pairs i x .0 e in (omega (arith, h .0), h .1, h .2)
-        | inr (s, e, d) ↦ (omega arith, subst (λ (x : ℕ). So (writes (at t x))) (sym d) (sym p ∙ s), ap (λ (x : ℕ). address (at t x)) d ∙ sym q ∙ sym e)
+        | inr (s, e, d) ↦ (omega arith, subst (λ (x : ℕ). So (writes (at t x) || all)) (sym d) (sym p ∙ s), ap (λ (x : ℕ). address (at t x)) d ∙ sym q ∙ sym e)
       ]
 
-      back : (i x : ℕ) → (x < k + 1) × So (writes (at t x)) × (address (at t x) ≡ i) → So (bit next i x)
+      back : (i x : ℕ) → (x < k + 1) × So (writes (at t x) || all) × (address (at t x) ≡ i) → So (bit next i x)
       back i x (l, w, e) = adds .pairs i x .1 (elim (eq? x k) [
-        | inl d ↦ inr (p ∙ subst (λ (x : ℕ). So (writes (at t x))) d w, sym e ∙ ap (λ (x : ℕ). address (at t x)) d ∙ sym q, d)
+        | inl d ↦ inr (p ∙ subst (λ (x : ℕ). So (writes (at t x) || all)) d w, sym e ∙ ap (λ (x : ℕ). address (at t x)) d ∙ sym q, d)
         | inr d ↦ inl (now .pairs i x .1 (omega arith, w, e))
       ])
 
@@ -137,10 +138,10 @@ pub filled-of : {n : ℕ} {R : Table} {rows : List ℕ} → Filling n n R rows �
 filled-of f = record { pairs = f .pairs }
 
 -- the row of y's address, but y
-pub writers-row : (t : Trace) (by : List ℕ) → Addressed t (t .len) by → (y a : ℕ) → a ≡ address (at t y) → (x : ℕ) → (Edges by a x × (x ≡ y → ⊥)) ↔ ((x < t .len) × So (writer? (frameOf t) x y))
+pub writers-row : (t : Trace) (by : List ℕ) → Addressed t false (t .len) by → (y a : ℕ) → a ≡ address (at t y) → (x : ℕ) → (Edges by a x × (x ≡ y → ⊥)) ↔ ((x < t .len) × So (writer? (frameOf t) x y))
 writers-row t by now y a e x = (
-  λ u. let h = now .pairs a x .0 (u .0) in (h .0, sym (tests (h .0)) ∙ parts .1 ((h .1, h .2 ∙ e), u .1)),
-  λ u. let h = parts .0 (tests (u .0) ∙ u .1) in (now .pairs a x .1 (u .0, h .0 .0, h .0 .1 ∙ sym e), h .1),
+  λ u. let h = now .pairs a x .0 (u .0) in (h .0, sym (tests (h .0)) ∙ parts .1 ((only .0 (h .1), h .2 ∙ e), u .1)),
+  λ u. let h = parts .0 (tests (u .0) ∙ u .1) in (now .pairs a x .1 (u .0, only .1 (h .0 .0), h .0 .1 ∙ sym e), h .1),
 )
   where
     parts : So (writes (at t x) && eqb (address (at t x)) (address (at t y)) && not (eqb x y)) ↔ ((So (writes (at t x)) × (address (at t x) ≡ address (at t y))) × (x ≡ y → ⊥))
@@ -149,22 +150,36 @@ writers-row t by now y a e x = (
     tests : x < t .len → (writes (at t x) && eqb (address (at t x)) (address (at t y)) && not (eqb x y)) ≡ writer? (frameOf t) x y
     tests l = writer-at t x y l (writes (at t x)) (address (at t x)) (address (at t y)) refl refl refl
 
--- less what is before and no writer, what is before is what both have
-pub both-row : (n : ℕ) (before writers : List ℕ) → ((x y : ℕ) → Edges before y x → x < n) → (y x : ℕ)
-    → (Edges before y x × (Edges before y x × (Edges writers y x → ⊥) → ⊥)) ↔ ((x < n) × So (bit writers y x && bit before y x))
-both-row n before writers below y x =
-    let i = and-iff (same-iff {a = bit writers y x}) (same-iff {a = bit before y x}) in (
-      λ u. (below x y (u .0), i .1 (elim (test (bit writers y x)) [ inl w ↦ w | inr w ↦ absurd (u .1 (u .0, λ v. false≢true (sym w ∙ v))) ], u .0)),
-      λ u. let h = i .0 (u .1) in (h .1, λ o. o .1 (h .0)),
-    )
+    only : So (writes (at t x) || false) ↔ So (writes (at t x))
+    only =
+        let o = or-iff (same-iff {a = writes (at t x)}) (same-iff {a = false}) in
+        (λ u. elim (o .0 u) [ inl v ↦ v | inr v ↦ absurd (false≢true v) ], λ u. o .1 (inl u))
 
-pub both-led : (n : ℕ) (t : Trace) (held before writers leaders : List ℕ) → Filled n (bit held) before → Filled n (writer? (frameOf t)) writers
-    → Filling n n (λ x y. bit writers y x && bit before y x) leaders → Filled n (heldWriters (frameOf t) held) leaders
-both-led n t held before writers leaders b w l = record {
-  pairs = λ x y.
-      let i = and-iff (same-iff {a = bit writers y x}) (same-iff {a = bit before y x}) in
-      let o = and-iff (same-iff {a = writer? (frameOf t) x y}) (same-iff {a = bit held x y}) in (
-        λ u. let h = l .pairs x y .0 u in let g = i .0 (h .2) in (h .0, h .1, o .1 (w .pairs x y .0 (g .0) .2, b .pairs x y .0 (g .1) .2)),
-        λ h. let g = o .0 (h .2) in l .pairs x y .1 (h .0, h .1, i .1 (w .pairs x y .1 (h .0, h .1, g .0), b .pairs x y .1 (h .0, h .1, g .1))),
-      );
+-- of a record that writes, the other records of its address
+pub readers-row : (t : Trace) (by : List ℕ) → Addressed t true (t .len) by → (y a : ℕ) → y < t .len → So (writes (at t y)) → a ≡ address (at t y) → (x : ℕ) → (Edges by a x × (x ≡ y → ⊥)) ↔ ((x < t .len) × So (reader? (frameOf t) x y))
+readers-row t by now y a l w e x = (
+  λ u. let h = now .pairs a x .0 (u .0) in (h .0, sym tests ∙ parts .1 ((w, sym e ∙ sym (h .2)), λ d. u .1 (sym d))),
+  λ u. let h = parts .0 (tests ∙ u .1) in (now .pairs a x .1 (u .0, or-iff (same-iff {a = writes (at t x)}) (same-iff {a = true}) .1 (inr refl), sym (h .0 .1) ∙ sym e), λ d. h .1 (sym d)),
+)
+  where
+    parts : So (writes (at t y) && eqb (address (at t y)) (address (at t x)) && not (eqb y x)) ↔ ((So (writes (at t y)) × (address (at t y) ≡ address (at t x))) × (y ≡ x → ⊥))
+    parts = and-iff (and-iff same-iff so-eq) (not-iff so-eq)
+
+    tests : (writes (at t y) && eqb (address (at t y)) (address (at t x)) && not (eqb y x)) ≡ writer? (frameOf t) y x
+    tests = writer-at t y x l (writes (at t y)) (address (at t y)) (address (at t x)) refl refl refl
+
+-- a record that writes nothing has none
+pub filling-skip : (t : Trace) (k : ℕ) (rows : List ℕ) → k < t .len → writes (at t k) ≡ false → Filling k (t .len) (reader? (frameOf t)) rows → Filling (k + 1) (t .len) (reader? (frameOf t)) rows
+filling-skip t k rows l w now = record {
+  long = now .long;
+  pairs = λ x y. (
+    λ u. let h = now .pairs x y .0 u in (omega (arith, h .0), h .1, h .2),
+    λ h. elim (eq? y k) [
+      | inl e ↦ absurd (false≢true (sym w ∙ ap (λ (y : ℕ). writes (at t y)) (sym e) ∙ wrote x y (rw e l) (h .2)))
+      | inr d ↦ now .pairs x y .1 (omega (arith, h .0), h .1, h .2)
+    ],
+  );
 }
+  where
+    wrote : (x y : ℕ) → y < t .len → So (reader? (frameOf t) x y) → So (writes (at t y))
+    wrote x y l u = and-iff (and-iff (same-iff {a = writes (at t y)}) (so-eq {m = address (at t y)} {n = address (at t x)})) (not-iff (so-eq {m = y} {n = x})) .0 (writer-at t y x l (writes (at t y)) (address (at t y)) (address (at t x)) refl refl refl ∙ u) .0 .0

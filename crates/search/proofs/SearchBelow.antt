@@ -1,18 +1,20 @@
 -- The steps of the search below the first k places of a list.
 --
 --   unfound      == an answer that there is none, told by what it cost
+--   sought-as    == the same by another name of how many operations there are
 --   sought-full  == all places are taken: the list is its own answer
 --   sought-dead  == the set is dead
---   trying-none, trying-skip, trying-next == the loop: before the first number; one that is not ready; one that failed
+--   trying-none, trying-skip, trying-next == the loop: before the first number; past those that are not ready; one that failed
 --   found-below  == the answer below one that was ready is the answer
 --   stopped, all-tried == where the loop stops, and at its end, there is none
 use mathlib.Core.Path.{_≡_, refl, sym, ap, ap₂, _∙_, subst}
 use mathlib.Core.Logic.{inl, inr}
 use mathlib.Core.Bool.{Bool, true, false, So, false≢true}
-use mathlib.Core.List.{List, [], _∷_, _++_}
+use mathlib.Core.List.{List, [], _∷_, _++_, append-assoc}
 use mathlib.Core.Option.{none, some}
 use Prim.Native.Nat.{ℕ, _+_, _<_, _≤_}
 use native.Mathlib.Numerals.{add-one}
+use native.Mathlib.Decide.{decLt}
 use native.Mathlib.Omega.{arith}
 use lib.Dec.{eqb}
 use lib.ListN.{length, getD, set, take, drop}
@@ -33,7 +35,7 @@ use Rattle.rules.specs.Ready.{operations, Ready}
 use Rattle.rules.specs.inner.EarlyStop.{Failed}
 use Rattle.rules.proofs.Ready.{valid-sized, unready-none, disciplined-full, full-valid}
 use Rattle.rules.proofs.EarlyStop.{failed-none, failed-more, stop-none}
-use Rattle.search.specs.inner.SearchTables.{Tables, Led, Laid}
+use Rattle.search.specs.inner.SearchTables.{Tables, tables, Led, Laid}
 use Rattle.rows.specs.inner.Sets.{More}
 use Rattle.search.specs.inner.Candidates.{Readied, Stops}
 use Rattle.search.specs.inner.DeadSets.{Recalls, Noted, BuiltSet, Dead}
@@ -46,6 +48,24 @@ use Rattle.search.proofs.DeadSets.{dead-has, dead-noted}
 -- what the search cost is never 0 where it failed
 pub unfound : {T : Tables} {list : List ℕ} {k : ℕ} {placed dead list′ dead′ : List ℕ} (r : ℕ) → 0 < r → Sought T list k placed dead list′ dead′ false → Sought T list k placed dead list′ dead′ (eqb r 0)
 unfound {T} {list} {k} {placed} {dead} {list′} {dead′} r h s = subst (λ (b : Bool). Sought T list k placed dead list′ dead′ b) (sym (off {b = eqb r 0} (λ t. let e : r ≡ 0 = so-eq .0 t in omega arith))) s
+
+-- by another name of how many operations there are
+pub sought-as : (n m m′ : ℕ) (ops before writers readers sources : List ℕ) → m ≡ m′ → {list : List ℕ} {k : ℕ} {placed dead list′ dead′ : List ℕ} {r : Bool}
+    → Sought (tables n m ops before writers readers sources) list k placed dead list′ dead′ r → Sought (tables n m′ ops before writers readers sources) list k placed dead list′ dead′ r
+sought-as n m m′ ops before writers readers sources e {list} {k} {placed} {dead} {list′} {dead′} {r} s =
+    subst (λ (m : ℕ). Sought (tables n m ops before writers readers sources) list k placed dead list′ dead′ r) e s
+
+-- numbers with no answer are tried, and so are fewer numbers
+tried-past : (P : List ℕ → Type 0) (p : List ℕ) (y z : ℕ) → Tried P p y → ((x : ℕ) → y ≤ x → x < z → Answer P (p ++ (x ∷ [])) none) → Tried P p z
+unfolding Tried
+tried-past P p y z t n x s l v = elim (decLt x y) [
+  | yes b ↦ t x s b v
+  | no b ↦ n x (omega arith) l s (subst P (sym (append-assoc p (x ∷ []) s)) v)
+]
+
+tried-less : (P : List ℕ → Type 0) (p : List ℕ) (y z : ℕ) → z ≤ y → Tried P p y → Tried P p z
+unfolding Tried
+tried-less P p y z h t x s l v = t x s (omega arith) v
 
 -- one place more is taken
 pub wrote : (o : List ℕ) (d x : ℕ) → d < length o → take (d + 1) (set o d x) ≡ take d o ++ (x ∷ [])
@@ -89,7 +109,6 @@ module _ (T : Tables) (list : List ℕ) (k : ℕ) (placed dead : List ℕ) (room
 
   pub trying-none : Trying T list k placed dead 0 (emptyOf WORDS) list dead
   trying-none = record {
-    below = omega arith;
     listed = refl;
     kept = refl;
     memory = refl;
@@ -97,21 +116,20 @@ module _ (T : Tables) (list : List ℕ) (k : ℕ) (placed dead : List ℕ) (room
     tried = λ f K laid b d. (tried-none (Valid f K) p, failed-none f K (Led (T .before)) p _ (λ z t. false≢true (sym (empty-bit WORDS 0 z) ∙ t)), d);
   }
 
-  module _ (y : ℕ) (failed list′ dead′ : List ℕ) (now : Trying T list k placed dead y failed list′ dead′) (more : y < T .n) where
-    pub trying-skip : (Readied (T .n) (T .operations) (T .before) (T .writers) (T .sources) placed y → ⊥) → Trying T list k placed dead (y + 1) failed list′ dead′
-    trying-skip n = record {
-      below = omega arith;
+  module _ (y : ℕ) (failed list′ dead′ : List ℕ) (now : Trying T list k placed dead y failed list′ dead′) where
+    -- what is not ready is passed
+    pub trying-skip : (z : ℕ) → ((x : ℕ) → y ≤ x → x < z → Readied (T .n) (T .operations) (T .before) (T .readers) (T .sources) placed x → ⊥) → Trying T list k placed dead z failed list′ dead′
+    trying-skip z n = record {
       listed = now .listed;
       kept = now .kept;
       memory = now .memory;
       set = now .set;
       tried = λ f K laid b d.
           let (t, h, m) = now .tried f K laid b d in
-          let a = unready-none f (laid .good) K (Led (T .before)) (laid .guide) p y (λ r. n (ready-iff f K T laid (room .records) placed p (b .holds) y .1 r)) in
-          (rw add-one (tried-next (Valid f K) p y t a), h, m);
+          (tried-past (Valid f K) p y z t (λ x a l. unready-none f (laid .good) K (Led (T .before)) (laid .guide) p x (λ r. n x a l (ready-iff f K T laid (room .records) placed p (b .holds) x .1 r))), h, m);
     }
 
-    module _ (ready : Readied (T .n) (T .operations) (T .before) (T .writers) (T .sources) placed y) (space : k < T .total) (next list″ dead″ : List ℕ) (grown : More placed y next) (r : Bool)
+    module _ (ready : Readied (T .n) (T .operations) (T .before) (T .readers) (T .sources) placed y) (space : k < T .total) (next list″ dead″ : List ℕ) (grown : More placed y next) (r : Bool)
         (below : Sought T (set list′ k y) (k + 1) next dead′ list″ dead″ r) (listed : length list″ ≡ length list′) (kept-long : length dead″ ≡ length dead′) where
       places : k < length list′
       places = omega (arith, now .listed, room .places)
@@ -161,7 +179,6 @@ module _ (T : Tables) (list : List ℕ) (k : ℕ) (placed dead : List ℕ) (room
       module _ (e : r ≡ false) (failed′ : List ℕ) (w : More failed y failed′) where
         pub trying-next : Trying T list k placed dead (y + 1) failed′ list″ dead″
         trying-next = record {
-          below = omega arith;
           listed = listed ∙ now .listed;
           kept = stands;
           memory = kept-long ∙ now .memory;
@@ -173,13 +190,13 @@ module _ (T : Tables) (list : List ℕ) (k : ℕ) (placed dead : List ℕ) (room
         }
 
         -- enough has failed, or the set is refuted
-        stop : (f : Frame) (K : Table) → Laid f K T → BuiltSet f (T .before) p placed → Dead f K (T .before) dead → Stops (T .n) (T .before) (T .writers) (T .leaders) (T .sources) placed failed′ y → Answer (Valid f K) p none
+        stop : (f : Frame) (K : Table) → Laid f K T → BuiltSet f (T .before) p placed → Dead f K (T .before) dead → Stops (T .n) (T .before) (T .writers) (T .readers) (T .sources) placed failed′ y → Answer (Valid f K) p none
         stop f K laid b d (inl s) =
             stop-none f (laid .good) K (Led (T .before)) (laid .guide) (laid .sourced) p _ (failed-now f K laid b d e failed′ w)
             (stop-of f K T laid (room .records) placed p (b .holds) failed′ y (w .has y .1 (inr refl)) s)
         stop f K laid b d (inr r) = refuted-none f K T laid placed p (b .holds) r
 
-        pub stopped : Stops (T .n) (T .before) (T .writers) (T .leaders) (T .sources) placed failed′ y → (dead‴ : List ℕ) → Noted dead″ placed dead‴ → Sought T list k placed dead list″ dead‴ false
+        pub stopped : Stops (T .n) (T .before) (T .writers) (T .readers) (T .sources) placed failed′ y → (dead‴ : List ℕ) → Noted dead″ placed dead‴ → Sought T list k placed dead list″ dead‴ false
         stopped s dead‴ n = record {
           kept = stands;
           right = λ f K laid b d.
@@ -193,7 +210,6 @@ module _ (T : Tables) (list : List ℕ) (k : ℕ) (placed dead : List ℕ) (room
     kept = now .kept;
     right = λ f K laid b d.
         let (t, h, m) = now .tried f K laid b d in
-        let e : y ≡ f .records = omega (arith, now .below, laid .records) in
-        let a = tried-all (Valid f K) p (f .records) (operations f) (valid-sized f (laid .good) K) (omega (arith, taken, laid .total)) (subst (Tried (Valid f K) p) e t) in
+        let a = tried-all (Valid f K) p (f .records) (operations f) (valid-sized f (laid .good) K) (omega (arith, taken, laid .total)) (tried-less (Valid f K) p y (f .records) (omega (arith, laid .records)) t) in
         (a, dead-noted f K T laid p placed dead′ b m dead″ a n);
   }

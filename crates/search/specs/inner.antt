@@ -6,4 +6,5 @@ pub mod TablesLaid
 pub mod SearchAnswer
 pub mod DeadSets
 pub mod Refutation
+pub mod Rest
 pub mod SearchBelow

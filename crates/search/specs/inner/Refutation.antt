@@ -1,15 +1,17 @@
 -- When a set of placed operations leaves no room for a valid order, as rules 6 and 7 show it. A ranking stands for the places in an order.
 --
 --   RankedRows rows pos   == what a row has is ranked below the row's own number
---   Leads b x y pos       == where the test b passes, x is ranked below y
+--   Below set y pos       == the numbers of a set are ranked below y; Parted: below the numbers of another; Leads x: x is, below those
+--   Sixth set S pos       == the numbers of a set but S are ranked below S
+--   Settling set S L pos == rules 6 and 7 for a load L, its source S and the other writers that a set has
 --   Obeys placed S L z pos == what a ranking owes to a load L, its source S and another writer z: the placed below the others, rules 6 and 7
---   Settling, Ranking     == the same for all such writers, and for all loads below n that have a source
+--   Ranking               == the same for all such writers of all loads below n that have a source
 --   Grown O a b           == the rows b rank nothing that a did not, in rankings with O
 --   Partly before a b     == the rows b have what a has, some of `before` and no more
 --   Refuted ..            == there is no ranking at all
 use mathlib.Core.Path.{_≡_}
 use mathlib.Core.Logic.{_≢_, _⊎_}
-use mathlib.Core.Bool.{Bool, false, So}
+use mathlib.Core.Bool.{false, So}
 use mathlib.Core.List.{List}
 use Prim.Native.Nat.{ℕ, _<_}
 use lib.ListN.{length, getD}
@@ -19,19 +21,28 @@ use Rattle.rows.specs.Rows.{bit}
 abbrev pub RankedRows : List ℕ → (ℕ → ℕ) → Type 0
 RankedRows rows pos = (x y : ℕ) → So (bit rows y x) → pos x < pos y
 
-abbrev pub Leads : Bool → ℕ → ℕ → (ℕ → ℕ) → Type 0
-Leads b x y pos = So b → pos x < pos y
+abbrev pub Below : List ℕ → ℕ → (ℕ → ℕ) → Type 0
+Below set y pos = (x : ℕ) → So (bit set 0 x) → pos x < pos y
+
+abbrev pub Parted : List ℕ → List ℕ → (ℕ → ℕ) → Type 0
+Parted ahead heads pos = (y : ℕ) → So (bit heads 0 y) → Below ahead y pos
+
+abbrev pub Leads : ℕ → List ℕ → (ℕ → ℕ) → Type 0
+Leads x heads pos = (y : ℕ) → So (bit heads 0 y) → pos x < pos y
+
+abbrev pub Sixth : List ℕ → ℕ → (ℕ → ℕ) → Type 0
+Sixth set S pos = (z : ℕ) → So (bit set 0 z) → z ≢ S → pos z < pos S
+
+abbrev pub Settling : List ℕ → ℕ → ℕ → (ℕ → ℕ) → Type 0
+Settling set S L pos = (z : ℕ) → So (bit set 0 z) → z ≢ S → (pos z < pos L → pos z < pos S) × (pos S < pos z → pos L < pos z)
 
 pub record Obeys (placed : List ℕ) (S L z : ℕ) (pos : ℕ → ℕ) : Type 0 where
   pub split : So (bit placed 0 S) → bit placed 0 z ≡ false → pos S < pos z
   pub sixth : pos z < pos L → pos z < pos S
   pub seventh : pos S < pos z → pos L < pos z
 
-abbrev pub Settling : List ℕ → List ℕ → ℕ → ℕ → (ℕ → ℕ) → Type 0
-Settling writers placed S L pos = (z : ℕ) → So (bit writers L z) → z ≢ S → Obeys placed S L z pos
-
 abbrev pub Ranking : ℕ → List ℕ → List ℕ → List ℕ → (ℕ → ℕ) → Type 0
-Ranking n writers sources placed pos = (L : ℕ) → L < n → getD sources L 0 < RECORDS → Settling writers placed (getD sources L 0) L pos
+Ranking n writers sources placed pos = (L : ℕ) → L < n → getD sources L 0 < RECORDS → (z : ℕ) → So (bit writers L z) → z ≢ getD sources L 0 → Obeys placed (getD sources L 0) L z pos
 
 pub record Grown (O : (ℕ → ℕ) → Type 0) (a b : List ℕ) : Type 0 where
   pub long : length b ≡ length a

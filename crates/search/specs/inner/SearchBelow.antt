@@ -43,7 +43,6 @@ module _ (T : Tables) (list : List ℕ) (k : ℕ) (placed dead : List ℕ) where
         → Answer (Valid f K) (take k list) (followsAs r k (T .total) list′) × Dead f K (T .before) dead′
 
   pub record Trying (y : ℕ) (failed list′ dead′ : List ℕ) : Type 0 where
-    pub below : y ≤ T .n
     pub listed : length list′ ≡ length list
     pub kept : take k list′ ≡ take k list
     pub memory : length dead′ ≡ length dead

@@ -22,21 +22,21 @@ pub record Tables : Type 0 where
   pub total : ℕ
   -- the set of the operations
   pub operations : List ℕ
-  -- row y: what must be before y; the writers of y's address but y; those of both
+  -- row y: what must be before y; the writers of y's address but y; if y writes, the other records of its address
   pub before : List ℕ
   pub writers : List ℕ
-  pub leaders : List ℕ
+  pub readers : List ℕ
   -- the source of each record
   pub sources : List ℕ
 
 abbrev pub tables : ℕ → ℕ → List ℕ → List ℕ → List ℕ → List ℕ → List ℕ → Tables
-tables n total operations before writers leaders sources = record {
+tables n total operations before writers readers sources = record {
   n = n;
   total = total;
   operations = operations;
   before = before;
   writers = writers;
-  leaders = leaders;
+  readers = readers;
   sources = sources;
 }
 
@@ -51,5 +51,5 @@ pub record Laid (f : Frame) (K : Table) (T : Tables) : Type 0 where
   pub total : operations f ≡ T .total
   pub operation : (x : ℕ) → So (bit (T .operations) 0 x) ↔ So (f .operation x)
   pub writer : (x y : ℕ) → y < T .n → So (bit (T .writers) y x) ↔ Writer f x y
-  pub leader : (x y : ℕ) → y < T .n → So (bit (T .leaders) y x) ↔ (Writer f x y × Led (T .before) x y)
+  pub reader : (x y : ℕ) → y < T .n → So (bit (T .readers) x y) ↔ Writer f x y
   pub source : (L : ℕ) → L < T .n → getD (T .sources) L 0 ≡ sourceOf f L

@@ -1,16 +1,18 @@
 -- How the tables of the search are laid from a trace and what is held in it.
 --
 --   Filled n R rows     == row y of the rows has exactly the x with R x y, where both are below n
---   heldWriters f held  == the writers of y's address but y that are held before it
---   Addressed t k by    == row a of the rows has exactly those of the first k records that write address a
+--   reader? f y x       == x writes the address of y, which is another record
+--   Addressed t all k by == row a of the rows has exactly those of the first k records that write address a; with `all`, those that have it
 --   Rowed y In Out a b  == b is a, where row y took what In has and then lost what Out has
 --   Filling k n R rows  == the rows below k are as Filled says, and the others are empty
 --   Counted f ops m     == ops is the set of the operations, and m their number
+--   Valued t k values   == of the first k records, what each writes
+--   SourceIn by a values L v asks r == r is the lowest number but L that row a has and that wrote v; RECORDS where there is none, or none is asked for
 --   Sources f n sources == of each record below n, its source
 --   Guided f K held     == what is held joins records, and guides the search for the valid orders under K
 use mathlib.Core.Path.{_≡_}
 use mathlib.Core.Logic.{_⊎_, _↔_}
-use mathlib.Core.Bool.{So, _&&_}
+use mathlib.Core.Bool.{Bool, So, _||_}
 use mathlib.Core.List.{List}
 use Prim.Native.Nat.{ℕ, _<_}
 use lib.ListN.{length, getD}
@@ -18,7 +20,7 @@ use Rattle.laws.specs.Relation.{Table}
 use Rattle.laws.specs.inner.Sorted.{On}
 use Rattle.trace.specs.Bounds.{RECORDS}
 use Rattle.rules.specs.Frame.{Frame}
-use Rattle.trace.specs.Op.{address, writes}
+use Rattle.trace.specs.Op.{address, writes, written}
 use Rattle.trace.specs.Trace.{at}
 use Rattle.trace.specs.declared.Trace.{Trace}
 use Rattle.rows.specs.Bounds.{CELLS}
@@ -32,12 +34,12 @@ use Rattle.rules.specs.inner.Discipline.{Guide}
 pub record Filled (n : ℕ) (R : Table) (rows : List ℕ) : Type 0 where
   pub pairs : (x y : ℕ) → So (bit rows y x) ↔ ((y < n) × (x < n) × So (R x y))
 
-abbrev pub heldWriters : Frame → List ℕ → Table
-heldWriters f held x y = writer? f x y && bit held x y
+abbrev pub reader? : Frame → Table
+reader? f y x = writer? f x y
 
-pub record Addressed (t : Trace) (k : ℕ) (by : List ℕ) : Type 0 where
+pub record Addressed (t : Trace) (all : Bool) (k : ℕ) (by : List ℕ) : Type 0 where
   pub long : length by ≡ CELLS
-  pub pairs : (a x : ℕ) → So (bit by a x) ↔ ((x < k) × So (writes (at t x)) × (address (at t x) ≡ a))
+  pub pairs : (a x : ℕ) → So (bit by a x) ↔ ((x < k) × So (writes (at t x) || all) × (address (at t x) ≡ a))
 
 pub record Rowed (y : ℕ) (In Out : ℕ → Type 0) (rows next : List ℕ) : Type 0 where
   pub long : length next ≡ length rows
@@ -50,6 +52,14 @@ pub record Filling (k n : ℕ) (R : Table) (rows : List ℕ) : Type 0 where
 pub record Counted (f : Frame) (ops : List ℕ) (m : ℕ) : Type 0 where
   pub total : m ≡ operations f
   pub has : (x : ℕ) → So (bit ops 0 x) ↔ So (f .operation x)
+
+pub record Valued (t : Trace) (k : ℕ) (values : List ℕ) : Type 0 where
+  pub long : length values ≡ RECORDS
+  pub value : (x : ℕ) → x < k → getD values x 0 ≡ written (at t x)
+
+pub record SourceIn (by : List ℕ) (a : ℕ) (values : List ℕ) (L v : ℕ) (asks : Bool) (r : ℕ) : Type 0 where
+  pub none : So asks → (z : ℕ) → z < r → So (bit by a z) → (z ≡ L → ⊥) → getD values z 0 ≡ v → ⊥
+  pub there : (So asks × So (bit by a r) × (r ≡ L → ⊥) × (getD values r 0 ≡ v)) ⊎ (r ≡ RECORDS)
 
 pub record Sources (f : Frame) (n : ℕ) (sources : List ℕ) : Type 0 where
   pub long : length sources ≡ RECORDS

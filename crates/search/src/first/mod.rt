@@ -72,18 +72,17 @@ fn look(
     let n = t.len;
     let mut before = [0u64; rows::CELLS];
     let mut writers = [0u64; rows::CELLS];
-    let mut leaders = [0u64; rows::CELLS];
+    let mut readers = [0u64; rows::CELLS];
     let mut dead = [0u64; MEMORY];
     let placed = [0u64; rows::WORDS];
-    lay(t, held, &mut before, &mut writers, &mut leaders);
+    lay(t, held, &mut before, &mut writers, &mut readers);
     let places = &mut list[0..total];
+    let sources = &sources[0..n];
     find(
-        n,
-        total,
         operations,
         &before,
         &writers,
-        &leaders,
+        &readers,
         sources,
         places,
         0,

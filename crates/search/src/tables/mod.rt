@@ -1,8 +1,8 @@
 // The tables of the search, laid once: relations on records as rows, the set of the operations, the sources.
 ghost use mathlib.Core.Path.{_≡_};
-ghost use mathlib.Core.Bool.{So, _&&_};
-ghost use Prim.Native.Nat.{ℕ, _<_, _≤_};
-ghost use lib.ListN.{length};
+ghost use mathlib.Core.Bool.{true, false};
+ghost use Prim.Native.Nat.{_<_, _≤_};
+ghost use lib.ListN.{length, getD};
 ghost use Rattle.trace.specs.Bounds.{RECORDS};
 ghost use Rattle.trace.specs.Meaning.{frameOf};
 ghost use Rattle.rows.specs.Bounds.{CELLS, WORDS};
@@ -10,14 +10,14 @@ ghost use Rattle.rows.specs.Rows.{bit, Edges};
 ghost use Rattle.rules.specs.RuleTests.{writer?};
 ghost use Rattle.edges.specs.inner.PairSets.{Only, Union};
 ghost use Rattle.rows.specs.inner.AddedPairs.{Added};
-ghost use Rattle.search.specs.inner.TablesLaid.{Filled, heldWriters, Addressed, Rowed, Filling, Counted, Sources};
-use pairs::source_of;
+ghost use Rattle.search.specs.inner.TablesLaid.{Filled, reader?, Addressed, Rowed, Filling, Counted, Valued, SourceIn, Sources};
+use trace::RECORDS;
 use trace::Trace;
 
-// Lays, for each address, the row of those that write there.
-fn lay_addresses(t: Trace, by: &mut [u64])
+// Lays, for each address, the row of those that write there, or of all records.
+fn lay_addresses(t: Trace, all: bool, by: &mut [u64])
     requires { ⌜ (t .len ≤ RECORDS) × (length (now by) ≡ CELLS) ⌝ }
-    ensures { λ r. ⌜ Addressed t (t .len) (now (by .exit)) ⌝ }
+    ensures { λ r. ⌜ Addressed t all (t .len) (now (by .exit)) ⌝ }
 {
     rows::clear(by);
     let n = t.len;
@@ -26,7 +26,7 @@ fn lay_addresses(t: Trace, by: &mut [u64])
         let record = t.records[x];
         let op = record.op;
         let addr = op.address() as usize;
-        rows::put_if(by, op.writes(), addr, x);
+        rows::put_if(by, op.writes() | all, addr, x);
         x += 1;
     }
 }
@@ -44,7 +44,7 @@ fn lay_others(by: &[u64], addr: usize, y: usize, writers: &mut [u64])
 
 // Lays the writers of each record's address but the record, a whole row at a time.
 fn lay_writers(t: Trace, by: &[u64], writers: &mut [u64])
-    requires { ⌜ (t .len ≤ RECORDS) × (length (now writers) ≡ CELLS) × Addressed t (t .len) (now by) ⌝ }
+    requires { ⌜ (t .len ≤ RECORDS) × (length (now writers) ≡ CELLS) × Addressed t false (t .len) (now by) ⌝ }
     ensures { λ r. ⌜ Filling (t .len) (t .len) (writer? (frameOf t)) (now (writers .exit)) ⌝ }
 {
     rows::clear(writers);
@@ -55,6 +55,25 @@ fn lay_writers(t: Trace, by: &[u64], writers: &mut [u64])
         let op = record.op;
         let addr = op.address() as usize;
         lay_others(by, addr, y, writers);
+        y += 1;
+    }
+}
+
+// Lays the other records of the address that each record writes.
+fn lay_readers(t: Trace, by: &[u64], readers: &mut [u64])
+    requires { ⌜ (t .len ≤ RECORDS) × (length (now readers) ≡ CELLS) × Addressed t true (t .len) (now by) ⌝ }
+    ensures { λ r. ⌜ Filling (t .len) (t .len) (reader? (frameOf t)) (now (readers .exit)) ⌝ }
+{
+    rows::clear(readers);
+    let n = t.len;
+    let mut y: usize = 0;
+    while y < n {
+        let record = t.records[y];
+        let op = record.op;
+        if op.writes() {
+            let addr = op.address() as usize;
+            lay_others(by, addr, y, readers);
+        }
         y += 1;
     }
 }
@@ -85,50 +104,26 @@ fn turn(n: usize, held: &[u64], before: &mut [u64])
     }
 }
 
-// Lays row y of both: what is before y less what is before it and no writer.
-fn lead_row(before: &[u64], writers: &[u64], y: usize, leaders: &mut [u64])
-    requires { ⌜ (y < RECORDS) × (length (now leaders) ≡ CELLS) ⌝ }
-    ensures { λ r. ⌜ Rowed y (Edges (now (before .entry)) y) (λ x. Edges (now (before .entry)) y x × (Edges (now (writers .entry)) y x → ⊥)) (now (leaders .entry)) (now (leaders .exit)) ⌝ }
-{
-    let mut rest = [0u64; rows::WORDS];
-    rows::add_row(before, y, &mut rest, 0);
-    rows::drop_row(writers, y, &mut rest, 0);
-    rows::add_row(before, y, leaders, y);
-    rows::drop_row(&rest, 0, leaders, y);
-}
-
-// Lays what is before each record and writes its address.
-fn lead(n: usize, before: &[u64], writers: &[u64], leaders: &mut [u64])
-    requires { ⌜ (n ≤ RECORDS) × (length (now leaders) ≡ CELLS) × ((x y : ℕ) → Edges (now before) y x → x < n) ⌝ }
-    ensures { λ r. ⌜ Filling n n (λ x y. bit (now (writers .entry)) y x && bit (now (before .entry)) y x) (now (leaders .exit)) ⌝ }
-{
-    rows::clear(leaders);
-    let mut y: usize = 0;
-    while y < n {
-        lead_row(before, writers, y, leaders);
-        y += 1;
-    }
-}
-
 // Lays the three relations.
 pub(crate) fn lay(
     t: Trace,
     held: &[u64],
     before: &mut [u64],
     writers: &mut [u64],
-    leaders: &mut [u64],
+    readers: &mut [u64],
 )
-    requires { ⌜ (t .len ≤ RECORDS) × (length (now before) ≡ CELLS) × (length (now writers) ≡ CELLS) × (length (now leaders) ≡ CELLS) ⌝ }
+    requires { ⌜ (t .len ≤ RECORDS) × (length (now before) ≡ CELLS) × (length (now writers) ≡ CELLS) × (length (now readers) ≡ CELLS) ⌝ }
     ensures { λ r. ⌜ Filled (t .len) (bit (now (held .entry))) (now (before .exit)) ⌝ }
     ensures { λ r. ⌜ Filled (t .len) (writer? (frameOf t)) (now (writers .exit)) ⌝ }
-    ensures { λ r. ⌜ Filled (t .len) (heldWriters (frameOf t) (now (held .entry))) (now (leaders .exit)) ⌝ }
+    ensures { λ r. ⌜ Filled (t .len) (reader? (frameOf t)) (now (readers .exit)) ⌝ }
 {
     let n = t.len;
     let mut by = [0u64; rows::CELLS];
-    lay_addresses(t, &mut by);
+    lay_addresses(t, false, &mut by);
     lay_writers(t, &by, writers);
+    lay_addresses(t, true, &mut by);
+    lay_readers(t, &by, readers);
     turn(n, held, before);
-    lead(n, before, writers, leaders);
 }
 
 // Lays the set of the operations, and counts them.
@@ -152,15 +147,66 @@ pub(crate) fn lay_operations(t: Trace, operations: &mut [u64]) -> usize
     total
 }
 
-// Lays the source of each record.
+// What stands at a place of a list; 0 past its end.
+fn value_at(values: &[u16], i: usize) -> u16
+    ensures { λ r. ⌜ r ≡ getD (now (values .entry)) i 0 ⌝ }
+{
+    if i < values.len() {
+        return values[i];
+    }
+    0
+}
+
+// Lays what each record writes.
+fn lay_values(t: Trace, values: &mut [u16])
+    requires { ⌜ (t .len ≤ RECORDS) × (length (now values) ≡ RECORDS) ⌝ }
+    ensures { λ r. ⌜ Valued t (t .len) (now (values .exit)) ⌝ }
+{
+    let n = t.len;
+    let mut x: usize = 0;
+    while x < n {
+        let record = t.records[x];
+        let op = record.op;
+        values[x] = op.written();
+        x += 1;
+    }
+}
+
+// The lowest number but the load's own in the row of its address that wrote a value; RECORDS where there is none, or none is asked for.
+fn source_in(by: &[u64], addr: usize, values: &[u16], load: usize, value: u16, asks: bool) -> usize
+    ensures { λ r. ⌜ SourceIn (now (by .entry)) addr (now (values .entry)) load value asks r ⌝ }
+{
+    if !asks {
+        return RECORDS;
+    }
+    let mut z = rows::next(by, addr, 0);
+    while z < RECORDS {
+        if (z != load) & (value_at(values, z) == value) {
+            return z;
+        }
+        z = rows::next(by, addr, z + 1);
+    }
+    RECORDS
+}
+
+// Lays the source of each record, looked for among the writers of its address.
 pub(crate) fn lay_sources(t: Trace, sources: &mut [usize])
     requires { ⌜ (t .len ≤ RECORDS) × (length (now sources) ≡ RECORDS) ⌝ }
     ensures { λ r. ⌜ Sources (frameOf t) (t .len) (now (sources .exit)) ⌝ }
 {
     let n = t.len;
+    let firsts = t.firsts;
+    let mut by = [0u64; rows::CELLS];
+    let mut values = [0u16; RECORDS];
+    lay_addresses(t, false, &mut by);
+    lay_values(t, &mut values);
     let mut load: usize = 0;
     while load < n {
-        sources[load] = source_of(t, load);
+        let record = t.records[load];
+        let op = record.op;
+        let addr = op.address() as usize;
+        let later = op.reads() & (op.read() != value_at(&firsts, addr));
+        sources[load] = source_in(&by, addr, &values, load, op.read(), later);
         load += 1;
     }
 }

@@ -1,60 +1,70 @@
--- `search::refute::settle_for`: what the records below z give is drawn.
-use mathlib.Core.Path.{_≡_, sym, ap, _∙_}
-use mathlib.Core.Logic.{⊎-elim}
-use mathlib.Core.Bool.{Bool, not, _&&_}
-use Prim.Native.Nat.{_-_}
-use native.Mathlib.Omega.{arith}
+-- `search::refute::settle_for`: rule 7, and then rule 6.
+use mathlib.Core.Path.{_∙_}
 use borrow.Author.Needs.{needs}
-use lib.Dec.{eqb}
-use Rattle.laws.proofs.Tests.{and-iff, same-iff, so-not, so-eq}
-use Rattle.search.specs.inner.Refutation.{Grown, Obeys, Settling}
-use Rattle.search.proofs.Refutation.{grown-none, grown-then, grown-weaker}
+use Rattle.search.proofs.Refutation.{grown-then, both, settled-late, settled-early}
 use Rattle.search.proofs.refute.settle_for.Statement.{statement}
 use Rattle.search.proofs.refute.settle_for.Tie as tie
 
-abbrev Inv-loop : tie.InvT-loop
-Inv-loop n writers placed source load led₀ z₀ led z = Grown (Settling writers placed source load) led₀ led
+rest-requires : tie.Need-rest-requires
+rest-requires c κs = search needs
 
-abbrev μ-loop : tie.MeasureT-loop
-μ-loop n writers placed source load led₀ z₀ led z = n - z
+slice-aggregate-rest : tie.Need-slice-aggregate-rest
+slice-aggregate-rest c = search needs
 
-loop-holds : tie.Need-loop-holds Inv-loop μ-loop
-loop-holds c = grown-none _ (c .before .before .before .args .led .now)
+rest-requires-2 : tie.Need-rest-requires-2
+rest-requires-2 c κs = search needs
 
-test-requires : tie.Need-test-requires Inv-loop μ-loop
+slice-aggregate-late : tie.Need-slice-aggregate-late
+slice-aggregate-late c = search needs
+
+late-requires : tie.Need-late-requires
+late-requires c κs = search needs
+
+slice-aggregate-lead-all : tie.Need-slice-aggregate-lead-all
+slice-aggregate-lead-all c = search needs
+
+lead-all-requires : tie.Need-lead-all-requires
+lead-all-requires c κs = c .before .before .before .before .before .before .before .before .before .before .before .before .before .before .pre .1
+
+test-requires : tie.Need-test-requires
 test-requires c κs = search needs
 
-settle-by-requires : tie.Need-settle-by-requires Inv-loop μ-loop
-settle-by-requires c κs = let l = c .before .before .before .before in
-    l .loop .inv .long ∙ l .before .before .before .before .pre
+rest-requires-3 : tie.Need-rest-requires-3
+rest-requires-3 c κs = search needs
 
-add-z : tie.Need-add-z Inv-loop μ-loop
-add-z c = search needs
+slice-aggregate-rest-2 : tie.Need-slice-aggregate-rest-2
+slice-aggregate-rest-2 c = search needs
 
-loop-less : tie.Need-loop-less Inv-loop μ-loop
-loop-less c = search needs
+rest-requires-4 : tie.Need-rest-requires-4
+rest-requires-4 c κs = search needs
 
-loop-again : tie.Need-loop-again Inv-loop μ-loop
-loop-again c = let l = c .before .before .before in
-    let a = l .before .before .before .before .args in
-    let other = ap (λ (b : Bool). b && not (eqb (l .loop .z) (a .source))) (c .before .test .ensures) in
-    ⊎-elim
-    (λ w.
-    let (u, d) = and-iff same-iff so-not .0 (sym other ∙ w .0 .taken) in
-    let done : Grown (Obeys (a .placed .now) (a .source) (a .load) (l .loop .z)) (l .loop .led) (c .if1 .led) = rw (w .5) (w .2 .ensures) in
-    grown-then (l .loop .inv) (grown-weaker (λ pos s. s (l .loop .z) u (λ e. d (so-eq .1 e))) done))
-    (λ w.
-    let e : c .if1 .led ≡ l .loop .led = w .1 in
-    rw e (l .loop .inv))
-    (c .if1 .came)
+slice-aggregate-early : tie.Need-slice-aggregate-early
+slice-aggregate-early c = search needs
 
-same-length : tie.Need-same-length Inv-loop μ-loop
-same-length c = c .before .loop .inv .long
+early-requires : tie.Need-early-requires
+early-requires c κs = (c .before .before .before .before .before .before .before .before .before .before .before .before .before .before .before .before .before .before .before .before .before .before .before .before .before .before .before .before .pre .0, c .before .before .before .before .before .before .before .before .before .before .before .before .before .lead-all .ensures .long ∙ c .before .before .before .before .before .before .before .before .before .before .before .before .before .before .before .before .before .before .before .before .before .before .before .before .before .before .before .before .pre .1)
 
-returns : tie.Need-returns Inv-loop μ-loop
-returns c = c .before .loop .inv
+same-length : tie.Need-same-length
+same-length c = c .before .before .before .before .early .ensures .long ∙ c .before .before .before .before .before .before .before .before .before .before .before .before .before .before .before .before .before .before .lead-all .ensures .long
+
+same-length-2 : tie.Need-same-length-2
+same-length-2 c = search needs
+
+returns : tie.Need-returns
+returns c = let a = c .before .before .before .before .before .before .before .before .before .before .before .before .before .before .before .before .before .before .before .before .before .before .before .before .before .before .before .before .before .before .before .before .before .args in
+    grown-then (settled-late (a .others .now) (a .source) (a .load) (a .led .now) _ _ (λ z t. let h = c .before .before .before .before .before .before .before .before .before .before .before .before .before .before .before .before .before .before .before .before .before .before .late .ensures z t in (both (c .before .before .before .before .before .before .before .before .before .before .before .before .before .before .before .before .before .before .before .before .before .before .before .before .before .before .before .rest .ensures) (c .before .before .before .before .before .before .before .before .before .before .before .before .before .before .before .before .before .before .before .before .before .before .before .before .before .rest2 .ensures) z (h .0) .0, h .1)) (c .before .before .before .before .before .before .before .before .before .before .before .before .before .before .before .before .before .before .lead-all .ensures)) (settled-early (a .others .now) (a .source) (a .load) _ _ _ (λ z t. both (c .before .before .before .before .before .before .before .before .before .before .rest3 .ensures) (c .before .before .before .before .before .before .before .before .rest4 .ensures) z t) (c .before .before .before .before .early .ensures))
+
+same-length-3 : tie.Need-same-length-3
+same-length-3 c = c .before .before .before .before .before .before .lead-all .ensures .long
+
+same-length-4 : tie.Need-same-length-4
+same-length-4 c = search needs
+
+returns-2 : tie.Need-returns-2
+returns-2 c = let a = c .before .before .before .before .before .before .before .before .before .before .before .before .before .before .before .before .before .before .before .before .before .args in
+    settled-late (a .others .now) (a .source) (a .load) (a .led .now) _ _ (λ z t. let h = c .before .before .before .before .before .before .before .before .before .before .late .ensures z t in (both (c .before .before .before .before .before .before .before .before .before .before .before .before .before .before .before .rest .ensures) (c .before .before .before .before .before .before .before .before .before .before .before .before .before .rest2 .ensures) z (h .0) .0, h .1)) (c .before .before .before .before .before .before .lead-all .ensures)
 
 pub settle-for-spec : {M : Type 1} → statement M
 settle-for-spec =
     tie.close
-    (tie.spec Inv-loop μ-loop loop-holds test-requires settle-by-requires add-z loop-less loop-again same-length returns)
+    (tie.spec rest-requires slice-aggregate-rest rest-requires-2 slice-aggregate-late late-requires slice-aggregate-lead-all lead-all-requires test-requires rest-requires-3 slice-aggregate-rest-2 rest-requires-4 slice-aggregate-early early-requires same-length same-length-2 returns same-length-3 same-length-4 returns-2)

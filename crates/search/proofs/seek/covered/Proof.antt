@@ -1,59 +1,74 @@
 -- `search::seek::covered`: each of the writers passed that is still to come has an unplaced one before it.
-use mathlib.Core.Path.{sym, _∙_}
-use mathlib.Core.Logic.{⊎-elim}
-use mathlib.Core.Bool.{So, false, false≢true}
-use Prim.Native.Nat.{ℕ, _<_, _≤_, _-_}
+use mathlib.Core.Bool.{So, false≢true}
+use Prim.Native.Nat.{ℕ, _<_, _-_}
 use native.Mathlib.Omega.{arith}
-use borrow.Author.Count.{below-more}
 use borrow.Author.Needs.{needs}
-use Rattle.rows.specs.Within.{Within}
-use Rattle.search.specs.inner.Candidates.{still}
-use Rattle.search.proofs.Candidates.{still-is}
+use borrow.Author.Tests.{not-false}
+use Rattle.rows.proofs.Rows.{bit-bounds}
+use Rattle.rows.specs.Rows.{bit}
+use Rattle.search.proofs.Candidates.{next-seen, next-on}
+use Rattle.trace.specs.Bounds.{RECORDS}
 use Rattle.search.proofs.seek.covered.Statement.{statement}
 use Rattle.search.proofs.seek.covered.Tie as tie
 
 abbrev Inv-loop : tie.InvT-loop
-Inv-loop n writers leaders placed failed y z₀ z = (z ≤ n) × ((x : ℕ) → x < z → So (still writers placed failed y x) → Within leaders x placed 0 → ⊥)
+Inv-loop before writers placed failed y others z₀ z = (x : ℕ) → x < z → So (bit others 0 x) → (w : ℕ) × So (bit before x w) × So (bit writers x w) × (So (bit placed 0 w) → ⊥)
 
 abbrev μ-loop : tie.MeasureT-loop
-μ-loop n writers leaders placed failed y z₀ z = n - z
+μ-loop before writers placed failed y others z₀ z = RECORDS - z
+
+rest-requires : tie.Need-rest-requires Inv-loop μ-loop
+rest-requires c κs = search needs
+
+slice-aggregate-rest : tie.Need-slice-aggregate-rest Inv-loop μ-loop
+slice-aggregate-rest c = search needs
+
+rest-requires-2 : tie.Need-rest-requires-2 Inv-loop μ-loop
+rest-requires-2 c κs = search needs
+
+slice-aggregate-next : tie.Need-slice-aggregate-next Inv-loop μ-loop
+slice-aggregate-next c = search needs
+
+next-requires : tie.Need-next-requires Inv-loop μ-loop
+next-requires c κs = search needs
 
 loop-holds : tie.Need-loop-holds Inv-loop μ-loop
-loop-holds c = (omega arith, λ k h. absurd (omega arith))
+loop-holds c = λ x h t. absurd (c .next .ensures .skips x (omega arith) h t)
 
-test-requires : tie.Need-test-requires Inv-loop μ-loop
-test-requires c κs = search needs
+rest-requires-3 : tie.Need-rest-requires-3 Inv-loop μ-loop
+rest-requires-3 c κs = search needs
 
-test-requires-2 : tie.Need-test-requires-2 Inv-loop μ-loop
-test-requires-2 c κs = search needs
+slice-aggregate-meets : tie.Need-slice-aggregate-meets Inv-loop μ-loop
+slice-aggregate-meets c = search needs
 
-test-requires-3 : tie.Need-test-requires-3 Inv-loop μ-loop
-test-requires-3 c κs = search needs
-
-within-requires : tie.Need-within-requires Inv-loop μ-loop
-within-requires c κs = search needs
+meets-requires : tie.Need-meets-requires Inv-loop μ-loop
+meets-requires c κs = search needs
 
 returns : tie.Need-returns Inv-loop μ-loop
 returns c = λ t. absurd (false≢true t)
 
-add-z : tie.Need-add-z Inv-loop μ-loop
-add-z c = search needs
+slice-aggregate-next-2 : tie.Need-slice-aggregate-next-2 Inv-loop μ-loop
+slice-aggregate-next-2 c = search needs
+
+add-next : tie.Need-add-next Inv-loop μ-loop
+add-next c = omega arith
+
+next-requires-2 : tie.Need-next-requires-2 Inv-loop μ-loop
+next-requires-2 c κs = search needs
 
 loop-less : tie.Need-loop-less Inv-loop μ-loop
-loop-less c = search needs
+loop-less c = omega (arith, next-on _ (c .before .before .before .before .before .before .before .loop .z) _ (c .next2 .ensures) (omega (arith, c .before .before .before .before .before .before .loop-test .taken)))
 
 loop-again : tie.Need-loop-again Inv-loop μ-loop
-loop-again c = let l = c .before .before .before .before .before in
-    let a = l .before .before .before .before .before .args in
-    let s = still-is (a .writers .now) (a .placed .now) (a .failed .now) (a .y) (l .loop .z) _ _ _ (c .before .before .before .test .ensures) (c .before .before .test2 .ensures) (c .before .test3 .ensures) in (
-      omega arith,
-      below-more _ (l .loop .z) (l .loop .inv .1)
-          (⊎-elim (λ w _ i. false≢true (sym (w .2 .left) ∙ w .1 .ensures .1 i)) (λ w t _. false≢true (sym (w .left) ∙ s ∙ t)) (c .if1 .came)),
-    )
+loop-again c = let l = c .before .before .before .before .before .before .before in
+    let a = c .before .before .before .before .before .before .before .before .before .before .before .before .before .before .before .before .before .args in
+    next-seen {P = λ x. (w : ℕ) × So (bit (a .before .now) x w) × So (bit (a .writers .now) x w) × (So (bit (a .placed .now) 0 w) → ⊥)} _ (l .loop .z) _ (l .loop .inv)
+    (λ _. let (w, p, q) = c .before .before .before .meets .ensures .0 (not-false _ (c .before .before .if1 .left)) in
+    let h = c .before .before .before .before .before .rest3 .ensures .has w .0 p in (w, h .0, q, h .1)) (c .next2 .ensures)
 
 returns-2 : tie.Need-returns-2 Inv-loop μ-loop
 returns-2 c = let l = c .before in
-    λ t x h. l .loop .inv .1 x (omega arith)
+    λ _ z s. l .loop .inv z (omega (arith, c .loop-test .left, bit-bounds _ _ _ (s .writer) .1)) (c .before .before .before .before .rest2 .ensures .has z .1 (c .before .before .before .before .before .before .rest .ensures .has z .1 (s .writer, s .unplaced), s .untried))
 
 pub covered-spec : {M : Type 1} → statement M
 covered-spec =
@@ -61,13 +76,19 @@ covered-spec =
     (tie.spec
     Inv-loop
     μ-loop
+    rest-requires
+    slice-aggregate-rest
+    rest-requires-2
+    slice-aggregate-next
+    next-requires
     loop-holds
-    test-requires
-    test-requires-2
-    test-requires-3
-    within-requires
+    rest-requires-3
+    slice-aggregate-meets
+    meets-requires
     returns
-    add-z
+    slice-aggregate-next-2
+    add-next
+    next-requires-2
     loop-less
     loop-again
     returns-2)

@@ -1,6 +1,6 @@
 -- `search::seek::stops`: any of the three stops.
-use mathlib.Core.Logic.{inl, inr}
 use mathlib.Core.Bool.{false≢true}
+use mathlib.Core.Logic.{inl, inr}
 use borrow.Author.Needs.{needs}
 use Rattle.search.proofs.seek.stops.Statement.{statement}
 use Rattle.search.proofs.seek.stops.Tie as tie
@@ -27,4 +27,6 @@ returns-4 : tie.Need-returns-4
 returns-4 c = λ t. inr (c .refuted .ensures t)
 
 pub stops-spec : {M : Type 1} → statement M
-stops-spec = tie.close (tie.spec unread-requires returns covered-requires returns-2 returns-3 refuted-requires returns-4)
+stops-spec =
+    tie.close
+    (tie.spec unread-requires returns covered-requires returns-2 returns-3 refuted-requires returns-4)

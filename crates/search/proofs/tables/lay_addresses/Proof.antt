@@ -1,5 +1,6 @@
 -- `search::tables::lay_addresses`: the writers of each address below x are laid.
 use mathlib.Core.Path.{_≡_, sym, ap, _∙_}
+use mathlib.Core.Bool.{Bool, _||_}
 use Prim.Native.Nat.{_≤_, _-_}
 use native.Mathlib.Omega.{arith}
 use borrow.Author.Needs.{needs}
@@ -11,17 +12,17 @@ use Rattle.search.proofs.tables.lay_addresses.Statement.{statement}
 use Rattle.search.proofs.tables.lay_addresses.Tie as tie
 
 abbrev Inv-loop : tie.InvT-loop
-Inv-loop by₀ t n x₀ by x = (x ≤ n) × Addressed t x by
+Inv-loop all by₀ t n x₀ by x = (x ≤ n) × Addressed t all x by
 
 abbrev μ-loop : tie.MeasureT-loop
-μ-loop by₀ t n x₀ by x = n - x
+μ-loop all by₀ t n x₀ by x = n - x
 
 clear-requires : tie.Need-clear-requires Inv-loop μ-loop
 clear-requires c κs = search needs
 
 loop-holds : tie.Need-loop-holds Inv-loop μ-loop
 loop-holds c = let s = c .before .before .before .before .before in
-    (omega arith, addressed-none (s .args .t1) _ (c .before .before .clear .ensures ∙ ap emptyOf (s .pre .1)))
+    (omega arith, addressed-none (s .args .t1) (s .args .all) _ (c .before .before .clear .ensures ∙ ap emptyOf (s .pre .1)))
 
 mul-record : tie.Need-mul-record Inv-loop μ-loop
 mul-record c = search needs
@@ -52,7 +53,7 @@ loop-again c = let l = c .before .before .before .before .before .before .before
     let s = l .before .before .before .before .before .before in
     let x = l .loop .x in
     let below = c .before .before .before .before .before .before .before .loop-test .taken in
-    (omega (arith, below), addressed-more (s .args .t1) x (l .loop .by) _ (l .loop .inv .1) _ _ (c .before .before .before .writes .ensures) (c .before .before .before .before .before .address .ensures) (adds-if _ _ x (l .loop .inv .1 .long) (λ _. (omega (arith, c .before .before .before .before .before .address .ok), omega (arith, below, s .pre .0))) (c .before .before .put-if .ensures)))
+    (omega (arith, below), addressed-more (s .args .t1) (s .args .all) x (l .loop .by) _ (l .loop .inv .1) _ _ (ap (λ (b : Bool). b || s .args .all) (c .before .before .before .writes .ensures)) (c .before .before .before .before .before .address .ensures) (adds-if _ _ x (l .loop .inv .1 .long) (λ _. (omega (arith, c .before .before .before .before .before .address .ok), omega (arith, below, s .pre .0))) (c .before .before .put-if .ensures)))
 
 same-length : tie.Need-same-length Inv-loop μ-loop
 same-length c = let l = c .before in

@@ -1,0 +1,29 @@
+// Sets of record numbers, each one row.
+ghost use mathlib.Core.Path.{_≡_};
+ghost use Prim.Native.Nat.{_<_};
+ghost use lib.ListN.{length};
+ghost use Rattle.trace.specs.Bounds.{RECORDS};
+ghost use Rattle.rows.specs.Bounds.{WORDS};
+ghost use Rattle.rows.specs.inner.Sets.{More};
+ghost use Rattle.search.specs.inner.Rest.{Rest};
+
+// What row x of one table has and row y of another has not.
+pub(crate) fn rest(from: &[u64], x: usize, out: &[u64], y: usize) -> [u64; rows::WORDS]
+    ensures { λ r. ⌜ Rest (now (from .entry)) x (now (out .entry)) y r ⌝ }
+{
+    let mut left = [0u64; rows::WORDS];
+    rows::add_row(from, x, &mut left, 0);
+    rows::drop_row(out, y, &mut left, 0);
+    left
+}
+
+// The set with y in it.
+pub(crate) fn join(set: &[u64], y: usize) -> [u64; rows::WORDS]
+    requires { ⌜ (y < RECORDS) × (length (now set) ≡ WORDS) ⌝ }
+    ensures { λ r. ⌜ More (now (set .entry)) y r ⌝ }
+{
+    let mut next = [0u64; rows::WORDS];
+    rows::copy(set, &mut next);
+    rows::put(&mut next, 0, y);
+    next
+}
