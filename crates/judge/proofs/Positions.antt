@@ -24,6 +24,7 @@ use Rattle.trace.specs.Meaning.{frameOf}
 use Rattle.trace.specs.declared.Trace.{Trace}
 use Rattle.rules.specs.RuleTests.{writer?}
 use Rattle.rules.specs.Seen.{visible?}
+use Rattle.pairs.proofs.RecordTests.{earlier-by, writer-by}
 use Rattle.judge.specs.inner.VisibleBy.{visibleBy}
 use Rattle.judge.specs.inner.Positions.{Sited, SitedFrom, outAt, earlyAt}
 use Rattle.judge.specs.Judged.{out?, early?}
@@ -83,8 +84,8 @@ module _ (xs : List ℕ) where
 
 module _ (t : Trace) where
   pub visible-by : (x L : ℕ) (before : Bool) → visibleBy (t .len) (at t x) x (at t L) L before ≡ (writer? (frameOf t) x L && (before || frameOf t .earlier x L))
-  unfolding visibleBy writer? frameOf
-  visible-by x L before = refl
+  unfolding visibleBy
+  visible-by x L before = ap₂ (λ (w e : Bool). w && (before || e)) (writer-by t x L) (earlier-by t x L)
 
   pub visible-at : (xs s : List ℕ) → Sited xs s → (i L : ℕ) → L < RECORDS → (b : Bool)
       → (writer? (frameOf t) (getD xs i 0) L && (ltb i (getD s L 0) || frameOf t .earlier (getD xs i 0) L)) ≡ b → visible? (frameOf t) xs i L ≡ b

@@ -24,7 +24,6 @@ use Rattle.laws.proofs.Tests.{off}
 use Rattle.laws.proofs.Places.{count-here, count-later}
 use Rattle.laws.proofs.LowestLoops.{NoneBelow}
 use Rattle.rules.specs.Frame.{Frame}
-use Rattle.trace.specs.Op.{fence}
 use Rattle.trace.specs.Trace.{at}
 use Rattle.trace.specs.Meaning.{frameOf}
 use Rattle.trace.specs.declared.Op.{Op}
@@ -34,7 +33,6 @@ use Rattle.pairs.proofs.KeptPairs.{kept-of-iff, kept-parts, earlier-iff, fenced
 use Rattle.rules.specs.Seen.{seen}
 use Rattle.judge.specs.inner.Positions.{outAt}
 use Rattle.judge.specs.Judged.{wrong?}
-use Rattle.trace.proofs.Records.{operation-at}
 
 -- a test that passes and one that is turned round
 both : (a b : Bool) → So a → b ≡ false → So (a && not b)
@@ -50,10 +48,10 @@ second-off a b q = ap (λ (d : Bool). a && not d) q ∙ never a
     never true = refl
     never false = refl
 
-pub operations-more : (t : Trace) (x : ℕ) → x < t .len → (b : Bool) → fence (at t x) ≡ b
-    → sum (x + 1) (λ y. cond (frameOf t .operation y) 1 0) ≡ cond (not b) 1 0 + sum x (λ y. cond (frameOf t .operation y) 1 0)
+pub operations-more : (t : Trace) (x : ℕ) (b : Bool) → frameOf t .operation x ≡ b
+    → sum (x + 1) (λ y. cond (frameOf t .operation y) 1 0) ≡ cond b 1 0 + sum x (λ y. cond (frameOf t .operation y) 1 0)
 unfolding sum
-operations-more t x h b e = rw add-one (ap (λ (o : Bool). cond o 1 0 + sum x (λ y. cond (frameOf t .operation y) 1 0)) (operation-at t x h ∙ ap not e))
+operations-more t x b e = rw add-one (ap (λ (o : Bool). cond o 1 0 + sum x (λ y. cond (frameOf t .operation y) 1 0)) e)
 
 module _ (xs : List ℕ) (x i : ℕ) (p : 0 < i) (b : i ≤ length xs) where
   -- the places from i - 1 on

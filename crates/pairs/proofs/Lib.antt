@@ -1,4 +1,5 @@
 -- Laws of kept pairs, for the crates above.
+pub mod RecordTests
 pub mod KeptPairs
 pub mod Unique
 pub mod ReadsFrom

@@ -21,6 +21,20 @@ use Rattle.pairs.proofs.source_of.Reads as source-of
 use Rattle.pairs.proofs.source_of.Kinds as source-of-kinds
 use Rattle.pairs.proofs.sources.missing.Reads as missing
 use Rattle.pairs.proofs.sources.missing.Kinds as missing-kinds
+use Rattle.pairs.proofs.frame.operation.Reads as operation
+use Rattle.pairs.proofs.frame.operation.Kinds as operation-kinds
+use Rattle.pairs.proofs.frame.earlier_by.Reads as earlier-by
+use Rattle.pairs.proofs.frame.earlier_by.Kinds as earlier-by-kinds
+use Rattle.pairs.proofs.frame.earlier.Reads as earlier
+use Rattle.pairs.proofs.frame.earlier.Kinds as earlier-kinds
+use Rattle.pairs.proofs.frame.writer_by.Reads as writer-by
+use Rattle.pairs.proofs.frame.writer_by.Kinds as writer-by-kinds
+use Rattle.pairs.proofs.frame.writer.Reads as writer
+use Rattle.pairs.proofs.frame.writer.Kinds as writer-kinds
+use Rattle.pairs.proofs.frame.source.Reads as source
+use Rattle.pairs.proofs.frame.source.Kinds as source-kinds
+use Rattle.pairs.proofs.frame.begins.Reads as begins
+use Rattle.pairs.proofs.frame.begins.Kinds as begins-kinds
 
 pub kind-settles : Settles 0 kind-kinds.ps kind-kinds.r kind.Post
 kind-settles κs a x y s t p q = p ∙ sym q
@@ -48,3 +62,24 @@ source-of-settles κs a x y s t p q = p ∙ sym q
 
 pub missing-settles : Settles 0 missing-kinds.ps missing-kinds.r missing.Post
 missing-settles κs a x y s t p q = p ∙ sym q
+
+pub operation-settles : Settles 0 operation-kinds.ps operation-kinds.r operation.Post
+operation-settles κs a x y s t p q = p ∙ sym q
+
+pub earlier-by-settles : Settles 0 earlier-by-kinds.ps earlier-by-kinds.r earlier-by.Post
+earlier-by-settles κs a x y s t p q = p ∙ sym q
+
+pub earlier-settles : Settles 0 earlier-kinds.ps earlier-kinds.r earlier.Post
+earlier-settles κs a x y s t p q = p ∙ sym q
+
+pub writer-by-settles : Settles 0 writer-by-kinds.ps writer-by-kinds.r writer-by.Post
+writer-by-settles κs a x y s t p q = p ∙ sym q
+
+pub writer-settles : Settles 0 writer-kinds.ps writer-kinds.r writer.Post
+writer-settles κs a x y s t p q = p ∙ sym q
+
+pub source-settles : Settles 0 source-kinds.ps source-kinds.r source.Post
+source-settles κs a x y s t p q = p ∙ sym q
+
+pub begins-settles : Settles 0 begins-kinds.ps begins-kinds.r begins.Post
+begins-settles κs a x y s t p q = p ∙ sym q

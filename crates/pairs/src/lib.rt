@@ -5,6 +5,7 @@ ghost use Rattle.trace.specs.Meaning.{frameOf};
 ghost use Rattle.pairs.specs.Kept.{modelled, kindOf, sideOf, keptBy, keptPair, fenced, keptOf};
 ghost use Rattle.pairs.specs.SourceOf.{readsFrom, sourceOf};
 
+pub mod frame;
 pub mod sources;
 
 use trace::Op;

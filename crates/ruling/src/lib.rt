@@ -6,51 +6,16 @@ ghost use Rattle.rows.specs.Rows.{bit};
 ghost use Rattle.rows.specs.Lent.{lentOf};
 ghost use Rattle.pairs.specs.Kept.{keptOf};
 ghost use Rattle.rules.specs.Rules.{nothing};
-ghost use Rattle.rules.specs.RuleTests.{writer?, source?, first?, gives?};
+ghost use Rattle.rules.specs.RuleTests.{gives?};
 ghost use Rattle.ruling.specs.inner.RuleParts.{beforeSource, afterLoad};
 ghost use Rattle.rules.specs.ShownCircle.{rule?};
+use pairs::frame::begins;
+use pairs::frame::earlier;
+use pairs::frame::source;
+use pairs::frame::writer;
 use pairs::kept;
 use pairs::op_at;
 use trace::Trace;
-use trace::first;
-
-// Whether x is before y in program order.
-fn earlier(t: Trace, x: usize, y: usize) -> bool
-    ensures { λ r. ⌜ r ≡ frameOf t .earlier x y ⌝ }
-{
-    (x < y) & (op_at(t, x).thread() == op_at(t, y).thread())
-}
-
-// Whether a record writes the address of another.
-fn writer(t: Trace, x: usize, load: usize) -> bool
-    ensures { λ r. ⌜ r ≡ writer? (frameOf t) x load ⌝ }
-{
-    let n = t.len;
-    let a = op_at(t, x);
-    let b = op_at(t, load);
-    (x < n) & a.writes() & (a.address() == b.address()) & (x != load)
-}
-
-// Whether a record is the source of another.
-fn source(t: Trace, x: usize, load: usize) -> bool
-    ensures { λ r. ⌜ r ≡ source? (frameOf t) x load ⌝ }
-{
-    let n = t.len;
-    let a = op_at(t, x);
-    let b = op_at(t, load);
-    let reads = (load < n) & b.reads();
-    writer(t, x, load) & reads & (b.read() == a.written()) & (b.read() != first(t, b.address()))
-}
-
-// Whether a record reads what its address begins with, and another writes that address.
-fn begins(t: Trace, x: usize, load: usize) -> bool
-    ensures { λ r. ⌜ r ≡ first? (frameOf t) x load ⌝ }
-{
-    let n = t.len;
-    let b = op_at(t, load);
-    let reads = (load < n) & b.reads();
-    writer(t, x, load) & reads & (b.read() == first(t, b.address()))
-}
 
 // Whether y is the source of a load that x, another writer, is known to be before: by program order, or where chains count by a chain.
 fn before_source(t: Trace, chains: &[u64], chained: bool, x: usize, y: usize) -> bool

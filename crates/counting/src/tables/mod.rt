@@ -10,6 +10,8 @@ ghost use Rattle.pairs.specs.Kept.{keptOf};
 ghost use Rattle.edges.specs.inner.PairSets.{Only, Union};
 ghost use Rattle.rows.specs.inner.AddedPairs.{Added};
 ghost use Rattle.counting.specs.inner.CountingRows.{SetsOf, owns, feeds?, Rows};
+use pairs::frame::earlier_by;
+use pairs::frame::writer_by;
 use pairs::kept_pair;
 use trace::Trace;
 use trace::first;
@@ -88,8 +90,8 @@ fn lay_writer(
     while y < n {
         let record = t.records[y];
         let b = record.op;
-        let writer = a.writes() & (a.address() == b.address()) & (x != y);
-        let earlier = (x < y) & (a.thread() == b.thread());
+        let writer = writer_by(n, a, x, b, y);
+        let earlier = earlier_by(a, x, b, y);
         let read = rows::test(reads, 0, y) & (b.read() == a.written());
         let source = writer & read & !rows::test(served, 0, y);
         rows::put_if(own, writer & earlier, y, x);

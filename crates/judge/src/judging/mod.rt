@@ -14,6 +14,9 @@ ghost use Rattle.judge.specs.inner.VisibleBy.{visibleBy};
 ghost use Rattle.judge.specs.inner.Positions.{Sited, Numbers, outAt, earlyAt};
 ghost use Rattle.pairs.specs.MissingOf.{asFound};
 ghost use Rattle.judge.specs.Judged.{bad?, twice?, wrong?, turnsBy, judgedBy, judgedOf};
+use pairs::frame::earlier_by;
+use pairs::frame::operation;
+use pairs::frame::writer_by;
 use pairs::kept_pair;
 use pairs::modelled;
 use pairs::op_at;
@@ -45,7 +48,7 @@ fn operations(t: Trace) -> usize
     let mut total: usize = 0;
     let mut x: usize = 0;
     while x < n {
-        if !op_at(t, x).fence() {
+        if operation(t, x) {
             total += 1;
         }
         x += 1;
@@ -57,12 +60,10 @@ fn operations(t: Trace) -> usize
 fn bad_place(t: Trace, list: &[u16]) -> Found
     ensures { λ r. ⌜ r ≡ asFound (lowest (bad? (frameOf t) (now (list .entry))) (length (now (list .entry))) 0) ⌝ }
 {
-    let n = t.len;
     let mut i: usize = 0;
     while i < list.len() {
         let x = list[i] as usize;
-        let operation = (x < n) & !op_at(t, x).fence();
-        if !operation {
+        if !operation(t, x) {
             return Found::At(i);
         }
         i += 1;
@@ -159,8 +160,7 @@ fn out_of_turn(t: Trace, model: u8, sites: &[usize]) -> Found
 fn visible(n: usize, a: Op, x: usize, b: Op, load: usize, before: bool) -> bool
     ensures { λ r. ⌜ r ≡ visibleBy n a x b load before ⌝ }
 {
-    let writer = (x < n) & a.writes() & (a.address() == b.address()) & (x != load);
-    writer & (before | ((x < load) & (a.thread() == b.thread())))
+    writer_by(n, a, x, b, load) & (before | earlier_by(a, x, b, load))
 }
 
 // The value that a load must read. The loop reads records itself: to hand the trace on is to copy it.

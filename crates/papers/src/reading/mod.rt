@@ -14,8 +14,8 @@ ghost use Rattle.papers.specs.Paper.{BRANCH, mayRest};
 ghost use Rattle.papers.specs.inner.ReaderBranch.{branchOf, linkOf, linkJoins, linked, latestOf, othersOf, stackOf, Taken};
 ghost use Rattle.papers.specs.Accepts.{Paper, Accepts};
 use crate::BRANCH;
+use pairs::frame::operation;
 use pairs::modelled;
-use pairs::op_at;
 use ruling::gives;
 use trace::Trace;
 use trace::form::well_formed;
@@ -134,13 +134,6 @@ fn closes(l: Link, x: u16, y: u16) -> bool
         Link::Between(a, b) => (x == y) & ((a == x) & (b == y)),
         Link::Nowhere => false,
     }
-}
-
-// Whether a number is an operation's.
-fn operation(t: Trace, x: usize) -> bool
-    ensures { λ r. ⌜ r ≡ frameOf t .operation x ⌝ }
-{
-    (x < t.len) & !op_at(t, x).fence()
 }
 
 // Whether an entry that rests on k entries may be a split on x and y.

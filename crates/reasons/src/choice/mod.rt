@@ -5,6 +5,7 @@ ghost use Rattle.trace.specs.Meaning.{frameOf};
 ghost use Rattle.rows.specs.Rows.{bit};
 ghost use Rattle.rules.specs.RuleTests.{writer?};
 ghost use Rattle.reasons.specs.inner.Writing.{readFrom};
+use pairs::frame::writer;
 use pairs::op_at;
 use pairs::source_of;
 use trace::RECORDS;
@@ -28,10 +29,7 @@ fn read_from(t: Trace, x: usize) -> bool
 fn rivals(t: Trace, x: usize, y: usize) -> bool
     ensures { λ r. ⌜ r ≡ (frameOf t .writes x && writer? (frameOf t) y x) ⌝ }
 {
-    let n = t.len;
-    let a = op_at(t, x);
-    let b = op_at(t, y);
-    (x < n) & a.writes() & ((y < n) & b.writes() & (b.address() == a.address()) & (y != x))
+    (x < t.len) & op_at(t, x).writes() & writer(t, y, x)
 }
 
 // Whether x and y write one address, one of them is read from, and they are held neither way.

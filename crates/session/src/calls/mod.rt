@@ -20,8 +20,8 @@ use crate::Session;
 use crate::Stack;
 use edges::force::forced;
 use pairs::SC;
+use pairs::frame::operation;
 use pairs::modelled;
-use pairs::op_at;
 use pairs::sources::Found;
 use pairs::sources::missing;
 use trace::Fault;
@@ -30,14 +30,6 @@ use trace::Trace;
 use trace::form::fault_of;
 use trace::form::well_formed;
 use trace::pushed;
-
-// Whether a number is that of an operation.
-fn operation(t: Trace, x: usize) -> bool
-    ensures { λ r. ⌜ r ≡ frameOf t .operation x ⌝ }
-{
-    let n = t.len;
-    (x < n) & !op_at(t, x).fence()
-}
 
 // Whether a pair joins two different operations.
 fn supposable(t: Trace, p: Pair) -> bool

@@ -10,7 +10,7 @@ use Rattle.rules.specs.RuleTests.{writer?}
 use Rattle.edges.specs.inner.PairSets.{Only, Union}
 use Rattle.rows.specs.inner.AddedPairs.{Added}
 use Rattle.edges.proofs.PairSets.{adds-if, adds-only, union-none, union-more}
-use Rattle.edges.proofs.DrawnEdges.{writer-at, earlier-at}
+use Rattle.pairs.proofs.RecordTests.{earlier-by, writer-by}
 use Rattle.counting.specs.inner.CountingRows.{owns, feeds?}
 use Rattle.counting.proofs.CountingRows.{feeds-at}
 use Rattle.counting.proofs.tables.lay_writer.Statement.{statement}
@@ -42,20 +42,11 @@ mul-record-2 c = search needs
 element-copy-out-record-2 : tie.Need-element-copy-out-record-2 Inv-loop μ-loop
 element-copy-out-record-2 c = search needs
 
-writes-requires : tie.Need-writes-requires Inv-loop μ-loop
-writes-requires c κs = search needs
+writer-by-requires : tie.Need-writer-by-requires Inv-loop μ-loop
+writer-by-requires c κs = search needs
 
-address-requires : tie.Need-address-requires Inv-loop μ-loop
-address-requires c κs = search needs
-
-address-requires-2 : tie.Need-address-requires-2 Inv-loop μ-loop
-address-requires-2 c κs = search needs
-
-thread-requires : tie.Need-thread-requires Inv-loop μ-loop
-thread-requires c κs = search needs
-
-thread-requires-2 : tie.Need-thread-requires-2 Inv-loop μ-loop
-thread-requires-2 c κs = search needs
+earlier-by-requires : tie.Need-earlier-by-requires Inv-loop μ-loop
+earlier-by-requires c κs = search needs
 
 test-requires : tie.Need-test-requires Inv-loop μ-loop
 test-requires c κs = search needs
@@ -87,13 +78,13 @@ loop-less c = search needs
 loop-again : tie.Need-loop-again Inv-loop μ-loop
 unfolding owns
 loop-again c =
-    let l = c .before .before .before .before .before .before .before .before .before .before .before .before .before .before .before .before .before .before .before .before .before .before .before in
-    let s = c .before .before .before .before .before .before .before .before .before .before .before .before .before .before .before .before .before .before .before .before .before .before .before .before .before .before .before .before .before .before in
+    let l = c .before .before .before .before .before .before .before .before .before .before .before .before .before .before .before .before .before .before .before .before in
+    let s = c .before .before .before .before .before .before .before .before .before .before .before .before .before .before .before .before .before .before .before .before .before .before .before .before .before .before .before in
     let a = s .args in
     let y = l .loop .y in
-    let below = c .before .before .before .before .before .before .before .before .before .before .before .before .before .before .before .before .before .before .before .before .before .before .loop-test .taken in
-    let w = writer-at (a .t1) (a .x) y (s .pre .0) _ _ _ (c .before .before .before .before .before .before .before .before .before .before .before .before .before .before .before .before .before .before .before .before .writes .ensures) (c .before .before .before .before .before .before .before .before .before .before .before .before .before .before .before .before .before .before .before .address .ensures) (c .before .before .before .before .before .before .before .before .before .before .before .before .before .before .before .before .before .before .address2 .ensures) in
-    let o = earlier-at (a .t1) (a .x) y _ _ (c .before .before .before .before .before .before .before .before .before .before .before .before .before .before .before .before .before .thread .ensures) (c .before .before .before .before .before .before .before .before .before .before .before .before .before .before .before .before .thread2 .ensures) in
+    let below = c .before .before .before .before .before .before .before .before .before .before .before .before .before .before .before .before .before .before .before .loop-test .taken in
+    let w = c .before .before .before .before .before .before .before .before .before .before .before .before .before .before .before .before .before .writer-by .ensures ∙ writer-by (a .t1) (a .x) y in
+    let o = c .before .before .before .before .before .before .before .before .before .before .before .before .before .before .before .before .earlier-by .ensures ∙ earlier-by (a .t1) (a .x) y in
     let f = feeds-at (a .t1) (a .reads .now) (a .served .now) (a .x) y _ _ _ _ _ w (c .before .before .before .before .before .before .before .before .before .before .before .before .before .before .before .test .ensures) (c .before .before .before .before .before .before .before .before .before .before .before .before .before .before .read .ensures) (c .before .before .before .before .before .before .before .before .before .before .before .before .before .written .ensures) (c .before .before .before .before .before .before .before .before .before .before .before .before .test2 .ensures) in
     let small : (a .x < RECORDS) × (y < RECORDS) = (omega (arith, s .pre .0, s .pre .1), omega (arith, below, s .pre .1)) in (
       omega (arith, below),
@@ -128,11 +119,8 @@ lay-writer-spec =
     loop-holds
     mul-record-2
     element-copy-out-record-2
-    writes-requires
-    address-requires
-    address-requires-2
-    thread-requires
-    thread-requires-2
+    writer-by-requires
+    earlier-by-requires
     test-requires
     read-requires
     written-requires

@@ -13,10 +13,10 @@ use Rattle.judge.proofs.judging.bad_place.Statement.{statement}
 use Rattle.judge.proofs.judging.bad_place.Tie as tie
 
 abbrev Inv-loop : tie.InvT-loop
-Inv-loop t list n i₀ i = NoneBelow (bad? (frameOf t) list) i
+Inv-loop t list i₀ i = NoneBelow (bad? (frameOf t) list) i
 
 abbrev μ-loop : tie.MeasureT-loop
-μ-loop t list n i₀ i = length list - i
+μ-loop t list i₀ i = length list - i
 
 loop-holds : tie.Need-loop-holds Inv-loop μ-loop
 loop-holds c = none-below _
@@ -30,19 +30,16 @@ shared-slice-read-x c = omega arith
 cast-x : tie.Need-cast-x Inv-loop μ-loop
 cast-x c = omega (arith, c .shared-slice-known2 .given (c .before .before .loop .i))
 
-op-at-requires : tie.Need-op-at-requires Inv-loop μ-loop
-op-at-requires c κs = search needs
-
-fence-requires : tie.Need-fence-requires Inv-loop μ-loop
-fence-requires c κs = search needs
+operation-requires : tie.Need-operation-requires Inv-loop μ-loop
+operation-requires c κs = search needs
 
 returns : tie.Need-returns Inv-loop μ-loop
-unfolding bad? frameOf
+unfolding bad?
 returns c =
-    let l = c .before .before .before .before .before .loop in
-    let a = c .before .before .before .before .before .before .before .args in
+    let l = c .before .before .before .before .loop in
+    let a = c .before .before .before .before .before .before .args in
     let e : bad? (frameOf (a .t)) (a .list .now) (l .i) ≡ true = cc in
-    at-lowest _ _ (l .i) (l .inv) (c .before .before .before .before .loop-test .taken) e
+    at-lowest _ _ (l .i) (l .inv) (c .before .before .before .loop-test .taken) e
 
 add-i : tie.Need-add-i Inv-loop μ-loop
 add-i c = search needs
@@ -51,10 +48,10 @@ loop-less : tie.Need-loop-less Inv-loop μ-loop
 loop-less c = search needs
 
 loop-again : tie.Need-loop-again Inv-loop μ-loop
-unfolding bad? frameOf
+unfolding bad?
 loop-again c =
-    let l = c .before .before .before .before .before .loop in
-    let a = c .before .before .before .before .before .before .before .args in
+    let l = c .before .before .before .before .loop in
+    let a = c .before .before .before .before .before .before .args in
     let e : bad? (frameOf (a .t)) (a .list .now) (l .i) ≡ false = cc in
     more-below _ (l .i) (l .inv) e
 
@@ -71,8 +68,7 @@ bad-place-spec =
     mul-x
     shared-slice-read-x
     cast-x
-    op-at-requires
-    fence-requires
+    operation-requires
     returns
     add-i
     loop-less

@@ -1,12 +1,10 @@
 -- `judge::judging::operations`: the operations among the records passed are counted.
-use mathlib.Core.Path.{_≡_, sym, ap, _∙_}
+use mathlib.Core.Path.{_≡_, sym, _∙_}
 use mathlib.Core.Logic.{⊎-elim}
 use mathlib.Core.Bool.{true, false, cond}
 use Prim.Native.Nat.{_-_, _≤_}
 use native.Mathlib.Omega.{arith}
-use borrow.Author.Tests.{not-true, not-false}
 use Rattle.laws.specs.Sums.{sum}
-use Rattle.trace.specs.Op.{fence}
 use Rattle.trace.specs.Meaning.{frameOf}
 use Rattle.rules.specs.Ready.{operations}
 use Rattle.judge.proofs.Walked.{operations-more}
@@ -24,11 +22,8 @@ loop-holds : tie.Need-loop-holds Inv-loop μ-loop
 unfolding sum
 loop-holds c = (omega arith, omega arith, cc)
 
-op-at-requires : tie.Need-op-at-requires Inv-loop μ-loop
-op-at-requires c κs = search needs
-
-fence-requires : tie.Need-fence-requires Inv-loop μ-loop
-fence-requires c κs = search needs
+operation-requires : tie.Need-operation-requires Inv-loop μ-loop
+operation-requires c κs = search needs
 
 add-total : tie.Need-add-total Inv-loop μ-loop
 add-total c = omega arith
@@ -41,13 +36,13 @@ loop-less c = search needs
 
 loop-again : tie.Need-loop-again Inv-loop μ-loop
 loop-again c =
-    let l = c .before .before .before .before .loop in
-    let t = c .before .before .before .before .before .args .t in
-    let more = operations-more t (l .x) (c .before .before .before .loop-test .taken) in
-    let same = c .before .fence .ensures ∙ ap fence (c .before .before .op-at .ensures) in
+    let l = c .before .before .before .loop in
+    let t = c .before .before .before .before .args .t in
+    let more = operations-more t (l .x) in
+    let same = c .before .operation .ensures in
     ⊎-elim
-    (λ w. (omega arith, omega (arith, w .1), omega (arith, w .1, l .inv .2, more false (sym same ∙ not-true _ (w .0 .taken)))))
-    (λ w. (omega arith, omega (arith, w .1), omega (arith, w .1, l .inv .2, more true (sym same ∙ not-false _ (w .0 .left)))))
+    (λ w. (omega arith, omega (arith, w .1), omega (arith, w .1, l .inv .2, more true (sym same ∙ w .0 .taken))))
+    (λ w. (omega arith, omega (arith, w .1), omega (arith, w .1, l .inv .2, more false (sym same ∙ w .0 .left))))
     (c .if1 .came)
 
 returns : tie.Need-returns Inv-loop μ-loop
@@ -64,8 +59,7 @@ operations-spec =
     Inv-loop
     μ-loop
     loop-holds
-    op-at-requires
-    fence-requires
+    operation-requires
     add-total
     add-x
     loop-less
