@@ -9,3 +9,6 @@ pub mod Telling
 pub mod Joining
 pub mod Choosing
 pub mod Writing
+pub mod Closed
+pub mod Ranks
+pub mod Noting

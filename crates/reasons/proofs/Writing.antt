@@ -53,7 +53,7 @@ module _ (f : Frame) (g : Good f) (K : Table) (jK : Joins f K) where
   abbrev None : List Claim → Type 0
   None E = (xs : List ℕ) → Valid f K xs → Keeps (inside E) xs → ⊥
 
-  branch-closing : (E : List Claim) → Joins f (inside E) → Closing f K (inside E) (fallen f K E) (heldIn f K E)
+  pub branch-closing : (E : List Claim) → Joins f (inside E) → Closing f K (inside E) (fallen f K E) (heldIn f K E)
   unfolding fallen heldIn contradicted? held?
   branch-closing E j = closing-computed f K (inside E) g (joins-within f g K jK) (joins-within f g (inside E) j)
 

@@ -1,4 +1,5 @@
 -- What only contracts of private functions cite.
+pub mod Choice
 pub mod Laid
 pub mod Telling
 pub mod Ways
