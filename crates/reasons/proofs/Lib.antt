@@ -7,8 +7,10 @@ pub mod Written
 pub mod Ways
 pub mod Telling
 pub mod Joining
+pub mod Along
 pub mod Choosing
 pub mod Writing
 pub mod Closed
 pub mod Ranks
 pub mod Noting
+pub mod Leaf

@@ -1,6 +1,8 @@
 -- What only contracts of private functions cite.
 pub mod Choice
+pub mod Fair
 pub mod Laid
+pub mod PutKept
 pub mod Telling
 pub mod Ways
 pub mod Writing
