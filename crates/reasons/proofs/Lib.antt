@@ -10,4 +10,4 @@ pub mod Joining
 pub mod Along
 pub mod Choosing
 pub mod Writing
-pub mod Leaf
+pub mod Leaves
