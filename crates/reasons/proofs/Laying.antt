@@ -1,5 +1,6 @@
 -- What the functions that lay numbers and entries do, turn by turn.
 --
+--   left                        == the steps of a way from place i on
 --   numbers-step, numbers-end   == the numbers of the edges of a way
 --   way-step, way-stop, way-over == a way, step by step
 --   reads-on, reads-off₁, reads-off₂ == whether a load is the one looked for
@@ -37,12 +38,12 @@ use Rattle.reasons.proofs.Places.{Reads, sets-join, sets-more}
 one-more : (r : List ℕ) (i v : ℕ) (rest : List ℕ) → i < length r → take (i + 1) (set r i v) ++ rest ≡ take i r ++ v ∷ rest
 one-more r i v rest h = ap (λ k. take k (set r i v) ++ rest) (add-one i) ∙ ap (λ l. l ++ rest) (take-suc-set r i v h) ∙ append-snoc (take i r) v rest
 
-module _ (E : List Claim) (steps : List ℕ) (len a b : ℕ) (fits : len ≤ length steps) where
-  left : (i : ℕ) → i < len → drop i (take len steps) ≡ getD steps i 0 ∷ drop (i + 1) (take len steps)
-  left i h =
-      drop-cons (take len steps) i 0 (omega (arith, length-take-le len steps fits))
-      ∙ ap₂ (λ z k. z ∷ drop k (take len steps)) (getD-take len steps i 0 h) (sym (add-one i))
+pub left : (steps : List ℕ) (len : ℕ) → len ≤ length steps → (i : ℕ) → i < len → drop i (take len steps) ≡ getD steps i 0 ∷ drop (i + 1) (take len steps)
+left steps len fits i h =
+    drop-cons (take len steps) i 0 (omega (arith, length-take-le len steps fits))
+    ∙ ap₂ (λ z k. z ∷ drop k (take len steps)) (getD-take len steps i 0 h) (sym (add-one i))
 
+module _ (E : List Claim) (steps : List ℕ) (len a b : ℕ) (fits : len ≤ length steps) where
   pub numbers-step : (r : List ℕ) (i x v : ℕ) → i < len → i < length r → v ≡ entryNumber E x (getD steps i 0)
       → take i r ++ numbers E x (drop i (take len steps)) b ≡ numbers E a (take len steps) b
       → take (i + 1) (set r i v) ++ numbers E (getD steps i 0) (drop (i + 1) (take len steps)) b ≡ numbers E a (take len steps) b
@@ -50,7 +51,7 @@ module _ (E : List Claim) (steps : List ℕ) (len a b : ℕ) (fits : len ≤ len
   numbers-step r i x v h l e inv =
       one-more r i v (numbers E (getD steps i 0) (drop (i + 1) (take len steps)) b) l
       ∙ ap (λ w. take i r ++ w ∷ numbers E (getD steps i 0) (drop (i + 1) (take len steps)) b) e
-      ∙ ap (λ zs. take i r ++ numbers E x zs b) (sym (left i h))
+      ∙ ap (λ zs. take i r ++ numbers E x zs b) (sym (left steps len fits i h))
       ∙ inv
 
   pub numbers-end : (r : List ℕ) (i x v : ℕ) → i ≡ len → len < length r → v ≡ entryNumber E x b

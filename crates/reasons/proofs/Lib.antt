@@ -7,5 +7,7 @@ pub mod Written
 pub mod Ways
 pub mod Telling
 pub mod Joining
+pub mod Along
 pub mod Choosing
 pub mod Writing
+pub mod Leaf

@@ -41,10 +41,11 @@ use Rattle.rules.proofs.Shown.{shown-computed}
 use Rattle.rules.proofs.Sorted.{held-valid, held-step}
 use Rattle.papers.specs.Paper.{Claim, Entry, named, branchRoom, accepted}
 use Rattle.papers.proofs.Sound.{accepted-sound}
+use Rattle.reasons.specs.inner.Fair.{Named, none-yet, Fair}
 use Rattle.reasons.specs.inner.Telling.{edgesOf, inside, numbers, along, tell}
 use Rattle.reasons.specs.inner.Writing.{splitEntry, fallen, heldIn, open?, choose, circleRound, closing, leafOf, paperOf, paper}
-use Rattle.reasons.proofs.Names.{Named, inside-iff, named-grow, named-last, named-cases}
-use Rattle.reasons.proofs.Short.{Distinct, none-yet, Fair, fair-one, roomy-new}
+use Rattle.reasons.proofs.Names.{inside-iff, named-grow, named-last, named-cases}
+use Rattle.reasons.proofs.Short.{fair-one, roomy-new}
 use Rattle.reasons.proofs.Written.{Written, circle, split, written-accepted}
 use Rattle.reasons.proofs.Telling.{numbers-chained, along-says, tell-says}
 use Rattle.reasons.proofs.Choosing.{Found, choose-found, open-iff, read-from}
@@ -53,7 +54,7 @@ module _ (f : Frame) (g : Good f) (K : Table) (jK : Joins f K) where
   abbrev None : List Claim → Type 0
   None E = (xs : List ℕ) → Valid f K xs → Keeps (inside E) xs → ⊥
 
-  branch-closing : (E : List Claim) → Joins f (inside E) → Closing f K (inside E) (fallen f K E) (heldIn f K E)
+  pub branch-closing : (E : List Claim) → Joins f (inside E) → Closing f K (inside E) (fallen f K E) (heldIn f K E)
   unfolding fallen heldIn contradicted? held?
   branch-closing E j = closing-computed f K (inside E) g (joins-within f g K jK) (joins-within f g (inside E) j)
 
@@ -89,7 +90,7 @@ module _ (f : Frame) (g : Good f) (small : f .records ≤ RECORDS) (K : Table) (
   abbrev Circling : List Claim → ℕ → Type 0
   Circling E k = So (any (f .records) (λ x. chains? f K (inside E) (suc k) x x)) × ((j : ℕ) → j < k → So (any (f .records) (λ x. chains? f K (inside E) (suc j) x x)) → ⊥)
 
-  round-circle : (E : List Claim) → So (fallen f K E) → Circling E (circleRound f K (inside E))
+  pub round-circle : (E : List Claim) → So (fallen f K E) → Circling E (circleRound f K (inside E))
   unfolding circleRound fallen
   round-circle E c = go (lowest (λ k. any (f .records) (λ x. chains? f K (inside E) (suc k) x x)) (suc (f .records * f .records)) 0)
       (lowest-iff _ At (suc (f .records * f .records)) (λ k h. (λ s. (h, s), λ r. r .1)) (λ k r. r .0) (suc (f .records * f .records)) 0 (omega arith) (λ k r. omega arith))
