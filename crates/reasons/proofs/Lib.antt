@@ -8,6 +8,7 @@ pub mod Ways
 pub mod Telling
 pub mod Joining
 pub mod Along
+pub mod Resting
 pub mod Choosing
 pub mod Writing
 pub mod Leaves

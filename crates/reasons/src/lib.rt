@@ -2,3 +2,4 @@
 mod choice;
 mod naming;
 mod paths;
+mod story;
