@@ -17,7 +17,7 @@ use Rattle.reasons.specs.inner.Laid.{Done, ToldBy}
 use Rattle.reasons.specs.declared.naming.Told.{Told}
 use Rattle.reasons.specs.declared.naming.Told.the-variants.{On, Over}
 use Rattle.reasons.proofs.Laying.{left}
-use Rattle.reasons.proofs.Joining.{told-none, told-on, told-over, done-join, over-first, over-then}
+use Rattle.reasons.proofs.Joining.{told-none, done-join, over-first, over-then}
 
 module _ (limit : ℕ) (from to out : List ℕ) (n at : ℕ) where
   pub told-join : (es fs : List Entry) (from₁ to₁ out₁ : List ℕ) (m p : ℕ) → Done limit from to out n at es from₁ to₁ out₁ m p → (from₂ to₂ out₂ : List ℕ) (r : Told)
@@ -51,8 +51,8 @@ module _ (limit : ℕ) (from to out : List ℕ) (n at : ℕ) where
       unfolding along
       split h = ap (λ zs. w .told ++ along tell (branchOf from₁ to₁ m) x zs b) (sym (left steps len fits i h)) ∙ w .rest
 
-      pub along-on : i < len → (r : Told) (k q : ℕ) → ToldBy limit from₁ to₁ out₁ m p (one (getD steps i 0)) from₂ to₂ out₂ r → r ≡ On k q → Along (i + 1) (getD steps i 0) from₂ to₂ out₂ k q
-      along-on h r k q d o = let e = told-on limit from₁ to₁ out₁ m p (one (getD steps i 0)) from₂ to₂ out₂ r k q d o in record {
+      pub along-on : i < len → (k q : ℕ) → Done limit from₁ to₁ out₁ m p (one (getD steps i 0)) from₂ to₂ out₂ k q → Along (i + 1) (getD steps i 0) from₂ to₂ out₂ k q
+      along-on h k q e = record {
         told = w .told ++ one (getD steps i 0);
         done = done-join limit from to out n at (w .told) (one (getD steps i 0)) from₁ to₁ out₁ m p (w .done) from₂ to₂ out₂ k q e;
         rest =
@@ -61,9 +61,8 @@ module _ (limit : ℕ) (from to out : List ℕ) (n at : ℕ) where
             ∙ split h;
       }
 
-      pub along-over : i < len → (r : Told) → ToldBy limit from₁ to₁ out₁ m p (one (getD steps i 0)) from₂ to₂ out₂ r → r ≡ Over → ToldBy limit from to out n at whole from₂ to₂ out₂ Over
-      along-over h r d o =
-          let e = told-over limit from₁ to₁ out₁ m p (one (getD steps i 0)) from₂ to₂ out₂ r d o in
+      pub along-over : i < len → ToldBy limit from₁ to₁ out₁ m p (one (getD steps i 0)) from₂ to₂ out₂ Over → ToldBy limit from to out n at whole from₂ to₂ out₂ Over
+      along-over h e =
           subst (λ (es : List Entry). ToldBy limit from to out n at es from₂ to₂ out₂ Over) (split h)
           (told-join (w .told) (one (getD steps i 0) ++ more) from₁ to₁ out₁ m p (w .done) from₂ to₂ out₂ Over (over-first limit from₁ to₁ out₁ m p (one (getD steps i 0)) more e))
         where
