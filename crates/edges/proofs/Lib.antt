@@ -5,6 +5,7 @@ pub mod DrawnEdges
 pub mod RoundStep
 pub mod LastRound
 pub mod ForcedPairs
+pub mod RoundBefore
 pub mod Unique
 pub mod Takes
 pub mod Settling

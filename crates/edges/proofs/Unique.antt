@@ -4,13 +4,19 @@
 use denote.Ref.{now}
 use Rattle.laws.specs.Settles.{Settles}
 use Rattle.edges.proofs.ForcedPairs.{rounded-one, forces-one}
+use Rattle.edges.proofs.RoundBefore.{prior-one}
 use Rattle.edges.proofs.force.last_round.Reads as last-round
 use Rattle.edges.proofs.force.last_round.Kinds as last-round-kinds
+use Rattle.edges.proofs.force.round_before.Reads as round-before
+use Rattle.edges.proofs.force.round_before.Kinds as round-before-kinds
 use Rattle.edges.proofs.force.forced.Reads as forced
 use Rattle.edges.proofs.force.forced.Kinds as forced-kinds
 
 pub last-round-settles : Settles 1 last-round-kinds.ps last-round-kinds.r last-round.Post
 last-round-settles κs a x y s t p q = rounded-one (a .0) (a .1 .0) (now (a .1 .1 .0)) x y p q
+
+pub round-before-settles : Settles 1 round-before-kinds.ps round-before-kinds.r round-before.Post
+round-before-settles κs a x y s t p q = prior-one (a .0) (a .1 .0) (now (a .1 .1 .0)) (a .1 .1 .1 .0) (a .1 .1 .1 .1 .0) (a .1 .1 .1 .1 .1 .0) x y p q
 
 pub forced-settles : Settles 1 forced-kinds.ps forced-kinds.r forced.Post
 forced-settles κs a x y s t p q = forces-one (a .0) (a .1 .0) (now (a .1 .1 .0)) x y p q

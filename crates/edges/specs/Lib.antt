@@ -2,4 +2,5 @@
 pub mod Supposed
 pub mod LastRound
 pub mod ForcedPairs
+pub mod RoundBefore
 pub mod inner

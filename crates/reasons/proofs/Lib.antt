@@ -8,9 +8,10 @@ pub mod Ways
 pub mod Telling
 pub mod Joining
 pub mod Along
+pub mod Resting
 pub mod Choosing
 pub mod Writing
 pub mod Closed
 pub mod Ranks
 pub mod Noting
-pub mod Leaf
+pub mod Leaves

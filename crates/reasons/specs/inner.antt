@@ -3,6 +3,7 @@ pub mod Choice
 pub mod Fair
 pub mod Laid
 pub mod PutKept
+pub mod Rests
 pub mod Telling
 pub mod Ways
 pub mod Writing
