@@ -6,6 +6,7 @@
 --   reads-on, reads-off₁, reads-off₂ == whether a load is the one looked for
 --   lay-write, lay-skip         == one number more, where there is a place for it, and where there is none
 --   put-at                      == what was laid, where the answer is known
+--   branch-set                  == a branch with one entry more
 --   entry-full, entry-laid      == an entry's head, and what it rests on
 --   name-full, name-over, name-done == an entry that is named
 use mathlib.Core.Path.{_≡_, refl, sym, ap, ap₂, _∙_, subst}
@@ -125,6 +126,14 @@ module _ (before : List ℕ) (at : ℕ) (words out : List ℕ) (i : ℕ) (h : i 
 pub put-at : (limit : ℕ) (out : List ℕ) (at : ℕ) (ws out′ : List ℕ) (r q : Put) → PutAt limit out at ws out′ r → r ≡ q → PutAt limit out at ws out′ q
 put-at limit out at ws out′ r q h e = subst (PutAt limit out at ws out′) e h
 
+-- one entry more, as it is kept in the arrays
+pub branch-set : (from to : List ℕ) (n x y : ℕ) → n < length from → n < length to → branchOf (set from n x) (set to n y) (n + 1) ≡ named (branchOf from to n) x y
+branch-set from to n x y l k =
+    ap (branchOf (set from n x) (set to n y)) (add-one n)
+    ∙ branch-more (set from n x) (set to n y) n
+    ∙ ap (λ E. named E (getD (set from n x) n 0) (getD (set to n y) n 0)) (same-branch (set from n x) (set to n y) from to n (set-same from n x) (set-same to n y))
+    ∙ ap₂ (named (branchOf from to n)) (getD-set-same from n x 0 l) (getD-set-same to n y 0 k)
+
 -- the numbers of one entry
 module _ (rule x y k : ℕ) (rests : List ℕ) (fits : k ≤ length rests) where
   abbrev pub one : Entry
@@ -167,10 +176,6 @@ module _ (rule x y k : ℕ) (rests : List ℕ) (fits : k ≤ length rests) where
       placed = a;
       small = omega arith;
       fits = b;
-      branch =
-          ap (branchOf (set from n x) (set to n y)) (add-one n)
-          ∙ branch-more (set from n x) (set to n y) n
-          ∙ ap (λ E. named E (getD (set from n x) n 0) (getD (set to n y) n 0)) (same-branch (set from n x) (set to n y) from to n (set-same from n x) (set-same to n y))
-          ∙ ap₂ (named (branchOf from to n)) (getD-set-same from n x 0 (omega (arith, lf, h))) (getD-set-same to n y 0 (omega (arith, lt, h)));
+      branch = branch-set from to n x y (omega (arith, lf, h)) (omega (arith, lt, h));
       laid = s;
     }

@@ -15,3 +15,6 @@ pub mod Closed
 pub mod Ranks
 pub mod Noting
 pub mod Leaves
+pub mod Lists
+pub mod Answers
+pub mod Unique

@@ -13,7 +13,7 @@ ghost use Rattle.rules.specs.RuleTests.{writer?};
 ghost use Rattle.pairs.specs.Kept.{modelled, keptOf};
 ghost use Rattle.papers.specs.Paper.{Claim, named};
 ghost use Rattle.reasons.specs.inner.Writing.{fallen, choose};
-ghost use Rattle.reasons.specs.inner.Choice.{BOTH, rankOf, ReadRow, SupposedIn, Known, Higher, Best, ChosenPair};
+ghost use Rattle.reasons.specs.inner.Choice.{BOTH, rankOf, ReadRow, SupposedIn, Known, Higher, Best, ChosenPair, NextIn};
 use edges::force::forced;
 use pairs::op_at;
 use pairs::source_of;
@@ -28,6 +28,12 @@ pub(crate) struct Choice {
     pub(crate) rank: usize,
     pub(crate) x: usize,
     pub(crate) y: usize,
+}
+
+// What comes next in a branch: its circle, or a split on two operations.
+pub(crate) enum Next {
+    Circle,
+    Split(usize, usize),
 }
 
 // Notes who is read from, as a set.
@@ -150,7 +156,7 @@ fn choose_from(
 }
 
 // The pair to split on: the first open one of which both sides fall, or else the first of which one does, or else the first.
-pub(crate) fn choose(t: Trace, model: u8, supposed: &[u64], read: &[u64], held: &[u64]) -> Choice
+fn choose(t: Trace, model: u8, supposed: &[u64], read: &[u64], held: &[u64]) -> Choice
     requires { ⌜ So (wellFormed t) × So (modelled model) ⌝ }
     ensures { λ r. ⌜ ((E : List Claim) → Known t model E (now (supposed .entry)) (now (read .entry)) (now (held .entry)) → ChosenPair (choose (frameOf t) (keptOf model t) E) r) ⌝ }
 {
@@ -166,4 +172,18 @@ pub(crate) fn choose(t: Trace, model: u8, supposed: &[u64], read: &[u64], held: 
         x += 1;
     }
     best
+}
+
+// What comes next in the branch whose pairs the rows have.
+pub(crate) fn next_of(t: Trace, model: u8, read: &[u64], supposed: &[u64]) -> Next
+    requires { ⌜ So (wellFormed t) × So (modelled model) × (length (now supposed) ≡ CELLS) × ReadRow (frameOf t) (now read) ⌝ }
+    ensures { λ r. ⌜ ((E : List Claim) → SupposedIn t (now (supposed .entry)) E → NextIn (frameOf t) (keptOf model t) E r) ⌝ }
+{
+    let closed = forced(t, model, supposed);
+    if closed.contradicted {
+        return Next::Circle;
+    }
+    let held = closed.held;
+    let pair = choose(t, model, supposed, read, &held);
+    Next::Split(pair.x, pair.y)
 }
