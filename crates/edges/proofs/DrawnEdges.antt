@@ -2,8 +2,6 @@
 --
 --   fenced-none, fenced-apart, fenced-same    == none next to each other; one record further on, of another thread and of the same
 --   kept-none, kept-apart, kept-at            == rule 1 from a record: to none up to itself, to none of another thread, and as a loop reads it off two records
---   supposed-none, supposed-at                == rule 8 from a record of which nothing is supposed, and as a loop reads it off two records
---   paired-both                               == rules 1 and 8 together
 --   writer-at, earlier-at, early-at, reads-at == the tests of rules 2 to 5, likewise
 --   address-at                                == its address
 --   stored-at, stored                         == a record that is noted by its address, and all of them
@@ -41,12 +39,11 @@ use Rattle.rows.specs.Within.{Within}
 use Rattle.rows.specs.Next.{NextInRow}
 use Rattle.rows.proofs.Whole.{empty-bit}
 use Rattle.pairs.specs.Kept.{keptPair, fenced, keptOf}
-use Rattle.edges.specs.Supposed.{supposedOf}
 use Rattle.rules.specs.RuleTests.{writer?}
 use Rattle.edges.specs.inner.PairSets.{Only, Union}
 use Rattle.rows.specs.inner.AddedPairs.{Added}
 use Rattle.pairs.specs.SourceOf.{sourceOf}
-use Rattle.edges.specs.inner.DrawnEdges.{paired, Stored, Valued, readsFirst, ValuedFor, Loaded, second, third, fourth, fifth, Settled, sixth, seventh, SettledBy}
+use Rattle.edges.specs.inner.DrawnEdges.{Stored, Valued, readsFirst, ValuedFor, Loaded, second, third, fourth, fifth, Settled, sixth, seventh, SettledBy}
 use Rattle.rules.proofs.RuleTests.{writer-iff}
 use Rattle.pairs.proofs.KeptPairs.{earlier-iff, fenced-iff, kept-of-iff, kept-parts}
 use Rattle.edges.proofs.PairSets.{adds-none, adds-put, adds-only, adds-as, adds-or, union-none, union-more, union-skip}
@@ -95,32 +92,6 @@ module _ (t : Trace) (x : ℕ) where
     -- what is known of the two records comes from calls: their results stand for the tests
     pub kept-at : (y : ℕ) → x < y → y < t .len → (kept passed : Bool) → passed ≡ fenced t x y → kept ≡ keptPair m (at t x) (at t y) true passed → kept ≡ keptOf m t x y
     kept-at y l h kept passed p k = rw (k, p, kept-parts t x y m, so-lt {m = x} {n = y} .1 l, so-lt {m = y} {n = t .len} .1 h) refl
-
-  module _ (rows : List ℕ) where
-    pub supposed-none : (n : ℕ) → Within rows x (emptyOf WORDS) 0 → (i j : ℕ) → Union n (λ y. Only (supposedOf t rows x y) x y) i j → ⊥
-    unfolding Union supposedOf
-    supposed-none n w i j u =
-        let b = and-iff (same-iff {a = frameOf t .operation x && frameOf t .operation (u .0)}) (same-iff {a = bit rows x (u .0)}) .0 (u .2 .0) .1 in
-        false≢true (sym (empty-bit WORDS 0 (u .0)) ∙ w (u .0) b)
-
-    pub supposed-at : (y : ℕ) → x < t .len → y < t .len → (fence₁ fence₂ pair : Bool) → fence₁ ≡ fence (at t x) → fence₂ ≡ fence (at t y) → pair ≡ bit rows x y
-        → (not fence₁ && not fence₂ && pair) ≡ supposedOf t rows x y
-    unfolding supposedOf frameOf
-    supposed-at y hx hy fence₁ fence₂ pair q₁ q₂ r = rw (q₁, q₂, r, so-lt {m = x} {n = t .len} .1 hx, so-lt {m = y} {n = t .len} .1 hy) refl
-
-    pub paired-both : (m n i j : ℕ)
-        → (Union n (λ y. Only (keptOf m t x y) x y) i j ⊎ Union n (λ y. Only (supposedOf t rows x y) x y) i j) ↔ Union n (λ y. Only (paired m t rows x y) x y) i j
-    unfolding Union
-    paired-both m n i j = (
-      λ s. elim s [
-        | inl u ↦ (u .0, u .1, (either (u .0) .1 (inl (u .2 .0)), u .2 .1, u .2 .2))
-        | inr u ↦ (u .0, u .1, (either (u .0) .1 (inr (u .2 .0)), u .2 .1, u .2 .2))
-      ],
-      λ u. elim (either (u .0) .0 (u .2 .0)) [ inl k ↦ inl (u .0, u .1, (k, u .2 .1, u .2 .2)) | inr p ↦ inr (u .0, u .1, (p, u .2 .1, u .2 .2)) ],
-    )
-      where
-        either : (y : ℕ) → So (paired m t rows x y) ↔ (So (keptOf m t x y) ⊎ So (supposedOf t rows x y))
-        either y = or-iff (same-iff {a = keptOf m t x y}) (same-iff {a = supposedOf t rows x y})
 
 module _ (t : Trace) (S L : ℕ) where
   pub writer-at : S < t .len → (w : Bool) (a b : ℕ) → w ≡ writes (at t S) → a ≡ address (at t S) → b ≡ address (at t L)

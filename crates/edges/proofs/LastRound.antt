@@ -10,7 +10,7 @@
 --   ended-circle, ended-last         == a round with a circle; a round after which nothing is added
 --   fewer                            == what falls from turn to turn: the pairs that are no edges
 --   turns                            == a turn adds an edge, so there are no more turns than edges
-use mathlib.Core.Path.{_≡_, refl, sym, _∙_, ap}
+use mathlib.Core.Path.{_≡_, refl, sym, _∙_, ap, subst}
 use mathlib.Core.Logic.{_↔_, inl, inr}
 use mathlib.Core.Bool.{Bool, true, false, So, false≢true}
 use mathlib.Core.List.{List}
@@ -36,8 +36,10 @@ use Rattle.rows.specs.Rows.{bit, Edges}
 use Rattle.rows.specs.Empty.{emptyOf}
 use Rattle.rows.specs.Copy.{copyOf}
 use Rattle.rows.specs.Chained.{Chained}
+use Rattle.rows.specs.Lent.{lentOf}
 use Rattle.rows.proofs.Rows.{bit-bounds}
 use Rattle.rows.proofs.Whole.{empty-bit, empty-long, empty-words, copy-same, rows-one}
+use Rattle.rows.proofs.Lent.{lent-within}
 use Rattle.pairs.specs.Kept.{keptOf}
 use Rattle.edges.specs.Supposed.{supposedOf}
 use Rattle.rules.specs.Rules.{Chains, Edge, Last, InRecords}
@@ -49,6 +51,7 @@ use Rattle.edges.specs.inner.RoundStep.{Facts, FirstRound, Closed, Advan
 use Rattle.rules.proofs.Ends.{joins-within}
 use Rattle.pairs.proofs.KeptPairs.{kept-joins}
 use Rattle.edges.proofs.Supposed.{supposed-joins}
+use Rattle.edges.proofs.LentPairs.{supposed-lent}
 use Rattle.rules.proofs.Closing.{last-next}
 use Rattle.edges.proofs.RoundStep.{first-edges, settled-gives, next-edges, writers-noted}
 
@@ -68,14 +71,14 @@ kept-within m t wf = joins-within (frameOf t) (good t wf) (keptOf m t) (kept-joi
 pub supposed-within : (t : Trace) (rows : List ℕ) → So (wellFormed t) → InRecords (frameOf t) (supposedOf t rows)
 supposed-within t rows wf = joins-within (frameOf t) (good t wf) (supposedOf t rows) (supposed-joins t rows)
 
-pub begun : (m : ℕ) (t : Trace) (p s w₀ w e₀ e₁ e : List ℕ) (a b : ℕ) → So (wellFormed t) → w₀ ≡ emptyOf a → a ≡ CELLS → e₀ ≡ emptyOf b → b ≡ CELLS
-    → Added e₀ (Cover (t .len) (λ x y. Only (paired m t p x y) x y)) e₁ → Loaded (frameOf t) (t .len) (t .len) s w₀ w e₁ e
-    → FirstRound (frameOf t) (keptOf m t) (supposedOf t p) s w e
+pub begun : (t : Trace) (kept p s w₀ w e₀ e₁ e : List ℕ) (a b : ℕ) → So (wellFormed t) → w₀ ≡ emptyOf a → a ≡ CELLS → e₀ ≡ emptyOf b → b ≡ CELLS
+    → Added e₀ (Cover (t .len) (λ x y. Only (paired t kept p x y) x y)) e₁ → Loaded (frameOf t) (t .len) (t .len) s w₀ w e₁ e
+    → FirstRound (frameOf t) (lentOf t kept) (supposedOf t p) s w e
 unfolding frameOf
-begun m t p s w₀ w e₀ e₁ e a b wf cw lw ce l ps vs =
+begun t kept p s w₀ w e₀ e₁ e a b wf cw lw ce l ps vs =
     let g = good t wf in
     let small = form-iff t .0 wf .fits in
-    record {
+    subst (λ (P : Table). FirstRound (frameOf t) (lentOf t kept) P s w e) (supposed-lent t p) (record {
       facts = record {
         sources-long = vs .long;
         writers-long = vs .writers .long ∙ empty-full w₀ a cw lw .long;
@@ -84,14 +87,14 @@ begun m t p s w₀ w e₀ e₁ e a b wf cw lw ce l ps vs =
       };
       full = adds-full (adds-full (empty-full e₀ b ce l) ps) (vs .edges);
       has = λ x y.
-          let i = first-edges (frameOf t) g small (keptOf m t) (supposedOf t p) (kept-within m t wf) (supposed-within t p wf) x y in (
+          let i = first-edges (frameOf t) g small (lentOf t kept) (lentOf t p) (lent-within t kept wf) (lent-within t p wf) x y in (
             λ c. i .0 (elim (vs .edges .pairs x y .0 c) [
               | inl c₁ ↦ elim (ps .pairs x y .0 c₁) [ inl c₀ ↦ absurd (empty-none e₀ b ce x y c₀) | inr u ↦ inl u ]
               | inr u ↦ inr u
             ]),
             λ d. vs .edges .pairs x y .1 (elim (i .1 d) [ inl u ↦ inl (ps .pairs x y .1 (inr u)) | inr u ↦ inr u ]),
           );
-    }
+    })
 
 pub closed : (e h₀ h₁ h : List ℕ) (c : Bool) → length e ≡ CELLS → length h₀ ≡ CELLS → h₁ ≡ copyOf e h₀ → Chained h₁ h → c ≡ any RECORDS (λ x. bit h x x) → Closed e h c
 closed e h₀ h₁ h c le lh p chained q =

@@ -2,6 +2,8 @@
 pub mod Supposed
 pub mod PairSets
 pub mod DrawnEdges
+pub mod LentPairs
+pub mod KeptRows
 pub mod RoundStep
 pub mod LastRound
 pub mod ForcedPairs

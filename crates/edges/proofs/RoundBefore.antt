@@ -6,7 +6,7 @@
 --   prior-here, prior-still         == the round that was looked for: this one; round k - 1, where nothing is added any more
 --   prior-some, prior-none          == the answer, where there is something to answer and where not
 --   prior-one                       == no second answer fits
-use mathlib.Core.Path.{_≡_, refl, sym, ap₂, _∙_}
+use mathlib.Core.Path.{_≡_, refl, sym, ap₂, _∙_, subst}
 use mathlib.Core.Logic.{_↔_, _⊎_, inl, inr}
 use mathlib.Core.Bool.{Bool, false, So, false≢true}
 use mathlib.Core.List.{List}
@@ -24,16 +24,18 @@ use Rattle.trace.specs.declared.Trace.{Trace}
 use Rattle.rows.specs.Bounds.{CELLS}
 use Rattle.rows.specs.Rows.{bit}
 use Rattle.rows.specs.Empty.{emptyOf}
+use Rattle.rows.specs.Lent.{lentOf}
 use Rattle.pairs.specs.Kept.{keptOf}
 use Rattle.edges.specs.Supposed.{supposedOf}
 use Rattle.edges.specs.LastRound.{Full}
+use Rattle.edges.specs.KeptRows.{KeptRows}
 use Rattle.edges.specs.ForcedPairs.{answered}
 use Rattle.edges.specs.RoundBefore.{PriorTo, PriorRound}
 use Rattle.edges.specs.inner.RoundStep.{Facts, FirstRound, Closed, Advanced, stays, grows}
 use Rattle.edges.specs.declared.force.Prior.{Prior}
 use Rattle.edges.proofs.RoundStep.{settled-gives, next-edges}
 use Rattle.edges.proofs.LastRound.{closed-chains, adds-full}
-use Rattle.edges.proofs.ForcedPairs.{same-rows}
+use Rattle.edges.proofs.ForcedPairs.{kept-same, same-rows}
 
 module _ (f : Frame) (K P : Table) where
   pub record Nears (k x y j : ℕ) (e : List ℕ) : Type 0 where
@@ -105,8 +107,12 @@ abbrev prior-of : ℕ → List ℕ × List ℕ → Prior
 prior-of k p = record { number = k; edges = p .0; chains = p .1 }
 
 module _ (t : Trace) (m : ℕ) (rows : List ℕ) (k x y : ℕ) where
-  pub prior-some : (r : Prior) → So (answered m t) → PriorTo (frameOf t) (keptOf m t) (supposedOf t rows) k x y (r .number) (r .edges) (r .chains) → PriorRound t m rows k x y r
-  prior-some r s e = record { prior = λ _. e; none = λ n. absurd (false≢true (sym n ∙ s)) }
+  pub prior-some : (r : Prior) → So (answered m t) → (kept : List ℕ) → KeptRows t m kept
+      → PriorTo (frameOf t) (lentOf t kept) (supposedOf t rows) k x y (r .number) (r .edges) (r .chains) → PriorRound t m rows k x y r
+  prior-some r s kept is e = record {
+    prior = λ _. subst (λ (K : Table). PriorTo (frameOf t) K (supposedOf t rows) k x y (r .number) (r .edges) (r .chains)) (kept-same t m kept is s) e;
+    none = λ n. absurd (false≢true (sym n ∙ s));
+  }
 
   pub prior-none : (r : Prior) → answered m t ≡ false → r .number ≡ 0 → r .edges ≡ emptyOf CELLS → r .chains ≡ emptyOf CELLS → PriorRound t m rows k x y r
   prior-none r n j e h = record { prior = λ s. absurd (false≢true (sym n ∙ s)); none = λ _. (j, e, h) }

@@ -5,26 +5,28 @@
 --   out-long, out-bits  == as many words as before; the words, bit by bit
 --   dropped-word, dropped-past == the steps of a loop: a word gives up its bits, or it lies past the end
 --   drop-long, row-dropped == as many words as before; the relation without those pairs
+--   drop-words          == what is left of words are words
 use mathlib.Core.Path.{_≡_, refl, sym, ap, _∙_}
 use mathlib.Core.Logic.{_↔_, inl, inr}
-use mathlib.Core.Bool.{Bool, true, false, So, not, _&&_}
+use mathlib.Core.Bool.{Bool, true, false, So, not, _&&_, cond}
 use mathlib.Core.List.{List}
 use Prim.Native.Nat.{ℕ, zero, suc, _+_, _*_, _/_, _%_, _^_, _<_, _≤_}
 use native.Mathlib.Numerals.{add-one}
 use native.Mathlib.Omega.{arith}
-use lib.Bits.{bitOr, bitXor, or-shr, or-mod, xor-shr, xor-mod}
-use lib.Dec.{eqb}
+use lib.Bits.{bitOr, bitXor, or-shr, or-mod, xor-shr, xor-mod, or-lt, xor-lt}
+use lib.Dec.{eqb, ltb}
 use lib.ListN.{length, getD, set, length-set}
 use lib.Seq.{getD-set-same, getD-set-other, set-out}
 use Rattle.laws.specs.Bits.{bitOf}
 use Rattle.laws.proofs.Tests.{off, and-iff, not-iff, same-iff, so-eq, so-lt, eq?}
 use Rattle.trace.specs.Bounds.{RECORDS}
 use Rattle.rows.specs.Bounds.{WIDTH, WORDS}
-use Rattle.rows.specs.Rows.{place, bit, Edges}
+use Rattle.rows.specs.Rows.{place, bit, Edges, Words}
 use Rattle.rows.specs.Within.{wordOf}
 use Rattle.rows.specs.DropRow.{without, givenUp, dropRowOf}
 use Rattle.rows.proofs.Rows.{row-full, bit-at, bit-bounds}
-use Rattle.rows.proofs.Against.{bit-word}
+use Rattle.rows.proofs.Or.{set-words}
+use Rattle.rows.proofs.Against.{bit-word, word-small}
 
 without-low : (x y : ℕ) → x < 2 → y < 2 → eqb (bitXor (bitOr x y) y) 1 ≡ (eqb x 1 && not (eqb y 1))
 without-low zero zero hx hy = refl
@@ -137,3 +139,19 @@ module _ (from : List ℕ) (m : ℕ) (e : List ℕ) (x : ℕ) (hx : x < RECORDS)
         λ s. let r = p .0 s in (r .0, λ g. r .1 (g, omega (arith, row-full, bit-bounds from m y (g .1) .1))),
         λ r. p .1 (r .0, λ g. r .1 (g .0)),
       )
+
+pub drop-words : (from : List ℕ) → Words from → (m : ℕ) (e : List ℕ) → Words e → (x : ℕ) → Words (dropRowOf from m e x)
+unfolding dropRowOf givenUp
+drop-words from small m e words x = go (ltb x RECORDS)
+  where
+    given : (n : ℕ) → Words (givenUp from m e x n)
+    given zero = words
+    given (suc i) =
+        let t : List ℕ = givenUp from m e x i in
+        let q : ℕ = wordOf from m i in
+        let p : ℕ = getD t (x * WORDS + i) 0 in
+        set-words t (given i) (x * WORDS + i) (without p q) (xor-lt WIDTH (bitOr p q) q (or-lt WIDTH p q (given i (x * WORDS + i)) (word-small from small m i)) (word-small from small m i))
+
+    go : (b : Bool) → Words (cond b (givenUp from m e x WORDS) e)
+    go true = given WORDS
+    go false = words

@@ -8,3 +8,4 @@ pub mod Against
 pub mod Nexts
 pub mod Dropping
 pub mod Sets
+pub mod Lent

@@ -9,4 +9,5 @@ pub mod Within
 pub mod Next
 pub mod AddRow
 pub mod DropRow
+pub mod Lent
 pub mod inner

@@ -4,6 +4,7 @@
 --   lowestFrom t k i                      == the lowest of i, i + 1, .., k of them, that passes t; 0 where none does
 --   lowest-here, lowest-next, lowest-none == the first passes; it does not; none is left
 --   rule-from                             == the lowest rule, looked for from 1 on
+--   rule-told                             == of the kept pairs it asks for the one pair only
 use mathlib.Core.Path.{_≡_, refl, _∙_}
 use mathlib.Core.Bool.{Bool, true, false, So, not, cond, _&&_, _||_}
 use mathlib.Core.Option.{Option, none, some}
@@ -50,3 +51,7 @@ module _ (t : ℕ → Bool) where
 pub rule-from : (f : Frame) (K P C : Table) (x y : ℕ) → rule? f K P C x y ≡ lowestFrom (gives? f K P C x y) 8 1
 unfolding rule? or-zero lowestFrom lowest gives? rules
 rule-from f K P C x y = refl
+
+pub rule-told : (f : Frame) (K P C : Table) (x y : ℕ) (b : Bool) → b ≡ K x y → rule? f (λ i j. b) P C x y ≡ rule? f K P C x y
+unfolding rule? lowest gives? rules
+rule-told f K P C x y b e = rw e refl

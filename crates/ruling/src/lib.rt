@@ -3,6 +3,7 @@ ghost use mathlib.Core.Path.{_≡_};
 ghost use Rattle.laws.specs.Tests.{any};
 ghost use Rattle.trace.specs.Meaning.{frameOf};
 ghost use Rattle.rows.specs.Rows.{bit};
+ghost use Rattle.rows.specs.Lent.{lentOf};
 ghost use Rattle.pairs.specs.Kept.{keptOf};
 ghost use Rattle.rules.specs.Rules.{nothing};
 ghost use Rattle.rules.specs.RuleTests.{writer?, source?, first?, gives?};
@@ -82,11 +83,23 @@ fn after_load(t: Trace, chains: &[u64], x: usize, y: usize) -> bool
     false
 }
 
-// The lowest rule that gives the edge x, y from the chains of the round before; 0 where none does.
-pub fn lowest_rule(t: Trace, model: u8, chains: &[u64], x: usize, y: usize) -> u8
-    ensures { λ r. ⌜ r ≡ rule? (frameOf t) (keptOf model t) nothing (bit (now (chains .entry))) x y ⌝ }
+// Whether rows that are lent to a trace have the pair x, y, and it joins operations.
+fn lent(t: Trace, rows: &[u64], x: usize, y: usize) -> bool
+    ensures { λ r. ⌜ r ≡ lentOf t (now (rows .entry)) x y ⌝ }
 {
-    if kept(t, model, x, y) {
+    let n = t.len;
+    let a = op_at(t, x);
+    let b = op_at(t, y);
+    let from = (x < n) & !a.fence();
+    let to = (y < n) & !b.fence();
+    from & to & rows::test(rows, x, y)
+}
+
+// The lowest rule that gives the edge x, y from the chains of the round before, told whether rule 1 does; 0 where none does.
+fn lowest_told(t: Trace, told: bool, chains: &[u64], x: usize, y: usize) -> u8
+    ensures { λ r. ⌜ r ≡ rule? (frameOf t) (λ i j. told) nothing (bit (now (chains .entry))) x y ⌝ }
+{
+    if told {
         return 1;
     }
     if source(t, x, y) & !earlier(t, x, y) {
@@ -108,6 +121,22 @@ pub fn lowest_rule(t: Trace, model: u8, chains: &[u64], x: usize, y: usize) -> u
         return 7;
     }
     0
+}
+
+// The lowest rule that gives the edge x, y from the chains of the round before, where the kept pairs are lent; 0 where none does.
+pub fn lowest_rule_by(t: Trace, kept: &[u64], chains: &[u64], x: usize, y: usize) -> u8
+    ensures { λ r. ⌜ r ≡ rule? (frameOf t) (lentOf t (now (kept .entry))) nothing (bit (now (chains .entry))) x y ⌝ }
+{
+    let told = lent(t, kept, x, y);
+    lowest_told(t, told, chains, x, y)
+}
+
+// The lowest rule that gives the edge x, y from the chains of the round before; 0 where none does.
+pub fn lowest_rule(t: Trace, model: u8, chains: &[u64], x: usize, y: usize) -> u8
+    ensures { λ r. ⌜ r ≡ rule? (frameOf t) (keptOf model t) nothing (bit (now (chains .entry))) x y ⌝ }
+{
+    let told = kept(t, model, x, y);
+    lowest_told(t, told, chains, x, y)
 }
 
 // Whether a rule gives the edge x, y from the chains of the round before; 8 gives nothing, as no pairs are supposed.

@@ -21,15 +21,13 @@ use Rattle.rows.specs.Bounds.{CELLS}
 use Rattle.rows.specs.Rows.{bit}
 use Rattle.rows.specs.Empty.{emptyOf}
 use Rattle.rows.proofs.Whole.{empty-bit}
-use Rattle.rules.specs.Rules.{Held, nothing}
+use Rattle.rules.specs.Rules.{Held, Joins, nothing}
 use Rattle.rules.specs.RuleTests.{writer?}
-use Rattle.pairs.specs.Kept.{modelled, keptOf}
 use Rattle.edges.specs.Supposed.{supposedOf}
 use Rattle.rules.specs.Missing.{Sourced}
-use Rattle.edges.specs.ForcedPairs.{answered, Forces}
+use Rattle.edges.specs.ForcedPairs.{ForcesBy}
 use Rattle.edges.specs.declared.Forced.{Forced}
 use Rattle.rules.proofs.RuleTests.{writer-iff}
-use Rattle.pairs.proofs.KeptPairs.{kept-joins}
 use Rattle.edges.proofs.Supposed.{supposed-iff}
 use Rattle.rules.proofs.Rounds.{more-pairs}
 use Rattle.rules.proofs.Ends.{held-joins}
@@ -38,15 +36,9 @@ use Rattle.rules.proofs.Ready.{held-guide}
 use Rattle.search.specs.inner.SearchTables.{tables, Led, Laid}
 use Rattle.search.specs.inner.TablesLaid.{Filled, heldWriters, Counted, Sources, Guided}
 
-module _ (t : Trace) (m : ℕ) (s : So (answered m t)) (r : Forced) (forces : Forces t m (emptyOf CELLS) r) where
-  well : So (wellFormed t)
-  well = and-iff (same-iff {a = wellFormed t}) (same-iff {a = modelled m}) .0 s .0
-
+module _ (t : Trace) (K : Table) (joins : Joins (frameOf t) K) (well : So (wellFormed t)) (r : Forced) (forces : ForcesBy t K (emptyOf CELLS) r) where
   abbrev f : Frame
   f = frameOf t
-
-  abbrev K : Table
-  K = keptOf m t
 
   -- no pairs are supposed
   abbrev P : Table
@@ -56,19 +48,19 @@ module _ (t : Trace) (m : ℕ) (s : So (answered m t)) (r : Forced) (forces : Fo
   none-supposed x y p = false≢true (sym (empty-bit CELLS x y) ∙ supposed-iff t (emptyOf CELLS) x y .0 p .1)
 
   pub refuted-none : So (r .contradicted) → (xs : List ℕ) → Valid f K xs → ⊥
-  refuted-none c xs v = contradicted-none f (good t well) K P (forces .closing s .contradicted .0 c) xs v (λ x y p. absurd (none-supposed x y p))
+  refuted-none c xs v = contradicted-none f (good t well) K P (forces .closing well .contradicted .0 c) xs v (λ x y p. absurd (none-supposed x y p))
 
   module _ (clear : r .contradicted ≡ false) where
     held-iff : (x y : ℕ) → So (bit (r .held) x y) ↔ Held f K nothing x y
     held-iff x y =
-        let h = forces .closing s .held x y in (
+        let h = forces .closing well .held x y in (
           λ u. more-pairs f K P nothing (λ x y p. absurd (none-supposed x y p)) x y (h .0 u .0),
-          λ u. h .1 (more-pairs f K nothing P (λ x y p. absurd (false≢true p)) x y u, λ c. false≢true (sym clear ∙ forces .closing s .contradicted .1 c)),
+          λ u. h .1 (more-pairs f K nothing P (λ x y p. absurd (false≢true p)) x y u, λ c. false≢true (sym clear ∙ forces .closing well .contradicted .1 c)),
         )
 
     pub held-guided : Guided f K (r .held)
     held-guided =
-        let G = held-guide f (good t well) K (kept-joins m t) in
+        let G = held-guide f (good t well) K joins in
         record {
           guide = record {
             ends = λ x y u. G .ends x y (held-iff x y .0 u);
@@ -76,7 +68,7 @@ module _ (t : Trace) (m : ℕ) (s : So (answered m t)) (r : Forced) (forces : Fo
             sound = λ xs v x y u. G .sound xs v x y (held-iff x y .0 u);
           };
           within = λ x y u.
-              let j = held-joins f (good t well) K nothing (kept-joins m t) (λ x y p. absurd (false≢true p)) x y (held-iff x y .0 u) in
+              let j = held-joins f (good t well) K nothing joins (λ x y p. absurd (false≢true p)) x y (held-iff x y .0 u) in
               (good t well .below x (j .0), good t well .below y (j .1));
         }
 

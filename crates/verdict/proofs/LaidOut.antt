@@ -2,6 +2,7 @@
 --
 --   padded-take             == an array that is 0 past its used places is made of these
 --   told-model, told-form   == a question that is turned back
+--   told-kept               == the verdict by the rows of a model's kept pairs is the verdict under the model
 --   told-says               == a verdict that `Says` allows, laid into the arrays
 --   told-source, told-order, told-circle, told-none == the four outcomes, each from what the parts promise
 --   orderless               == where none was found, there is no valid order
@@ -16,29 +17,33 @@ use lib.ListN.{length, getD, take, drop, replicate, length-replicate, length-dro
 use lib.Seq.{length-take-le, getD-drop, ext-getD}
 use Rattle.laws.specs.Lowest.{Lowest}
 use Rattle.laws.specs.Dict.{Least}
-use Rattle.laws.proofs.Tests.{test, and-iff, same-iff}
+use Rattle.laws.specs.Relation.{Table}
+use Rattle.laws.proofs.Tests.{test}
 use Rattle.trace.specs.Bounds.{RECORDS}
 use Rattle.trace.specs.Meaning.{frameOf}
 use Rattle.trace.specs.WellFormed.{wellFormed}
 use Rattle.rules.specs.Order.{Valid}
 use Rattle.trace.specs.declared.Trace.{Trace}
 use Rattle.trace.proofs.Good.{good}
-use Rattle.pairs.specs.Kept.{modelled, keptOf}
-use Rattle.edges.specs.ForcedPairs.{answered}
+use Rattle.rows.specs.Lent.{lentOf}
+use Rattle.pairs.specs.Kept.{modelled}
+use Rattle.pairs.proofs.ValidOrders.{well-fits}
+use Rattle.edges.specs.KeptRows.{KeptRows}
+use Rattle.edges.proofs.KeptRows.{kept-lent}
 use Rattle.rules.specs.Missing.{Missing, Sourced}
 use Rattle.rules.specs.ShownCircle.{Circled}
-use Rattle.circle.specs.CircleOf.{ruledOf, CircleOf}
+use Rattle.circle.specs.CircleOf.{ruledOf, CircleBy}
 use Rattle.circle.specs.declared.show.Circle as ring
 use Rattle.circle.proofs.ShownIn.{zeros}
 use Rattle.rules.specs.Verdict as said
 use Rattle.pairs.specs.MissingOf.{record?, missingOf}
 use Rattle.pairs.specs.declared.sources.Found.{Found}
-use Rattle.pairs.specs.declared.sources.Found.the-variants.{At}
+use Rattle.pairs.specs.declared.sources.Found.the-variants.{At, Nothing}
 use Rattle.pairs.proofs.MissingOf.{missing-lowest}
 use Rattle.rules.proofs.Says.{order-says}
-use Rattle.search.specs.FirstOrder.{found?, FirstOrder}
+use Rattle.search.specs.FirstOrder.{found?, FirstOrderBy}
 use Rattle.search.specs.declared.Order as first
-use Rattle.verdict.specs.VerdictOf.{padded, bare, laid, Reaches, Orderless, Told}
+use Rattle.verdict.specs.VerdictOf.{padded, bare, laid, Orderless, ToldBy, Told}
 use Rattle.verdict.specs.declared.Outcome.the-variants.{NoSource, Circle, Order, NoneLeft, NoModel, NotWellFormed}
 use Rattle.verdict.specs.declared.Verdict.{Verdict}
 
@@ -63,27 +68,24 @@ module _ (t : Trace) (m : ℕ) where
     fits = omega arith;
   }
 
-  module _ (k : So (modelled m)) where
-    pub told-form : wellFormed t ≡ false → Told t m (bare NotWellFormed)
-    told-form e = record {
-      nine = λ n. absurd (false≢true (sym n ∙ k));
-      ten = λ _ _. refl;
-      says = λ _ w. absurd (false≢true (sym e ∙ w));
-      fits = omega arith;
-    }
+  pub told-kept : So (modelled m) → (kept : List ℕ) → KeptRows t m kept → (r : Verdict) → ToldBy t (lentOf t kept) r → Told t m r
+  told-kept k kept is r d = record {
+    nine = λ n. absurd (false≢true (sym n ∙ k));
+    ten = λ _ n. d .ten n;
+    says = λ _ w. subst (λ (K : Table). (v : said.Verdict) × said.Says (frameOf t) K v × (r ≡ laid v)) (kept-lent t m kept (well-fits t w) is) (d .says w);
+    fits = d .fits;
+  }
 
-    module _ (w : So (wellFormed t)) where
-      pub told-says : (v : said.Verdict) → said.Says (frameOf t) (keptOf m t) v → (r : Verdict) → r ≡ laid v → r .len ≤ RECORDS → Told t m r
-      told-says v s r e h = record {
-        nine = λ n. absurd (false≢true (sym n ∙ k));
-        ten = λ _ n. absurd (false≢true (sym n ∙ w));
-        says = λ _ _. (v, s, e);
-        fits = h;
-      }
+module _ (t : Trace) (K : Table) where
+  pub told-form : wellFormed t ≡ false → ToldBy t K (bare NotWellFormed)
+  told-form e = record { ten = λ _. refl; says = λ w. absurd (false≢true (sym e ∙ w)); fits = omega arith }
 
-      pub told-source : (x : ℕ) → At x ≡ missingOf t → Told t m (bare (NoSource x))
-      told-source x e =
-          told-says (said.noSource x) (subst (λ (a : Found). Lowest (Missing (frameOf t)) (record? a)) (sym e) (missing-lowest t w)) (bare (NoSource x)) refl (omega arith)
+  module _ (w : So (wellFormed t)) where
+    pub told-says : (v : said.Verdict) → said.Says (frameOf t) K v → (r : Verdict) → r ≡ laid v → r .len ≤ RECORDS → ToldBy t K r
+    told-says v s r e h = record { ten = λ n. absurd (false≢true (sym n ∙ w)); says = λ _. (v, s, e); fits = h }
+
+    pub told-source : (x : ℕ) → At x ≡ missingOf t → ToldBy t K (bare (NoSource x))
+    told-source x e = told-says (said.noSource x) (subst (λ (a : Found). Lowest (Missing (frameOf t)) (record? a)) (sym e) (missing-lowest t w)) (bare (NoSource x)) refl (omega arith)
 
 -- with a circle there is one to show
 ruled-some : (n : ℕ) (os rs : List ℕ) → 0 < n → ruledOf n os rs ≡ some (take n os, take n rs)
@@ -104,53 +106,46 @@ made-order : {a b : ℕ} {os ps : List ℕ} → a ≡ b → os ≡ ps
     → _≡_ {A = Verdict} (record { outcome = Order; len = a; operations = os; rules = replicate RECORDS 0 }) (record { outcome = Order; len = b; operations = ps; rules = replicate RECORDS 0 })
 made-order p q = λ i. record { outcome = Order; len = p i; operations = q i; rules = replicate RECORDS 0 }
 
--- what the search answered under a model that exists
-module _ (t : Trace) (m : ℕ) (k : So (modelled m)) (o : first.Order) (q : FirstOrder t m o) where
-  -- there was something to answer where an order was found, or where the trace is well formed
-  found-answered : o .found ≡ true → So (answered m t)
-  found-answered e = elim (test (answered m t)) [ inl s ↦ s | inr n ↦ absurd (false≢true (sym (q .nothing n) ∙ e)) ]
+-- what the search answered
+module _ (t : Trace) (K : Table) (o : first.Order) (q : FirstOrderBy t K o) where
+  -- the trace is well formed where an order was found
+  found-well : o .found ≡ true → So (wellFormed t)
+  found-well e = elim (test (wellFormed t)) [ inl s ↦ s | inr n ↦ absurd (false≢true (sym (q .nothing n) ∙ e)) ]
 
-  asked-of : So (wellFormed t) → So (answered m t)
-  asked-of w = and-iff (same-iff {a = wellFormed t}) (same-iff {a = modelled m}) .1 (w, k)
-
-  sought : So (answered m t) → (b : Bool) → o .found ≡ b → Least (Valid (frameOf t) (keptOf m t)) (found? b (take (o .len) (o .operations)))
-  sought s b e = subst (λ (b : Bool). Least (Valid (frameOf t) (keptOf m t)) (found? b (take (o .len) (o .operations)))) e (q .first s)
+  sought : So (wellFormed t) → (b : Bool) → o .found ≡ b → Least (Valid (frameOf t) K) (found? b (take (o .len) (o .operations)))
+  sought s b e = subst (λ (b : Bool). Least (Valid (frameOf t) K) (found? b (take (o .len) (o .operations)))) e (q .first s)
 
   -- where there is an order, nothing else can be said
-  pub told-order : o .found ≡ true → Told t m (record { outcome = Order; len = o .len; operations = o .operations; rules = replicate RECORDS 0 })
+  pub told-order : o .found ≡ true → ToldBy t K (record { outcome = Order; len = o .len; operations = o .operations; rules = replicate RECORDS 0 })
   told-order e =
       let xs = take (o .len) (o .operations) in
-      let s = found-answered e in
-      let w = and-iff (same-iff {a = wellFormed t}) (same-iff {a = modelled m}) .0 s .0 in
-      told-says t m k w (said.order xs) (order-says (frameOf t) (keptOf m t) (good t w) xs .1 (sought s true e)) _
+      let w = found-well e in
+      told-says t K w (said.order xs) (order-says (frameOf t) K (good t w) xs .1 (sought w true e)) _
       (sym (made-order (length-take-le (o .len) (o .operations) (omega (arith, q .fits, q .long))) (padded-take (o .len) (o .operations) (q .fits) (q .long) (q .rest))))
       (q .fits)
 
-  pub orderless : o .found ≡ false → Orderless t m
-  orderless e w = sought (asked-of w) false e
+  pub orderless : o .found ≡ false → Orderless t K
+  orderless e w = sought w false e
 
-module _ (t : Trace) (m : ℕ) (h : Reaches t m) where
-  -- there is something to answer, and no source is missing
-  asked : So (answered m t)
-  asked = and-iff (same-iff {a = wellFormed t}) (same-iff {a = modelled m}) .1 (h .well, h .model)
-
+module _ (t : Trace) (K : Table) (w : So (wellFormed t)) (lacks : missingOf t ≡ Nothing) where
+  -- no source is missing
   sourced : Sourced (frameOf t)
-  sourced = subst (λ (a : Found). Lowest (Missing (frameOf t)) (record? a)) (h .sourced) (missing-lowest t (h .well))
+  sourced = subst (λ (a : Found). Lowest (Missing (frameOf t)) (record? a)) lacks (missing-lowest t w)
 
-  module _ (c : ring.Circle) (p : CircleOf t m c) where
-    pub told-circle : 0 < c .len → Told t m (record { outcome = Circle; len = c .len; operations = c .operations; rules = c .rules })
+  module _ (c : ring.Circle) (p : CircleBy t K c) where
+    pub told-circle : 0 < c .len → ToldBy t K (record { outcome = Circle; len = c .len; operations = c .operations; rules = c .rules })
     told-circle l =
         let n = c .len in
         let full : n ≤ length (c .operations) = omega (arith, p .fits, p .long .0) in
-        let s = subst (Circled (frameOf t) (keptOf m t)) (ruled-some n (c .operations) (c .rules) l) (p .circle asked) in
-        told-says t m (h .model) (h .well) (said.circle (take n (c .operations)) (take n (c .rules))) (sourced, s) _
+        let s = subst (Circled (frameOf t) K) (ruled-some n (c .operations) (c .rules) l) (p .circle w) in
+        told-says t K w (said.circle (take n (c .operations)) (take n (c .rules))) (sourced, s) _
         (sym (made (length-take-le n (c .operations) full)
         (padded-take n (c .operations) (p .fits) (p .long .0) (λ i g. p .rest i g .0))
         (padded-take n (c .rules) (p .fits) (p .long .1) (λ i g. p .rest i g .1))))
         (p .fits)
 
     -- no order and no circle
-    pub told-none : Orderless t m → c .len ≡ 0 → Told t m (bare NoneLeft)
+    pub told-none : Orderless t K → c .len ≡ 0 → ToldBy t K (bare NoneLeft)
     told-none n z =
-        let clear = subst (Circled (frameOf t) (keptOf m t)) (ruled-none (c .len) (c .operations) (c .rules) z) (p .circle asked) in
-        told-says t m (h .model) (h .well) said.noneLeft (sourced, clear, n (h .well)) _ refl (omega arith)
+        let clear = subst (Circled (frameOf t) K) (ruled-none (c .len) (c .operations) (c .rules) z) (p .circle w) in
+        told-says t K w said.noneLeft (sourced, clear, n w) _ refl (omega arith)

@@ -7,7 +7,8 @@
 --   laid v        == a verdict as the code holds it
 --   ordered r     == the order that a verdict hands back, if it does
 --   Reaches t m   == a question that is answered, of a trace that lacks no source
---   Orderless t m == no list is a valid order of the trace, if that can be asked
+--   Orderless t K == no list is a valid order of the trace with the kept pairs K, if that can be asked
+--   ToldBy t K r  == what `verdict_by` promises of any trace with any kept pairs K: 10, then the verdict that `Says` allows; its operations have places
 --   Told t m r    == what `verdict_of` promises of any trace under any model: 9 before 10, then the verdict that `Says` allows; its operations have places
 use mathlib.Core.Path.{_≡_}
 use mathlib.Core.Bool.{false, So}
@@ -15,6 +16,7 @@ use mathlib.Core.List.{List, _++_}
 use mathlib.Core.Option.{Option, none, some}
 use Prim.Native.Nat.{ℕ, _-_, _≤_, _<_}
 use lib.ListN.{length, getD, take, replicate}
+use Rattle.laws.specs.Relation.{Table}
 use Rattle.trace.specs.Bounds.{RECORDS}
 use Rattle.trace.specs.Meaning.{frameOf}
 use Rattle.rules.specs.Order.{Valid}
@@ -67,8 +69,13 @@ pub record Reaches (t : Trace) (m : ℕ) : Type 0 where
   pub well : So (wellFormed t)
   pub sourced : missingOf t ≡ Nothing
 
-abbrev pub Orderless : Trace → ℕ → Type 0
-Orderless t m = So (wellFormed t) → (xs : List ℕ) → Valid (frameOf t) (keptOf m t) xs → ⊥
+abbrev pub Orderless : Trace → Table → Type 0
+Orderless t K = So (wellFormed t) → (xs : List ℕ) → Valid (frameOf t) K xs → ⊥
+
+pub record ToldBy (t : Trace) (K : Table) (r : Verdict) : Type 0 where
+  pub ten : wellFormed t ≡ false → r ≡ bare NotWellFormed
+  pub says : So (wellFormed t) → (v : said.Verdict) × said.Says (frameOf t) K v × (r ≡ laid v)
+  pub fits : r .len ≤ RECORDS
 
 pub record Told (t : Trace) (m : ℕ) (r : Verdict) : Type 0 where
   pub nine : modelled m ≡ false → r ≡ bare NoModel

@@ -4,13 +4,15 @@ ghost use Prim.Native.Nat.{_<_, _≤_};
 ghost use lib.ListN.{length, take};
 ghost use Rattle.trace.specs.Meaning.{frameOf};
 ghost use Rattle.rows.specs.Rows.{bit};
-ghost use Rattle.pairs.specs.Kept.{keptOf};
+ghost use Rattle.rows.specs.Lent.{lentOf};
 ghost use Rattle.rules.specs.Circle.{after};
 ghost use Rattle.circle.specs.inner.NamedRules.{Named};
-ghost use Rattle.circle.specs.CircleOf.{CircleOf};
+ghost use Rattle.circle.specs.CircleOf.{CircleBy, CircleOf};
 use crate::trail::shown;
-use edges::force::last_round;
-use ruling::lowest_rule;
+use edges::force::last_round_by;
+use edges::kept::kept_rows;
+use pairs::modelled;
+use ruling::lowest_rule_by;
 use trace::RECORDS;
 use trace::Trace;
 
@@ -33,32 +35,39 @@ fn next_of(operations: &[u16], len: usize, i: usize) -> usize
 }
 
 // Lays the lowest rule of each edge of the circle into `rules`, from the chains of the round before.
-fn name_rules(t: Trace, model: u8, chains: &[u64], len: usize, operations: &[u16], rules: &mut [u8])
+fn name_rules(
+    t: Trace,
+    kept: &[u64],
+    chains: &[u64],
+    len: usize,
+    operations: &[u16],
+    rules: &mut [u8],
+)
     requires { ⌜ (len ≤ length (now operations)) × (len ≤ length (now rules)) ⌝ }
-    ensures { λ r. ⌜ Named (frameOf t) (keptOf model t) (bit (now (chains .entry))) (take len (now (operations .entry))) len (now (rules .entry)) (now (rules .exit)) ⌝ }
+    ensures { λ r. ⌜ Named (frameOf t) (lentOf t (now (kept .entry))) (bit (now (chains .entry))) (take len (now (operations .entry))) len (now (rules .entry)) (now (rules .exit)) ⌝ }
 {
     let mut i: usize = 0;
     while i < len {
         let x = operations[i] as usize;
-        rules[i] = lowest_rule(t, model, chains, x, next_of(operations, len, i));
+        rules[i] = lowest_rule_by(t, kept, chains, x, next_of(operations, len, i));
         i += 1;
     }
 }
 
-// The circle that is shown for a trace under a model, of the first round that has one, with the lowest rule of each edge by that round. There is
-// none where no round has one, for a trace that is not well formed, and under a model that does not exist.
-pub fn circle_of(t: Trace, model: u8) -> Circle
-    ensures { λ r. ⌜ CircleOf t model r ⌝ }
+// The circle that is shown for a trace with lent kept pairs, of the first round that has one, with the lowest rule of each edge by that round.
+// There is none where no round has one, and for a trace that is not well formed.
+pub fn circle_by(t: Trace, kept: &[u64]) -> Circle
+    ensures { λ r. ⌜ CircleBy t (lentOf t (now (kept .entry))) r ⌝ }
 {
     let mut operations = [0u16; RECORDS];
     let mut rules = [0u8; RECORDS];
     let supposed = [0u64; rows::CELLS];
-    let last = last_round(t, model, &supposed);
+    let last = last_round_by(t, kept, &supposed);
     if last.circle {
         let edges = last.edges;
         let before = last.before;
         let len = shown(&edges, &mut operations);
-        name_rules(t, model, &before, len, &operations, &mut rules);
+        name_rules(t, kept, &before, len, &operations, &mut rules);
         return Circle {
             len,
             operations,
@@ -69,5 +78,21 @@ pub fn circle_of(t: Trace, model: u8) -> Circle
         len: 0,
         operations,
         rules,
+    }
+}
+
+// The circle that is shown for a trace under a model, of the first round that has one, with the lowest rule of each edge by that round. There is
+// none where no round has one, for a trace that is not well formed, and under a model that does not exist.
+pub fn circle_of(t: Trace, model: u8) -> Circle
+    ensures { λ r. ⌜ CircleOf t model r ⌝ }
+{
+    if modelled(model) {
+        let kept = kept_rows(t, model);
+        return circle_by(t, &kept);
+    }
+    Circle {
+        len: 0,
+        operations: [0u16; RECORDS],
+        rules: [0u8; RECORDS],
     }
 }

@@ -1,6 +1,8 @@
 -- What the functions that draw edges add, in the order in which they come by it. In proofs/DrawnEdges.antt it is what the rules give.
 --
---   paired m t rows      == the pairs of rules 1 and 8
+--   Spared r o x         == the pairs of row x of the rows r, but none to what row 0 of o has
+--   SparedFrom r o x     == the same, and none from what it has
+--   paired t kept rows   == the pairs of rules 1 and 8, both lent as rows
 --   Stored f st a        == row a of st has the records that write the address a
 --   Valued e y s S L     == what a writer S of L's address gives L by rules 2 to 5, where s is L's source, told whether S is earlier and L reads the first value
 --   readsFirst f L       == L reads the first value of its address
@@ -22,15 +24,20 @@ use Rattle.trace.specs.Bounds.{RECORDS}
 use Rattle.rules.specs.Frame.{Frame}
 use Rattle.trace.specs.declared.Trace.{Trace}
 use Rattle.rows.specs.Rows.{bit}
-use Rattle.pairs.specs.Kept.{keptOf}
+use Rattle.rows.specs.Lent.{lentOf}
 use Rattle.rules.specs.RuleTests.{writer?}
 use Rattle.edges.specs.inner.PairSets.{Only, Union}
 use Rattle.rows.specs.inner.AddedPairs.{Added}
-use Rattle.edges.specs.Supposed.{supposedOf}
 use Rattle.pairs.specs.SourceOf.{sourceOf}
 
-abbrev pub paired : ℕ → Trace → List ℕ → Table
-paired m t rows x y = keptOf m t x y || supposedOf t rows x y
+abbrev pub Spared : List ℕ → List ℕ → ℕ → Rel
+Spared r o x i j = (i ≡ x) × So (bit r x j) × (So (bit o 0 j) → ⊥)
+
+abbrev pub SparedFrom : List ℕ → List ℕ → ℕ → Rel
+SparedFrom r o x i j = (So (bit o 0 x) → ⊥) × Spared r o x i j
+
+abbrev pub paired : Trace → List ℕ → List ℕ → Table
+paired t kept rows x y = lentOf t kept x y || lentOf t rows x y
 
 abbrev pub Stored : Frame → List ℕ → ℕ → Type 0
 Stored f st a = (x : ℕ) → So (bit st a x) ↔ (So (f .writes x) × (f .address x ≡ a))

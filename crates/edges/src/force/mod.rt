@@ -1,6 +1,6 @@
 // The forced edges, round by round, drawn into rows and closed.
 ghost use mathlib.Core.Path.{_≡_};
-ghost use mathlib.Core.Bool.{So};
+ghost use mathlib.Core.Bool.{So, not};
 ghost use mathlib.Core.Logic.{_↔_};
 ghost use Prim.Native.Nat.{_<_, _≤_};
 ghost use lib.ListN.{length};
@@ -9,21 +9,21 @@ ghost use Rattle.trace.specs.WellFormed.{wellFormed};
 ghost use Rattle.trace.specs.Meaning.{frameOf};
 ghost use Rattle.rows.specs.Bounds.{CELLS};
 ghost use Rattle.rows.specs.Rows.{Edges};
+ghost use Rattle.rows.specs.Lent.{lentOf};
 ghost use Rattle.rules.specs.RuleTests.{writer?};
-ghost use Rattle.pairs.specs.Kept.{keptOf};
 ghost use Rattle.edges.specs.Supposed.{supposedOf};
 ghost use Rattle.edges.specs.inner.PairSets.{Only, Union, Cover};
 ghost use Rattle.rows.specs.inner.AddedPairs.{Added};
 ghost use Rattle.pairs.specs.SourceOf.{sourceOf};
-ghost use Rattle.edges.specs.inner.DrawnEdges.{paired, Stored, Valued, ValuedFor, Settled, SettledBy, SettledFor, Loaded};
+ghost use Rattle.edges.specs.inner.DrawnEdges.{Spared, SparedFrom, paired, Stored, Valued, ValuedFor, Settled, SettledBy, SettledFor, Loaded};
 ghost use Rattle.edges.specs.inner.RoundStep.{FirstRound, Closed, Advanced};
 ghost use Rattle.edges.specs.LastRound.{Ends};
 ghost use Rattle.edges.specs.inner.Settling.{Grew};
 ghost use Rattle.edges.specs.inner.Takes.{Lead, Takes, AskPair, AskSourced, AskWritten, AskNoted};
-ghost use Rattle.edges.specs.ForcedPairs.{Rounded, Forces};
+ghost use Rattle.edges.specs.ForcedPairs.{RoundedBy, Rounded, ForcesBy, Forces};
 ghost use Rattle.edges.specs.RoundBefore.{PriorTo, PriorRound};
 use crate::Forced;
-use pairs::kept_pair;
+use crate::kept::kept_rows;
 use pairs::modelled;
 use pairs::source_of;
 use trace::RECORDS;
@@ -53,61 +53,55 @@ pub struct Prior {
     pub chains: [u64; rows::CELLS],
 }
 
-// Draws rule 1 from record x: only to later records of its own thread, past the fences of that thread.
-fn draw_kept_from(t: Trace, model: u8, x: usize, edges: &mut [u64])
-    requires { ⌜ (x < t .len) × (t .len ≤ RECORDS) × (length (now edges) ≡ CELLS) ⌝ }
-    ensures { λ r. ⌜ Added (now (edges .entry)) (Union (t .len) (λ y. Only (keptOf model t x y) x y)) (now (edges .exit)) ⌝ }
+// Notes in row 0 the numbers that are no operations of a trace.
+fn note_others(t: Trace, others: &mut [u64])
+    requires { ⌜ (t .len ≤ RECORDS) × (length (now others) ≡ CELLS) ⌝ }
+    ensures { λ r. ⌜ Added (now (others .entry)) (Union RECORDS (λ y. Only (not (frameOf t .operation y)) 0 y)) (now (others .exit)) ⌝ }
 {
     let n = t.len;
-    let record = t.records[x];
-    let a = record.op;
-    let mut passed = false;
-    let mut y: usize = x + 1;
-    while y < n {
+    let mut y: usize = 0;
+    while y < RECORDS {
         let record = t.records[y];
-        let b = record.op;
-        if b.thread() == a.thread() {
-            let kept = kept_pair(model, a, b, true, passed);
-            rows::put_if(edges, kept, x, y);
-            passed = passed | b.fence();
-        }
+        let a = record.op;
+        rows::put_if(others, (n <= y) | a.fence(), 0, y);
         y += 1;
     }
 }
 
-// Draws rule 8 from record x; where nothing is supposed of x there is nothing to look at.
-fn draw_supposed_from(t: Trace, supposed: &[u64], x: usize, edges: &mut [u64])
-    requires { ⌜ (x < t .len) × (t .len ≤ RECORDS) × (length (now edges) ≡ CELLS) ⌝ }
-    ensures { λ r. ⌜ Added (now (edges .entry)) (Union (t .len) (λ y. Only (supposedOf t (now (supposed .entry)) x y) x y)) (now (edges .exit)) ⌝ }
+// Draws the pairs of row x of lent rows, a row at a time, but none to what is no operation.
+fn draw_lent_from(lent: &[u64], others: &[u64], x: usize, edges: &mut [u64])
+    requires { ⌜ (x < RECORDS) × (length (now edges) ≡ CELLS) ⌝ }
+    ensures { λ r. ⌜ Added (now (edges .entry)) (Spared (now (lent .entry)) (now (others .entry)) x) (now (edges .exit)) ⌝ }
 {
-    if rows::within(supposed, x, &[0u64; rows::WORDS], 0) {
-        return;
-    }
-    let n = t.len;
-    let record = t.records[x];
-    let a = record.op;
-    let mut y: usize = 0;
-    while y < n {
-        let record = t.records[y];
-        let b = record.op;
-        let pair = !a.fence() & !b.fence() & rows::test(supposed, x, y);
-        rows::put_if(edges, pair, x, y);
-        y += 1;
+    let mut row = [0u64; rows::WORDS];
+    rows::add_row(lent, x, &mut row, 0);
+    rows::drop_row(others, 0, &mut row, 0);
+    rows::add_row(&row, 0, edges, x);
+}
+
+// Draws the pairs of lent rows below n, but none with what is no operation.
+fn draw_lent(n: usize, lent: &[u64], others: &[u64], edges: &mut [u64])
+    requires { ⌜ (n ≤ RECORDS) × (length (now edges) ≡ CELLS) ⌝ }
+    ensures { λ r. ⌜ Added (now (edges .entry)) (Union n (SparedFrom (now (lent .entry)) (now (others .entry)))) (now (edges .exit)) ⌝ }
+{
+    let mut x: usize = 0;
+    while x < n {
+        if !rows::test(others, 0, x) {
+            draw_lent_from(lent, others, x, edges);
+        }
+        x += 1;
     }
 }
 
 // Draws rules 1 and 8.
-fn draw_pairs(t: Trace, model: u8, supposed: &[u64], edges: &mut [u64])
+fn draw_pairs(t: Trace, kept: &[u64], supposed: &[u64], edges: &mut [u64])
     requires { ⌜ (t .len ≤ RECORDS) × (length (now edges) ≡ CELLS) ⌝ }
-    ensures { λ r. ⌜ Added (now (edges .entry)) (Cover (t .len) (λ x y. Only (paired model t (now (supposed .entry)) x y) x y)) (now (edges .exit)) ⌝ }
+    ensures { λ r. ⌜ Added (now (edges .entry)) (Cover (t .len) (λ x y. Only (paired t (now (kept .entry)) (now (supposed .entry)) x y) x y)) (now (edges .exit)) ⌝ }
 {
-    let n = t.len;
-    let mut x: usize = 0;
-    while x < n {
-        draw_kept_from(t, model, x, edges);
-        draw_supposed_from(t, supposed, x, edges);
-        x += 1;
-    }
+    let mut others = [0u64; rows::CELLS];
+    note_others(t, &mut others);
+    draw_lent(t.len, kept, &others, edges);
+    draw_lent(t.len, supposed, &others, edges);
 }
 
 // Draws what x, a writer of a load's address, gives the load by rules 2 to 5, told whether x is earlier in its program order, and whether the
@@ -310,18 +304,18 @@ fn settle(n: usize, sources: &[usize], writers: &[u64], edges: &mut [u64])
 // Draws round 0, and notes each record's source and the writers of its address.
 fn draw_first(
     t: Trace,
-    model: u8,
+    kept: &[u64],
     supposed: &[u64],
     sources: &mut [usize],
     writers: &mut [u64],
     edges: &mut [u64],
 )
     requires { ⌜ (So (wellFormed t)) × (length (now sources) ≡ RECORDS) × (length (now writers) ≡ CELLS) × (length (now edges) ≡ CELLS) ⌝ }
-    ensures { λ r. ⌜ FirstRound (frameOf t) (keptOf model t) (supposedOf t (now (supposed .entry))) (now (sources .exit)) (now (writers .exit)) (now (edges .exit)) ⌝ }
+    ensures { λ r. ⌜ FirstRound (frameOf t) (lentOf t (now (kept .entry))) (supposedOf t (now (supposed .entry))) (now (sources .exit)) (now (writers .exit)) (now (edges .exit)) ⌝ }
 {
     rows::clear(writers);
     rows::clear(edges);
-    draw_pairs(t, model, supposed, edges);
+    draw_pairs(t, kept, supposed, edges);
     draw_values(t, sources, writers, edges);
 }
 
@@ -371,14 +365,14 @@ fn settle_all(n: usize, sources: &[usize], writers: &[u64], edges: &mut [u64]) -
 }
 
 // What the rules force, taken in pass by pass; with a circle no pair, and true.
-fn grow(t: Trace, model: u8, supposed: &[u64], edges: &mut [u64]) -> bool
+fn grow(t: Trace, kept: &[u64], supposed: &[u64], edges: &mut [u64]) -> bool
     requires { ⌜ (So (wellFormed t)) × (length (now edges) ≡ CELLS) ⌝ }
-    ensures { λ r. ⌜ Grew (frameOf t) (keptOf model t) (supposedOf t (now (supposed .entry))) r (now (edges .exit)) ⌝ }
+    ensures { λ r. ⌜ Grew (frameOf t) (lentOf t (now (kept .entry))) (supposedOf t (now (supposed .entry))) r (now (edges .exit)) ⌝ }
 {
     let mut sources = [RECORDS; RECORDS];
     let mut writers = [0u64; rows::CELLS];
     let mut first = [0u64; rows::CELLS];
-    draw_first(t, model, supposed, &mut sources, &mut writers, &mut first);
+    draw_first(t, kept, supposed, &mut sources, &mut writers, &mut first);
     close(&first, edges);
     loop {
         if rows::reflexive(edges) {
@@ -395,18 +389,18 @@ fn grow(t: Trace, model: u8, supposed: &[u64], edges: &mut [u64]) -> bool
 // its edges and its chains.
 fn run(
     t: Trace,
-    model: u8,
+    kept: &[u64],
     supposed: &[u64],
     before: &mut [u64],
     edges: &mut [u64],
     chains: &mut [u64],
 ) -> End
     requires { ⌜ (So (wellFormed t)) × (length (now before) ≡ CELLS) × (length (now edges) ≡ CELLS) × (length (now chains) ≡ CELLS) ⌝ }
-    ensures { λ r. ⌜ Ends (frameOf t) (keptOf model t) (supposedOf t (now (supposed .entry))) (r .number) (r .circle) (now (before .exit)) (now (edges .exit)) (now (chains .exit)) ⌝ }
+    ensures { λ r. ⌜ Ends (frameOf t) (lentOf t (now (kept .entry))) (supposedOf t (now (supposed .entry))) (r .number) (r .circle) (now (before .exit)) (now (edges .exit)) (now (chains .exit)) ⌝ }
 {
     let mut sources = [RECORDS; RECORDS];
     let mut writers = [0u64; rows::CELLS];
-    draw_first(t, model, supposed, &mut sources, &mut writers, edges);
+    draw_first(t, kept, supposed, &mut sources, &mut writers, edges);
     rows::clear(before);
     let mut number: usize = 0;
     loop {
@@ -430,7 +424,7 @@ fn run(
 // chains. Once nothing is added any more, round k - 1 is as this one.
 fn run_before(
     t: Trace,
-    model: u8,
+    kept: &[u64],
     supposed: &[u64],
     k: usize,
     x: usize,
@@ -439,13 +433,13 @@ fn run_before(
     chains: &mut [u64],
 ) -> usize
     requires { ⌜ (So (wellFormed t)) × (length (now edges) ≡ CELLS) × (length (now chains) ≡ CELLS) ⌝ }
-    ensures { λ r. ⌜ PriorTo (frameOf t) (keptOf model t) (supposedOf t (now (supposed .entry))) k x y r (now (edges .exit)) (now (chains .exit)) ⌝ }
+    ensures { λ r. ⌜ PriorTo (frameOf t) (lentOf t (now (kept .entry))) (supposedOf t (now (supposed .entry))) k x y r (now (edges .exit)) (now (chains .exit)) ⌝ }
 {
     let mut sources = [RECORDS; RECORDS];
     let mut writers = [0u64; rows::CELLS];
     let mut before = [0u64; rows::CELLS];
     let mut next = [0u64; rows::CELLS];
-    draw_first(t, model, supposed, &mut sources, &mut writers, &mut next);
+    draw_first(t, kept, supposed, &mut sources, &mut writers, &mut next);
     let mut number: usize = 0;
     loop {
         rows::copy(&next, edges);
@@ -464,16 +458,16 @@ fn run_before(
     }
 }
 
-// The round at which the rounds end, from a model's kept pairs and the supposed ones. For a trace that is not well formed, or a model that
-// does not exist, round 0, no circle and no pairs.
-pub fn last_round(t: Trace, model: u8, supposed: &[u64]) -> Round
-    ensures { λ r. ⌜ Rounded t model (now (supposed .entry)) r ⌝ }
+// The round at which the rounds end, from lent kept pairs and the supposed ones. For a trace that is not well formed, round 0, no circle and
+// no pairs.
+pub fn last_round_by(t: Trace, kept: &[u64], supposed: &[u64]) -> Round
+    ensures { λ r. ⌜ RoundedBy t (lentOf t (now (kept .entry))) (now (supposed .entry)) r ⌝ }
 {
     let mut before = [0u64; rows::CELLS];
     let mut edges = [0u64; rows::CELLS];
     let mut chains = [0u64; rows::CELLS];
-    if well_formed(t) & modelled(model) {
-        let end = run(t, model, supposed, &mut before, &mut edges, &mut chains);
+    if well_formed(t) {
+        let end = run(t, kept, supposed, &mut before, &mut edges, &mut chains);
         return Round {
             number: end.number,
             circle: end.circle,
@@ -491,6 +485,25 @@ pub fn last_round(t: Trace, model: u8, supposed: &[u64]) -> Round
     }
 }
 
+// The round at which the rounds end, from a model's kept pairs and the supposed ones. For a trace that is not well formed, or a model that
+// does not exist, round 0, no circle and no pairs.
+pub fn last_round(t: Trace, model: u8, supposed: &[u64]) -> Round
+    ensures { λ r. ⌜ Rounded t model (now (supposed .entry)) r ⌝ }
+{
+    if modelled(model) {
+        let kept = kept_rows(t, model);
+        return last_round_by(t, &kept, supposed);
+    }
+    let none = [0u64; rows::CELLS];
+    Round {
+        number: 0,
+        circle: false,
+        before: none,
+        edges: none,
+        chains: none,
+    }
+}
+
 // The first round that is followed by round k, or by one that has the edge x, y, from a model's kept pairs and the supposed ones. For a trace that
 // is not well formed, or a model that does not exist, round 0 and no pairs.
 pub fn round_before(t: Trace, model: u8, supposed: &[u64], k: usize, x: usize, y: usize) -> Prior
@@ -499,7 +512,8 @@ pub fn round_before(t: Trace, model: u8, supposed: &[u64], k: usize, x: usize, y
     let mut edges = [0u64; rows::CELLS];
     let mut chains = [0u64; rows::CELLS];
     if well_formed(t) & modelled(model) {
-        let number = run_before(t, model, supposed, k, x, y, &mut edges, &mut chains);
+        let kept = kept_rows(t, model);
+        let number = run_before(t, &kept, supposed, k, x, y, &mut edges, &mut chains);
         return Prior {
             number,
             edges,
@@ -513,18 +527,33 @@ pub fn round_before(t: Trace, model: u8, supposed: &[u64], k: usize, x: usize, y
     }
 }
 
-// What the rules force from a model's kept pairs and the supposed ones. For a trace that is not well formed, or a model that does not exist,
-// nothing is contradicted and nothing held.
-pub fn forced(t: Trace, model: u8, supposed: &[u64]) -> Forced
-    ensures { λ r. ⌜ Forces t model (now (supposed .entry)) r ⌝ }
+// What the rules force from lent kept pairs and the supposed ones. For a trace that is not well formed, nothing is contradicted and nothing
+// held.
+pub fn forced_by(t: Trace, kept: &[u64], supposed: &[u64]) -> Forced
+    ensures { λ r. ⌜ ForcesBy t (lentOf t (now (kept .entry))) (now (supposed .entry)) r ⌝ }
 {
     let mut held = [0u64; rows::CELLS];
-    if well_formed(t) & modelled(model) {
-        let contradicted = grow(t, model, supposed, &mut held);
+    if well_formed(t) {
+        let contradicted = grow(t, kept, supposed, &mut held);
         return Forced { contradicted, held };
     }
     Forced {
         contradicted: false,
         held,
+    }
+}
+
+// What the rules force from a model's kept pairs and the supposed ones. For a trace that is not well formed, or a model that does not exist,
+// nothing is contradicted and nothing held.
+pub fn forced(t: Trace, model: u8, supposed: &[u64]) -> Forced
+    ensures { λ r. ⌜ Forces t model (now (supposed .entry)) r ⌝ }
+{
+    if modelled(model) {
+        let kept = kept_rows(t, model);
+        return forced_by(t, &kept, supposed);
+    }
+    Forced {
+        contradicted: false,
+        held: [0u64; rows::CELLS],
     }
 }

@@ -8,17 +8,19 @@ ghost use Rattle.trace.specs.Bounds.{RECORDS};
 ghost use Rattle.trace.specs.WellFormed.{wellFormed};
 ghost use Rattle.trace.specs.Meaning.{frameOf};
 ghost use Rattle.rows.specs.Empty.{emptyOf};
+ghost use Rattle.rows.specs.Lent.{lentOf};
 ghost use Rattle.rules.specs.Missing.{Sourced};
 ghost use Rattle.search.specs.inner.TablesLaid.{Counted, Sources};
 ghost use Rattle.search.specs.inner.SearchAnswer.{Looked};
-ghost use Rattle.search.specs.FirstOrder.{FirstOrder};
+ghost use Rattle.search.specs.FirstOrder.{FirstOrderBy, FirstOrder};
 use crate::Order;
 use crate::seek::MEMORY;
 use crate::seek::find;
 use crate::tables::lay;
 use crate::tables::lay_operations;
 use crate::tables::lay_sources;
-use edges::force::forced;
+use edges::force::forced_by;
+use edges::kept::kept_rows;
 use pairs::modelled;
 use pairs::op_at;
 use trace::RECORDS;
@@ -91,15 +93,15 @@ fn look(
         == 0
 }
 
-// The first valid order in dictionary order. For a trace that is not well formed, or a model that does not exist, none.
-pub fn first_order(t: Trace, model: u8) -> Order
-    ensures { λ r. ⌜ FirstOrder t model r ⌝ }
+// The first valid order in dictionary order, from lent kept pairs. For a trace that is not well formed, none.
+pub fn first_order_by(t: Trace, kept: &[u64]) -> Order
+    ensures { λ r. ⌜ FirstOrderBy t (lentOf t (now (kept .entry))) r ⌝ }
 {
-    if !(well_formed(t) & modelled(model)) {
+    if !well_formed(t) {
         return nothing();
     }
     let supposed = [0u64; rows::CELLS];
-    let forced = forced(t, model, &supposed);
+    let forced = forced_by(t, kept, &supposed);
     if forced.contradicted {
         return nothing();
     }
@@ -118,6 +120,17 @@ pub fn first_order(t: Trace, model: u8) -> Order
             len: total,
             operations: list,
         };
+    }
+    nothing()
+}
+
+// The first valid order in dictionary order. For a trace that is not well formed, or a model that does not exist, none.
+pub fn first_order(t: Trace, model: u8) -> Order
+    ensures { λ r. ⌜ FirstOrder t model r ⌝ }
+{
+    if modelled(model) {
+        let kept = kept_rows(t, model);
+        return first_order_by(t, &kept);
     }
     nothing()
 }

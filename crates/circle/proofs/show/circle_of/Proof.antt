@@ -1,64 +1,42 @@
--- `show::circle_of`: the circle of the last round is laid, and then its rules.
-use mathlib.Core.Path.{refl}
+-- `show::circle_of`: the circle by the rows of the model's kept pairs.
+use mathlib.Core.Path.{refl, sym, _∙_}
 use borrow.Author.Needs.{needs}
-use Rattle.rows.specs.Bounds.{CELLS}
-use Rattle.circle.proofs.CircleOf.{circle-none-of, circle-laid}
+use Rattle.circle.proofs.CircleOf.{circle-model, circle-kept}
 use Rattle.circle.proofs.show.circle_of.Statement.{statement}
 use Rattle.circle.proofs.show.circle_of.Tie as tie
 
-slice-aggregate-last-round : tie.Need-slice-aggregate-last-round
-slice-aggregate-last-round c = search needs
+modelled-requires : tie.Need-modelled-requires
+modelled-requires c κs = search needs
 
-last-round-requires : tie.Need-last-round-requires
-last-round-requires c κs = search needs
+kept-rows-requires : tie.Need-kept-rows-requires
+kept-rows-requires c κs = search needs
 
-slice-aggregate-shown : tie.Need-slice-aggregate-shown
-slice-aggregate-shown c = search needs
+slice-aggregate-circle-by : tie.Need-slice-aggregate-circle-by
+slice-aggregate-circle-by c = search needs
 
-slice-aggregate-shown-2 : tie.Need-slice-aggregate-shown-2
-slice-aggregate-shown-2 c = search needs
-
-shown-requires : tie.Need-shown-requires
-shown-requires c κs = search needs
-
-slice-aggregate-name-rules : tie.Need-slice-aggregate-name-rules
-slice-aggregate-name-rules c = search needs
-
-slice-aggregate-name-rules-2 : tie.Need-slice-aggregate-name-rules-2
-slice-aggregate-name-rules-2 c = search needs
-
-slice-aggregate-name-rules-3 : tie.Need-slice-aggregate-name-rules-3
-slice-aggregate-name-rules-3 c = search needs
-
-name-rules-requires : tie.Need-name-rules-requires
-name-rules-requires c κs = search needs
+circle-by-requires : tie.Need-circle-by-requires
+circle-by-requires c κs = search needs
 
 returns : tie.Need-returns
 returns c =
-    let n = c .before in
-    let h = n .before .before .before .before .before in
-    let l = h .before .before .before .before .before .before in
-    let a = l .before .before .args in
-    circle-laid (a .t) (a .model) CELLS _ (l .last-round .result) refl (l .last-round .ensures) _ _ (h .before .before .before .before .before .if1 .taken) (h .shown .ensures) refl (n .name-rules .ensures)
+    let k = c .before .before in
+    let m = k .before .before in
+    let s = m .before in
+    circle-kept (s .args .t) (s .args .model) (sym (m .modelled .ensures) ∙ k .before .if1 .taken) _ (k .kept-rows .ensures) _ (c .circle-by .ensures)
 
 returns-2 : tie.Need-returns-2
 returns-2 c =
-    let l = c .before in
-    let a = l .before .before .args in
-    circle-none-of (a .t) (a .model) CELLS _ (l .last-round .result) refl (l .last-round .ensures) (c .if1 .left) _ refl refl refl
+    let m = c .before in
+    let s = m .before in
+    circle-model (s .args .t) (s .args .model) (sym (m .modelled .ensures) ∙ c .if1 .left) _ refl refl refl
 
 pub circle-of-spec : {M : Type 1} → statement M
 circle-of-spec =
     tie.close
     (tie.spec
-    slice-aggregate-last-round
-    last-round-requires
-    slice-aggregate-shown
-    slice-aggregate-shown-2
-    shown-requires
-    slice-aggregate-name-rules
-    slice-aggregate-name-rules-2
-    slice-aggregate-name-rules-3
-    name-rules-requires
+    modelled-requires
+    kept-rows-requires
+    slice-aggregate-circle-by
+    circle-by-requires
     returns
     returns-2)

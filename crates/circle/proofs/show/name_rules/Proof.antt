@@ -6,7 +6,7 @@ use lib.ListN.{getD, take}
 use lib.Seq.{getD-take}
 use Rattle.trace.specs.Meaning.{frameOf}
 use Rattle.rows.specs.Rows.{bit}
-use Rattle.pairs.specs.Kept.{keptOf}
+use Rattle.rows.specs.Lent.{lentOf}
 use Rattle.rules.specs.Rules.{nothing}
 use Rattle.rules.specs.Circle.{after}
 use Rattle.rules.specs.ShownCircle.{rule?}
@@ -17,15 +17,15 @@ use Rattle.circle.proofs.show.name_rules.Statement.{statement}
 use Rattle.circle.proofs.show.name_rules.Tie as tie
 
 abbrev Inv-loop : tie.InvT-loop
-Inv-loop t model chains len operations rules₀ i₀ rules i = (i ≤ len) × Named (frameOf t) (keptOf model t) (bit chains) (take len operations) i rules₀ rules
+Inv-loop t kept chains len operations rules₀ i₀ rules i = (i ≤ len) × Named (frameOf t) (lentOf t kept) (bit chains) (take len operations) i rules₀ rules
 
 abbrev μ-loop : tie.MeasureT-loop
-μ-loop t model chains len operations rules₀ i₀ rules i = len - i
+μ-loop t kept chains len operations rules₀ i₀ rules i = len - i
 
 loop-holds : tie.Need-loop-holds Inv-loop μ-loop
 loop-holds c =
-    let a = c .before .before .before .args in
-    (omega arith, named-none (frameOf (a .t)) (keptOf (a .model) (a .t)) (bit (a .chains .now)) (take (a .len) (a .operations .now)) (a .rules .now))
+    let a = c .before .before .before .before .args in
+    (omega arith, named-none (frameOf (a .t)) (lentOf (a .t) (a .kept .now)) (bit (a .chains .now)) (take (a .len) (a .operations .now)) (a .rules .now))
 
 mul-x : tie.Need-mul-x Inv-loop μ-loop
 mul-x c = omega arith
@@ -34,13 +34,13 @@ shared-slice-read-x : tie.Need-shared-slice-read-x Inv-loop μ-loop
 shared-slice-read-x c = omega arith
 
 cast-x : tie.Need-cast-x Inv-loop μ-loop
-cast-x c = omega (arith, c .shared-slice-known3 .given (c .before .before .loop .i))
+cast-x c = omega (arith, c .shared-slice-known4 .given (c .before .before .loop .i))
 
 next-of-requires : tie.Need-next-of-requires Inv-loop μ-loop
 next-of-requires c κs = omega arith
 
-lowest-rule-requires : tie.Need-lowest-rule-requires Inv-loop μ-loop
-lowest-rule-requires c κs = search needs
+lowest-rule-by-requires : tie.Need-lowest-rule-by-requires Inv-loop μ-loop
+lowest-rule-by-requires c κs = search needs
 
 slice-write-rules : tie.Need-slice-write-rules Inv-loop μ-loop
 slice-write-rules c = omega (arith, c .before .before .before .before .loop .inv .1 .long)
@@ -54,14 +54,14 @@ loop-less c = omega arith
 loop-again : tie.Need-loop-again Inv-loop μ-loop
 loop-again c =
     let l = c .before .before .before .before in
-    let a = l .before .before .before .before .args in
+    let a = l .before .before .before .before .before .args in
     let f = frameOf (a .t) in
-    let K = keptOf (a .model) (a .t) in
+    let K = lentOf (a .t) (a .kept .now) in
     let C = bit (a .chains .now) in
     let ops = a .operations .now in
-    let e : c .lowest-rule .result ≡ rule? f K nothing C (getD (take (a .len) ops) (l .loop .i) 0) (after (take (a .len) ops) (l .loop .i)) =
-    cc (c .lowest-rule .ensures, c .before .next-of .ensures, getD-take (a .len) ops (l .loop .i) 0 (omega arith)) in
-    (omega arith, named-more f K C (take (a .len) ops) (a .rules .now) (l .loop .i) (c .lowest-rule .result) (l .loop .rules) (omega (arith, l .loop .inv .1 .long)) e (l .loop .inv .1))
+    let e : c .lowest-rule-by .result ≡ rule? f K nothing C (getD (take (a .len) ops) (l .loop .i) 0) (after (take (a .len) ops) (l .loop .i)) =
+    cc (c .lowest-rule-by .ensures, c .before .next-of .ensures, getD-take (a .len) ops (l .loop .i) 0 (omega arith)) in
+    (omega arith, named-more f K C (take (a .len) ops) (a .rules .now) (l .loop .i) (c .lowest-rule-by .result) (l .loop .rules) (omega (arith, l .loop .inv .1 .long)) e (l .loop .inv .1))
 
 same-length : tie.Need-same-length Inv-loop μ-loop
 same-length c = c .before .loop .inv .1 .long
@@ -69,9 +69,9 @@ same-length c = c .before .loop .inv .1 .long
 returns : tie.Need-returns Inv-loop μ-loop
 returns c =
     let l = c .before in
-    let a = l .before .before .before .before .args in
+    let a = l .before .before .before .before .before .args in
     let e : l .loop .i ≡ a .len = omega arith in
-    subst (λ (n : ℕ). Named (frameOf (a .t)) (keptOf (a .model) (a .t)) (bit (a .chains .now)) (take (a .len) (a .operations .now)) n (a .rules .now) (l .loop .rules)) e (l .loop .inv .1)
+    subst (λ (n : ℕ). Named (frameOf (a .t)) (lentOf (a .t) (a .kept .now)) (bit (a .chains .now)) (take (a .len) (a .operations .now)) n (a .rules .now) (l .loop .rules)) e (l .loop .inv .1)
 
 pub name-rules-spec : {M : Type 1} → statement M
 name-rules-spec =
@@ -84,7 +84,7 @@ name-rules-spec =
     shared-slice-read-x
     cast-x
     next-of-requires
-    lowest-rule-requires
+    lowest-rule-by-requires
     slice-write-rules
     add-i
     loop-less

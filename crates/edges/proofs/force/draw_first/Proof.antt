@@ -17,7 +17,7 @@ clear-requires-2 c κs = search needs
 draw-pairs-requires : tie.Need-draw-pairs-requires
 draw-pairs-requires c κs =
     let e = c .before .before .before in
-    let s = e .before .before .before .before .before .before .before .before .before .before in
+    let s = e .before .before .before .before .before .before .before .before .before .before .before in
     (form-iff (s .args .t) .0 (s .pre .0) .fits, ap length (e .clear2 .ensures) ∙ empty-long _ ∙ s .pre .3)
 
 draw-values-requires : tie.Need-draw-values-requires
@@ -25,7 +25,7 @@ draw-values-requires c κs =
     let p = c .before .before .before .before .before in
     let e = p .before .before .before .before in
     let w = e .before .before .before .before in
-    let s = w .before .before .before .before .before .before in
+    let s = w .before .before .before .before .before .before .before in
     (form-iff (s .args .t) .0 (s .pre .0) .fits, s .pre .1, ap length (w .clear .ensures) ∙ empty-long _ ∙ s .pre .2, p .draw-pairs .ensures .long ∙ ap length (e .clear2 .ensures) ∙ empty-long _ ∙ s .pre .3)
 
 same-length : tie.Need-same-length
@@ -43,8 +43,8 @@ returns c =
     let p = v .before .before .before .before .before .before in
     let e = p .before .before .before .before in
     let w = e .before .before .before .before in
-    let s = w .before .before .before .before .before .before in
-    begun (s .args .model) (s .args .t) (s .args .supposed .now) _ _ _ _ _ _ (length (s .args .writers .now)) (length (s .args .edges .now)) (s .pre .0) (w .clear .ensures) (s .pre .2) (e .clear2 .ensures) (s .pre .3) (p .draw-pairs .ensures) (v .draw-values .ensures)
+    let s = w .before .before .before .before .before .before .before in
+    begun (s .args .t) (s .args .kept .now) (s .args .supposed .now) _ _ _ _ _ _ (length (s .args .writers .now)) (length (s .args .edges .now)) (s .pre .0) (w .clear .ensures) (s .pre .2) (e .clear2 .ensures) (s .pre .3) (p .draw-pairs .ensures) (v .draw-values .ensures)
 
 pub draw-first-spec : {M : Type 1} → statement M
 draw-first-spec =

@@ -1,72 +1,55 @@
--- `edges::force::draw_pairs`: the pairs from records below x are drawn.
-use mathlib.Core.Path.{_≡_, _∙_}
-use Prim.Native.Nat.{_≤_, _-_}
-use native.Mathlib.Omega.{arith}
-use Rattle.edges.specs.inner.PairSets.{Only, Union}
-use Rattle.rows.specs.inner.AddedPairs.{Added}
-use Rattle.edges.specs.inner.DrawnEdges.{paired}
-use Rattle.edges.proofs.PairSets.{adds-then, union-none, union-more}
-use Rattle.edges.proofs.DrawnEdges.{paired-both}
+-- `edges::force::draw_pairs`: what is no operation is noted, then the kept pairs and the supposed ones are drawn.
+use mathlib.Core.Path.{refl, _∙_}
+use Rattle.rows.specs.Bounds.{CELLS}
+use Rattle.edges.proofs.PairSets.{adds-as, adds-then}
+use Rattle.edges.proofs.LentPairs.{apart, lent-spared, paired-both}
 use borrow.Author.Needs.{needs}
 use Rattle.edges.proofs.force.draw_pairs.Statement.{statement}
 use Rattle.edges.proofs.force.draw_pairs.Tie as tie
 
-abbrev Inv-loop : tie.InvT-loop
-Inv-loop t model supposed edges₀ n x₀ edges x = (x ≤ n) × Added edges₀ (Union x (λ z. Union n (λ y. Only (paired model t supposed z y) z y))) edges
+slice-aggregate-note-others : tie.Need-slice-aggregate-note-others
+slice-aggregate-note-others c = search needs
 
-abbrev μ-loop : tie.MeasureT-loop
-μ-loop t model supposed edges₀ n x₀ edges x = n - x
+note-others-requires : tie.Need-note-others-requires
+note-others-requires c κs = search needs
 
-loop-holds : tie.Need-loop-holds Inv-loop μ-loop
-loop-holds c = (omega arith, union-none _ (c .before .before .args .edges .now))
+slice-aggregate-draw-lent : tie.Need-slice-aggregate-draw-lent
+slice-aggregate-draw-lent c = search needs
 
-draw-kept-from-requires : tie.Need-draw-kept-from-requires Inv-loop μ-loop
-draw-kept-from-requires c κs =
-    let l = c .before .before in
-    (search needs, search needs, l .loop .inv .1 .long ∙ l .before .before .before .pre .1)
+draw-lent-requires : tie.Need-draw-lent-requires
+draw-lent-requires c κs = search needs
 
-draw-supposed-from-requires : tie.Need-draw-supposed-from-requires Inv-loop μ-loop
-draw-supposed-from-requires c κs =
-    let p = c .before .before .before in
-    let l = p .before .before .before in
-    (search needs, search needs, p .draw-kept-from .ensures .long ∙ l .loop .inv .1 .long ∙ l .before .before .before .pre .1)
+slice-aggregate-draw-lent-2 : tie.Need-slice-aggregate-draw-lent-2
+slice-aggregate-draw-lent-2 c = search needs
 
-add-x : tie.Need-add-x Inv-loop μ-loop
-add-x c = search needs
+draw-lent-requires-2 : tie.Need-draw-lent-requires-2
+draw-lent-requires-2 c κs =
+    let d = c .before .before .before .before in
+    let s = d .before .before .before .before .before .before .before .before .before in
+    (s .pre .0, d .draw-lent .ensures .long ∙ s .pre .1)
 
-loop-less : tie.Need-loop-less Inv-loop μ-loop
-loop-less c = search needs
+same-length : tie.Need-same-length
+same-length c = search needs
 
-loop-again : tie.Need-loop-again Inv-loop μ-loop
-loop-again c =
-    let q = c .before .before in
-    let p = q .before .before .before .before in
-    let l = p .before .before .before in
-    let a = l .before .before .before .args in (
-      omega arith,
-      union-more _ (l .loop .x) (l .loop .inv .1) (adds-then _ (p .draw-kept-from .ensures) (q .draw-supposed-from .ensures) (paired-both (a .t) (l .loop .x) (a .supposed .now) (a .model) (a .t .len))),
-    )
-
-same-length : tie.Need-same-length Inv-loop μ-loop
-same-length c = c .before .loop .inv .1 .long
-
-returns : tie.Need-returns Inv-loop μ-loop
+returns : tie.Need-returns
 returns c =
-    let l = c .before in
-    let n : l .loop .x ≡ l .before .before .before .args .t .len = omega arith in
-    rw n at (l .loop .inv .1)
+    let e = c .before .before in
+    let d = e .before .before .before .before .before in
+    let o = d .before .before .before .before in
+    let s = o .before .before .before .before .before in
+    let t = s .args .t in
+    let clear = apart t _ _ CELLS refl (o .note-others .ensures) in
+    adds-then _ (adds-as _ (d .draw-lent .ensures) (lent-spared t (s .pre .0) (s .args .kept .now) _ clear)) (adds-as _ (e .draw-lent2 .ensures) (lent-spared t (s .pre .0) (s .args .supposed .now) _ clear)) (paired-both t (s .args .kept .now) (s .args .supposed .now))
 
 pub draw-pairs-spec : {M : Type 1} → statement M
 draw-pairs-spec =
     tie.close
     (tie.spec
-    Inv-loop
-    μ-loop
-    loop-holds
-    draw-kept-from-requires
-    draw-supposed-from-requires
-    add-x
-    loop-less
-    loop-again
+    slice-aggregate-note-others
+    note-others-requires
+    slice-aggregate-draw-lent
+    draw-lent-requires
+    slice-aggregate-draw-lent-2
+    draw-lent-requires-2
     same-length
     returns)

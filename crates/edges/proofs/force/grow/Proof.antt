@@ -9,20 +9,21 @@ use Rattle.trace.specs.Meaning.{frameOf}
 use Rattle.trace.proofs.WellFormed.{form-iff}
 use Rattle.trace.proofs.Good.{good}
 use Rattle.rows.specs.Rows.{bit}
-use Rattle.pairs.specs.Kept.{keptOf}
+use Rattle.rows.specs.Lent.{lentOf}
+use Rattle.rows.proofs.Lent.{lent-within}
 use Rattle.edges.specs.Supposed.{supposedOf}
 use Rattle.edges.specs.inner.Settling.{SettlingRows}
-use Rattle.edges.proofs.LastRound.{kept-within, supposed-within}
+use Rattle.edges.proofs.LastRound.{supposed-within}
 use Rattle.edges.proofs.Settling.{settling-first, settling-next, settling-fewer, settling-end, settling-circle}
 use borrow.Author.Needs.{needs}
 use Rattle.edges.proofs.force.grow.Statement.{statement}
 use Rattle.edges.proofs.force.grow.Tie as tie
 
 abbrev Inv-loop : tie.InvT-loop
-Inv-loop t model supposed edges₀ sources writers edges = SettlingRows (frameOf t) (keptOf model t) (supposedOf t supposed) edges
+Inv-loop t kept supposed edges₀ sources writers edges = SettlingRows (frameOf t) (lentOf t kept) (supposedOf t supposed) edges
 
 abbrev μ-loop : tie.MeasureT-loop
-μ-loop t model supposed edges₀ sources writers edges = RECORDS * RECORDS - pairs RECORDS (bit edges)
+μ-loop t kept supposed edges₀ sources writers edges = RECORDS * RECORDS - pairs RECORDS (bit edges)
 
 slice-aggregate-draw-first : tie.Need-slice-aggregate-draw-first Inv-loop μ-loop
 slice-aggregate-draw-first c = search needs
@@ -46,9 +47,9 @@ loop-holds : tie.Need-loop-holds Inv-loop μ-loop
 loop-holds c =
     let k = c .before .before in
     let d = k .before .before .before .before .before .before in
-    let s = d .before .before .before .before .before .before in
+    let s = d .before .before .before .before .before .before .before in
     let t = s .args .t in
-    settling-first (frameOf t) (keptOf (s .args .model) t) (supposedOf t (s .args .supposed .now)) _ _ _ _ _ (d .draw-first .ensures) (k .close .ensures)
+    settling-first (frameOf t) (lentOf t (s .args .kept .now)) (supposedOf t (s .args .supposed .now)) _ _ _ _ _ (d .draw-first .ensures) (k .close .ensures)
 
 reflexive-requires : tie.Need-reflexive-requires Inv-loop μ-loop
 reflexive-requires c κs = search needs
@@ -66,9 +67,9 @@ returns c =
     let r = h .before in
     let l = r .before .before in
     let d = l .before .before .before .before .before .before .before .before .before in
-    let s = d .before .before .before .before .before .before in
+    let s = d .before .before .before .before .before .before .before in
     let t = s .args .t in
-    settling-circle (frameOf t) (keptOf (s .args .model) t) (supposedOf t (s .args .supposed .now)) (l .loop .edges) _ (length (l .loop .edges)) (l .loop .inv) (sym (r .reflexive .ensures) ∙ h .if1 .taken) (k .clear .ensures) (l .loop .inv .full .long)
+    settling-circle (frameOf t) (lentOf t (s .args .kept .now)) (supposedOf t (s .args .supposed .now)) (l .loop .edges) _ (length (l .loop .edges)) (l .loop .inv) (sym (r .reflexive .ensures) ∙ h .if1 .taken) (k .clear .ensures) (l .loop .inv .full .long)
 
 slice-aggregate-settle-all : tie.Need-slice-aggregate-settle-all Inv-loop μ-loop
 slice-aggregate-settle-all c = search needs
@@ -80,7 +81,7 @@ settle-all-requires : tie.Need-settle-all-requires Inv-loop μ-loop
 settle-all-requires c κs =
     let l = c .before .before .before .before .before .before in
     let d = l .before .before .before .before .before .before .before .before .before in
-    let s = d .before .before .before .before .before .before in
+    let s = d .before .before .before .before .before .before .before in
     (form-iff (s .args .t) .0 (s .pre .0) .fits, d .draw-first .ensures .facts .sources-long, l .loop .inv .full .long)
 
 same-length-2 : tie.Need-same-length-2 Inv-loop μ-loop
@@ -94,9 +95,9 @@ returns-2 c =
     let r = h .before in
     let l = r .before .before in
     let d = l .before .before .before .before .before .before .before .before .before in
-    let s = d .before .before .before .before .before .before in
+    let s = d .before .before .before .before .before .before .before in
     let t = s .args .t in
-    settling-end (frameOf t) (keptOf (s .args .model) t) (supposedOf t (s .args .supposed .now)) (good t (s .pre .0)) (form-iff t .0 (s .pre .0) .fits) (kept-within (s .args .model) t (s .pre .0)) (supposed-within t (s .args .supposed .now) (s .pre .0)) _ _ (d .draw-first .ensures .facts)
+    settling-end (frameOf t) (lentOf t (s .args .kept .now)) (supposedOf t (s .args .supposed .now)) (good t (s .pre .0)) (form-iff t .0 (s .pre .0) .fits) (lent-within t (s .args .kept .now) (s .pre .0)) (supposed-within t (s .args .supposed .now) (s .pre .0)) _ _ (d .draw-first .ensures .facts)
     (l .loop .edges) _ (l .loop .inv) (sym (r .reflexive .ensures) ∙ h .if1 .left) (a .settle-all .ensures .0) (a .settle-all .ensures .1 .0 (c .if2 .taken))
 
 loop-less : tie.Need-loop-less Inv-loop μ-loop
@@ -106,7 +107,7 @@ loop-less c =
     let r = h .before in
     let l = r .before .before in
     let d = l .before .before .before .before .before .before .before .before .before in
-    let s = d .before .before .before .before .before .before in
+    let s = d .before .before .before .before .before .before .before in
     let t = s .args .t in
     settling-fewer _ (l .loop .edges) _ _ (l .loop .inv .full) (a .settle-all .ensures .0) (λ q. false≢true (sym (c .if2 .left) ∙ a .settle-all .ensures .1 .1 q))
 
@@ -118,9 +119,9 @@ loop-again c =
     let r = h .before in
     let l = r .before .before in
     let d = l .before .before .before .before .before .before .before .before .before in
-    let s = d .before .before .before .before .before .before in
+    let s = d .before .before .before .before .before .before .before in
     let t = s .args .t in
-    settling-next (frameOf t) (keptOf (s .args .model) t) (supposedOf t (s .args .supposed .now)) (good t (s .pre .0)) (form-iff t .0 (s .pre .0) .fits) (kept-within (s .args .model) t (s .pre .0)) (supposed-within t (s .args .supposed .now) (s .pre .0)) _ _ (d .draw-first .ensures .facts)
+    settling-next (frameOf t) (lentOf t (s .args .kept .now)) (supposedOf t (s .args .supposed .now)) (good t (s .pre .0)) (form-iff t .0 (s .pre .0) .fits) (lent-within t (s .args .kept .now) (s .pre .0)) (supposed-within t (s .args .supposed .now) (s .pre .0)) _ _ (d .draw-first .ensures .facts)
     (t .len) refl (l .loop .edges) _ _ (l .loop .inv) (a .settle-all .ensures .0)
 
 pub grow-spec : {M : Type 1} → statement M

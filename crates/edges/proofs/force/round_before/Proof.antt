@@ -15,15 +15,21 @@ well-formed-requires c κs = search needs
 modelled-requires : tie.Need-modelled-requires
 modelled-requires c κs = search needs
 
+kept-rows-requires : tie.Need-kept-rows-requires
+kept-rows-requires c κs = search needs
+
 slice-aggregate-run-before : tie.Need-slice-aggregate-run-before
 slice-aggregate-run-before c = search needs
 
 slice-aggregate-run-before-2 : tie.Need-slice-aggregate-run-before-2
 slice-aggregate-run-before-2 c = search needs
 
+slice-aggregate-run-before-3 : tie.Need-slice-aggregate-run-before-3
+slice-aggregate-run-before-3 c = search needs
+
 run-before-requires : tie.Need-run-before-requires
 run-before-requires c κs =
-    let i = c .before .before in
+    let i = c .before .before .before .before in
     let s = i .before .before .before .before in
     let w : (wellFormed (s .args .t) && modelled (s .args .model)) ≡ true = sym (ap₂ _&&_ (i .before .before .well-formed .ensures) (i .before .modelled .ensures)) ∙ i .if1 .taken in
     (and-iff (same-iff {a = wellFormed (s .args .t)}) (same-iff {a = modelled (s .args .model)}) .0 w .0, refl, refl)
@@ -31,9 +37,9 @@ run-before-requires c κs =
 returns : tie.Need-returns
 returns c =
     let r = c .before .before in
-    let i = r .before .before .before in
+    let i = r .before .before .before .before .before in
     let s = i .before .before .before .before in
-    prior-some (s .args .t) (s .args .model) (s .args .supposed .now) (s .args .k) (s .args .x) (s .args .y) _ (sym (ap₂ _&&_ (i .before .before .well-formed .ensures) (i .before .modelled .ensures)) ∙ i .if1 .taken) (r .run-before .ensures)
+    prior-some (s .args .t) (s .args .model) (s .args .supposed .now) (s .args .k) (s .args .x) (s .args .y) _ (sym (ap₂ _&&_ (i .before .before .well-formed .ensures) (i .before .modelled .ensures)) ∙ i .if1 .taken) _ (r .before .before .before .before .kept-rows .ensures) (r .run-before .ensures)
 
 returns-2 : tie.Need-returns-2
 returns-2 c =
@@ -46,8 +52,10 @@ round-before-spec =
     (tie.spec
     well-formed-requires
     modelled-requires
+    kept-rows-requires
     slice-aggregate-run-before
     slice-aggregate-run-before-2
+    slice-aggregate-run-before-3
     run-before-requires
     returns
     returns-2)

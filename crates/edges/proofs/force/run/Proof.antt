@@ -14,19 +14,20 @@ use Rattle.trace.proofs.WellFormed.{form-iff}
 use Rattle.trace.proofs.Good.{good}
 use Rattle.rows.specs.Bounds.{CELLS}
 use Rattle.rows.specs.Rows.{bit}
-use Rattle.pairs.specs.Kept.{keptOf}
+use Rattle.rows.specs.Lent.{lentOf}
+use Rattle.rows.proofs.Lent.{lent-within}
 use Rattle.edges.specs.Supposed.{supposedOf}
 use Rattle.edges.specs.inner.RoundStep.{Closed}
-use Rattle.edges.proofs.LastRound.{kept-within, supposed-within, stayed, grown, fewer, turns, Stands, stands-first, stands-next, ended-circle, ended-last}
+use Rattle.edges.proofs.LastRound.{supposed-within, stayed, grown, fewer, turns, Stands, stands-first, stands-next, ended-circle, ended-last}
 use borrow.Author.Needs.{needs}
 use Rattle.edges.proofs.force.run.Statement.{statement}
 use Rattle.edges.proofs.force.run.Tie as tie
 
 abbrev Inv-loop : tie.InvT-loop
-Inv-loop t model supposed before₀ edges₀ chains₀ sources writers number₀ before edges chains number = (length chains ≡ CELLS) × (Stands (frameOf t) (keptOf model t) (supposedOf t supposed) number before edges) × (number ≤ pairs RECORDS (bit edges))
+Inv-loop t kept supposed before₀ edges₀ chains₀ sources writers number₀ before edges chains number = (length chains ≡ CELLS) × (Stands (frameOf t) (lentOf t kept) (supposedOf t supposed) number before edges) × (number ≤ pairs RECORDS (bit edges))
 
 abbrev μ-loop : tie.MeasureT-loop
-μ-loop t model supposed before₀ edges₀ chains₀ sources writers number₀ before edges chains number = RECORDS * RECORDS - pairs RECORDS (bit edges)
+μ-loop t kept supposed before₀ edges₀ chains₀ sources writers number₀ before edges chains number = RECORDS * RECORDS - pairs RECORDS (bit edges)
 
 slice-aggregate-draw-first : tie.Need-slice-aggregate-draw-first Inv-loop μ-loop
 slice-aggregate-draw-first c = refl
@@ -36,7 +37,7 @@ slice-aggregate-draw-first-2 c = refl
 
 draw-first-requires : tie.Need-draw-first-requires Inv-loop μ-loop
 draw-first-requires c κs =
-    let s = c .before .before .before .before .before .before .before in
+    let s = c .before .before .before .before .before .before .before .before in
     (s .pre .0, refl, refl, s .pre .2)
 
 clear-requires : tie.Need-clear-requires Inv-loop μ-loop
@@ -44,9 +45,9 @@ clear-requires c κs = search needs
 
 loop-holds : tie.Need-loop-holds Inv-loop μ-loop
 loop-holds c =
-    let s = c .before .before .before .before .before .before .before .before .before .before .before .before .before .before .before .before in
+    let s = c .before .before .before .before .before .before .before .before .before .before .before .before .before .before .before .before .before in
     let t = s .args .t in
-    (s .pre .3, stands-first (frameOf t) (keptOf (s .args .model) t) (supposedOf t (s .args .supposed .now)) _ _ _ _ (length (s .args .before .now)) (c .before .before .before .before .before .before .before .before .draw-first .ensures) (c .before .before .clear .ensures) (s .pre .1), omega arith)
+    (s .pre .3, stands-first (frameOf t) (lentOf t (s .args .kept .now)) (supposedOf t (s .args .supposed .now)) _ _ _ _ (length (s .args .before .now)) (c .before .before .before .before .before .before .before .before .draw-first .ensures) (c .before .before .clear .ensures) (s .pre .1), omega arith)
 
 close-requires : tie.Need-close-requires Inv-loop μ-loop
 close-requires c κs =
@@ -54,21 +55,21 @@ close-requires c κs =
     (l .inv .1 .edges-full .long, l .inv .0)
 
 same-length : tie.Need-same-length Inv-loop μ-loop
-same-length c = c .before .before .before .before .before .before .loop .inv .1 .before-full .long ∙ sym (c .before .before .before .before .before .before .before .before .before .before .before .before .before .before .before .before .before .before .before .before .before .before .before .pre .1)
+same-length c = c .before .before .before .before .before .before .loop .inv .1 .before-full .long ∙ sym (c .before .before .before .before .before .before .before .before .before .before .before .before .before .before .before .before .before .before .before .before .before .before .before .before .pre .1)
 
 same-length-2 : tie.Need-same-length-2 Inv-loop μ-loop
-same-length-2 c = c .before .before .before .before .before .before .loop .inv .1 .edges-full .long ∙ sym (c .before .before .before .before .before .before .before .before .before .before .before .before .before .before .before .before .before .before .before .before .before .before .before .pre .2)
+same-length-2 c = c .before .before .before .before .before .before .loop .inv .1 .edges-full .long ∙ sym (c .before .before .before .before .before .before .before .before .before .before .before .before .before .before .before .before .before .before .before .before .before .before .before .before .pre .2)
 
 same-length-3 : tie.Need-same-length-3 Inv-loop μ-loop
-same-length-3 c = c .before .before .before .close .ensures .full .long ∙ sym (c .before .before .before .before .before .before .before .before .before .before .before .before .before .before .before .before .before .before .before .before .before .before .before .pre .3)
+same-length-3 c = c .before .before .before .close .ensures .full .long ∙ sym (c .before .before .before .before .before .before .before .before .before .before .before .before .before .before .before .before .before .before .before .before .before .before .before .before .pre .3)
 
 returns : tie.Need-returns Inv-loop μ-loop
 returns c =
     let l = c .before .before .before .before .before .before in
-    let s = l .before .before .before .before .before .before .before .before .before .before .before .before .before .before .before .before .before in
+    let s = l .before .before .before .before .before .before .before .before .before .before .before .before .before .before .before .before .before .before in
     let t = s .args .t in
     let d : Closed (l .loop .edges) _ true = rw (c .if1 .taken) at (c .before .before .before .close .ensures) in
-    ended-circle (frameOf t) (keptOf (s .args .model) t) (supposedOf t (s .args .supposed .now)) (l .loop .number) _ _ _ (l .loop .inv .1) d
+    ended-circle (frameOf t) (lentOf t (s .args .kept .now)) (supposedOf t (s .args .supposed .now)) (l .loop .number) _ _ _ (l .loop .inv .1) d
 
 slice-aggregate-advance : tie.Need-slice-aggregate-advance Inv-loop μ-loop
 slice-aggregate-advance c = sym (c .before .before .before .before .before .before .before .before .before .before .before .before .before .before .before .before .draw-first .ensures .facts .sources-long)
@@ -80,22 +81,22 @@ advance-requires : tie.Need-advance-requires Inv-loop μ-loop
 advance-requires c κs =
     let h = c .before .before .before .before .before .before .before .before in
     let l = h .before .before .before in
-    let s = l .before .before .before .before .before .before .before .before .before .before .before .before .before .before .before .before .before in
+    let s = l .before .before .before .before .before .before .before .before .before .before .before .before .before .before .before .before .before .before in
     let now = l .loop .inv .1 in
     (form-iff (s .args .t) .0 (s .pre .0) .fits, l .before .before .before .before .before .before .before .before .before .draw-first .ensures .facts .sources-long, h .close .ensures .full .long, now .before-full .long, now .edges-full .long)
 
 same-length-4 : tie.Need-same-length-4 Inv-loop μ-loop
 same-length-4 c =
     let u = stayed (c .before .before .before .before .before .advance .ensures) (not-true _ (c .if2 .taken)) in
-    ap length (u .0) ∙ c .before .before .before .before .before .before .before .before .before .before .before .before .before .before .before .before .before .loop .inv .1 .before-full .long ∙ sym (c .before .before .before .before .before .before .before .before .before .before .before .before .before .before .before .before .before .before .before .before .before .before .before .before .before .before .before .before .before .before .before .before .before .before .pre .1)
+    ap length (u .0) ∙ c .before .before .before .before .before .before .before .before .before .before .before .before .before .before .before .before .before .loop .inv .1 .before-full .long ∙ sym (c .before .before .before .before .before .before .before .before .before .before .before .before .before .before .before .before .before .before .before .before .before .before .before .before .before .before .before .before .before .before .before .before .before .before .before .pre .1)
 
 same-length-5 : tie.Need-same-length-5 Inv-loop μ-loop
 same-length-5 c =
     let u = stayed (c .before .before .before .before .before .advance .ensures) (not-true _ (c .if2 .taken)) in
-    ap length (u .1) ∙ c .before .before .before .before .before .before .before .before .before .before .before .before .before .before .before .before .before .loop .inv .1 .edges-full .long ∙ sym (c .before .before .before .before .before .before .before .before .before .before .before .before .before .before .before .before .before .before .before .before .before .before .before .before .before .before .before .before .before .before .before .before .before .before .pre .2)
+    ap length (u .1) ∙ c .before .before .before .before .before .before .before .before .before .before .before .before .before .before .before .before .before .loop .inv .1 .edges-full .long ∙ sym (c .before .before .before .before .before .before .before .before .before .before .before .before .before .before .before .before .before .before .before .before .before .before .before .before .before .before .before .before .before .before .before .before .before .before .before .pre .2)
 
 same-length-6 : tie.Need-same-length-6 Inv-loop μ-loop
-same-length-6 c = c .before .before .before .before .before .before .before .before .before .before .before .before .before .before .close .ensures .full .long ∙ sym (c .before .before .before .before .before .before .before .before .before .before .before .before .before .before .before .before .before .before .before .before .before .before .before .before .before .before .before .before .before .before .before .before .before .before .pre .3)
+same-length-6 c = c .before .before .before .before .before .before .before .before .before .before .before .before .before .before .close .ensures .full .long ∙ sym (c .before .before .before .before .before .before .before .before .before .before .before .before .before .before .before .before .before .before .before .before .before .before .before .before .before .before .before .before .before .before .before .before .before .before .before .pre .3)
 
 returns-2 : tie.Need-returns-2 Inv-loop μ-loop
 unfolding frameOf
@@ -103,14 +104,14 @@ returns-2 c =
     let a = c .before .before .before .before .before in
     let h = a .before .before .before .before .before .before .before .before .before in
     let l = h .before .before .before in
-    let s = l .before .before .before .before .before .before .before .before .before .before .before .before .before .before .before .before .before in
+    let s = l .before .before .before .before .before .before .before .before .before .before .before .before .before .before .before .before .before .before in
     let t = s .args .t in
     let now = l .loop .inv in
     let u = stayed (a .advance .ensures) (not-true _ (c .if2 .taken)) in
     let d : Closed (l .loop .edges) _ false = rw (a .before .before .before .before .before .before .if1 .left) at (h .close .ensures) in
     rw (u .0, u .1)
-    (ended-last (frameOf t) (keptOf (s .args .model) t) (supposedOf t (s .args .supposed .now)) (l .loop .number) _ _ _ (now .1) (good t (s .pre .0)) (form-iff t .0 (s .pre .0) .fits)
-    (kept-within (s .args .model) t (s .pre .0)) (supposed-within t (s .args .supposed .now) (s .pre .0)) _ _ (l .before .before .before .before .before .before .before .before .before .draw-first .ensures .facts) d (u .2))
+    (ended-last (frameOf t) (lentOf t (s .args .kept .now)) (supposedOf t (s .args .supposed .now)) (l .loop .number) _ _ _ (now .1) (good t (s .pre .0)) (form-iff t .0 (s .pre .0) .fits)
+    (lent-within t (s .args .kept .now) (s .pre .0)) (supposed-within t (s .args .supposed .now) (s .pre .0)) _ _ (l .before .before .before .before .before .before .before .before .before .draw-first .ensures .facts) d (u .2))
 
 add-number : tie.Need-add-number Inv-loop μ-loop
 add-number c =
@@ -130,15 +131,15 @@ loop-again c =
     let a = c .before .before .before .before .before in
     let h = a .before .before .before .before .before .before .before .before .before in
     let l = h .before .before .before in
-    let s = l .before .before .before .before .before .before .before .before .before .before .before .before .before .before .before .before .before in
+    let s = l .before .before .before .before .before .before .before .before .before .before .before .before .before .before .before .before .before .before in
     let t = s .args .t in
     let now = l .loop .inv in
     let u = grown (a .advance .ensures) (not-false _ (c .if2 .left)) in
     let d : Closed (l .loop .edges) _ false = rw (a .before .before .before .before .before .before .if1 .left) at (h .close .ensures) in (
       h .close .ensures .full .long,
       rw add-one
-          (stands-next (frameOf t) (keptOf (s .args .model) t) (supposedOf t (s .args .supposed .now)) (l .loop .number) _ _ _ (now .1) (good t (s .pre .0)) (form-iff t .0 (s .pre .0) .fits)
-          (kept-within (s .args .model) t (s .pre .0)) (supposed-within t (s .args .supposed .now) (s .pre .0)) _ _ (l .before .before .before .before .before .before .before .before .before .draw-first .ensures .facts) d _ _ (u .0) (u .1) (u .2)),
+          (stands-next (frameOf t) (lentOf t (s .args .kept .now)) (supposedOf t (s .args .supposed .now)) (l .loop .number) _ _ _ (now .1) (good t (s .pre .0)) (form-iff t .0 (s .pre .0) .fits)
+          (lent-within t (s .args .kept .now) (s .pre .0)) (supposed-within t (s .args .supposed .now) (s .pre .0)) _ _ (l .before .before .before .before .before .before .before .before .before .draw-first .ensures .facts) d _ _ (u .0) (u .1) (u .2)),
       rw add-one (turns (l .loop .number) (l .loop .edges) _ _ (now .1 .edges-full) (u .1) (u .2) (now .2)),
     )
 

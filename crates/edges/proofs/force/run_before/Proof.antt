@@ -14,10 +14,11 @@ use Rattle.rules.specs.Rules.{Edge}
 use Rattle.rows.specs.Bounds.{CELLS}
 use Rattle.rows.specs.Rows.{bit}
 use Rattle.rows.proofs.Whole.{copy-same}
-use Rattle.pairs.specs.Kept.{keptOf}
+use Rattle.rows.specs.Lent.{lentOf}
+use Rattle.rows.proofs.Lent.{lent-within}
 use Rattle.edges.specs.Supposed.{supposedOf}
 use Rattle.edges.specs.inner.RoundStep.{Closed}
-use Rattle.edges.proofs.LastRound.{kept-within, supposed-within, grown}
+use Rattle.edges.proofs.LastRound.{supposed-within, grown}
 use Rattle.edges.proofs.RoundBefore.{Nears, nears-first, nears-next, prior-here, prior-still, stays-last, next-full, next-has}
 use borrow.Author.Needs.{needs}
 use Rattle.edges.proofs.force.run_before.Statement.{statement}
@@ -31,10 +32,10 @@ use Rattle.rows.proofs.copy.Reads as copy-reads
 use Rattle.rows.proofs.test.Reads as test-reads
 
 abbrev Inv-loop : tie.InvT-loop
-Inv-loop t model supposed k x y edges₀ chains₀ sources writers before₀ next₀ number₀ edges chains before next number = (length edges ≡ CELLS) × (length chains ≡ CELLS) × (length before ≡ CELLS) × (number ≤ k - 1) × Nears (frameOf t) (keptOf model t) (supposedOf t supposed) k x y number next
+Inv-loop t kept supposed k x y edges₀ chains₀ sources writers before₀ next₀ number₀ edges chains before next number = (length edges ≡ CELLS) × (length chains ≡ CELLS) × (length before ≡ CELLS) × (number ≤ k - 1) × Nears (frameOf t) (lentOf t kept) (supposedOf t supposed) k x y number next
 
 abbrev μ-loop : tie.MeasureT-loop
-μ-loop t model supposed k x y edges₀ chains₀ sources writers before₀ next₀ number₀ edges chains before next number = k - number
+μ-loop t kept supposed k x y edges₀ chains₀ sources writers before₀ next₀ number₀ edges chains before next number = k - number
 
 slice-aggregate-draw-first : tie.Need-slice-aggregate-draw-first Inv-loop μ-loop
 slice-aggregate-draw-first c = refl
@@ -46,12 +47,12 @@ slice-aggregate-draw-first-3 : tie.Need-slice-aggregate-draw-first-3 Inv-loop μ
 slice-aggregate-draw-first-3 c = refl
 
 draw-first-requires : tie.Need-draw-first-requires Inv-loop μ-loop
-draw-first-requires c κs = (c .before .before .before .before .before .before .pre .0, refl, refl, refl)
+draw-first-requires c κs = (c .before .before .before .before .before .before .before .pre .0, refl, refl, refl)
 
 loop-holds : tie.Need-loop-holds Inv-loop μ-loop
 loop-holds c =
-    let s = c .before .before .before .before .before .before .before .before .before .before in
-    (s .pre .1, s .pre .2, refl, omega arith, nears-first (frameOf (s .args .t)) (keptOf (s .args .model) (s .args .t)) (supposedOf (s .args .t) (s .args .supposed .now)) (s .args .k) (s .args .x) (s .args .y) _ _ _ (c .before .before .before .draw-first .ensures))
+    let s = c .before .before .before .before .before .before .before .before .before .before .before in
+    (s .pre .1, s .pre .2, refl, omega arith, nears-first (frameOf (s .args .t)) (lentOf (s .args .t) (s .args .kept .now)) (supposedOf (s .args .t) (s .args .supposed .now)) (s .args .k) (s .args .x) (s .args .y) _ _ _ (c .before .before .before .draw-first .ensures))
 
 slice-aggregate-copy : tie.Need-slice-aggregate-copy Inv-loop μ-loop
 slice-aggregate-copy c = sym (c .before .loop .inv .4 .full .long)
@@ -63,7 +64,7 @@ close-requires : tie.Need-close-requires Inv-loop μ-loop
 close-requires c κs =
     let cp = c .before .before .before .before in
     let l = c .before .before .before .before .before .before .before in
-    let s = l .before .before .before .before .before .before .before .before .before .before .before in
+    let s = l .before .before .before .before .before .before .before .before .before .before .before .before in
     let q = cp .copy .ensures ∙ copy-same (l .loop .next) (l .loop .edges) (l .loop .inv .4 .full .long ∙ sym (l .loop .inv .0)) in
     (ap length q ∙ l .loop .inv .4 .full .long, l .loop .inv .1)
 
@@ -74,22 +75,22 @@ same-length : tie.Need-same-length Inv-loop μ-loop
 same-length c =
     let cp = c .before .before .before .before .before .before .before .before in
     let l = c .before .before .before .before .before .before .before .before .before .before .before in
-    let s = l .before .before .before .before .before .before .before .before .before .before .before in
+    let s = l .before .before .before .before .before .before .before .before .before .before .before .before in
     let q = cp .copy .ensures ∙ copy-same (l .loop .next) (l .loop .edges) (l .loop .inv .4 .full .long ∙ sym (l .loop .inv .0)) in
     ap length q ∙ l .loop .inv .4 .full .long ∙ sym (s .pre .1)
 
 same-length-2 : tie.Need-same-length-2 Inv-loop μ-loop
-same-length-2 c = c .before .before .before .close .ensures .full .long ∙ sym (c .before .before .before .before .before .before .before .before .before .before .before .before .before .before .before .before .before .before .before .before .before .before .pre .2)
+same-length-2 c = c .before .before .before .close .ensures .full .long ∙ sym (c .before .before .before .before .before .before .before .before .before .before .before .before .before .before .before .before .before .before .before .before .before .before .before .pre .2)
 
 returns : tie.Need-returns Inv-loop μ-loop
 returns c =
     let cp = c .before .before .before .before .before .before .before .before in
     let cl = c .before .before .before in
     let l = c .before .before .before .before .before .before .before .before .before .before .before in
-    let s = l .before .before .before .before .before .before .before .before .before .before .before in
+    let s = l .before .before .before .before .before .before .before .before .before .before .before .before in
     let q = cp .copy .ensures ∙ copy-same (l .loop .next) (l .loop .edges) (l .loop .inv .4 .full .long ∙ sym (l .loop .inv .0)) in
     let d : Closed (l .loop .next) _ _ = rw q at (cl .close .ensures) in
-    rw q (prior-here (frameOf (s .args .t)) (keptOf (s .args .model) (s .args .t)) (supposedOf (s .args .t) (s .args .supposed .now)) (s .args .k) (s .args .x) (s .args .y) (l .loop .number) (l .loop .next) _ _ (l .loop .inv .4) d (inl (omega (arith, c .if1 .taken))))
+    rw q (prior-here (frameOf (s .args .t)) (lentOf (s .args .t) (s .args .kept .now)) (supposedOf (s .args .t) (s .args .supposed .now)) (s .args .k) (s .args .x) (s .args .y) (l .loop .number) (l .loop .next) _ _ (l .loop .inv .4) d (inl (omega (arith, c .if1 .taken))))
 
 slice-aggregate-advance : tie.Need-slice-aggregate-advance Inv-loop μ-loop
 slice-aggregate-advance c = sym (c .before .before .before .before .before .before .before .before .before .before .before .before .before .before .before .before .draw-first .ensures .facts .sources-long)
@@ -106,7 +107,7 @@ slice-aggregate-advance-4 c = sym (c .before .before .before .before .before .be
 advance-requires : tie.Need-advance-requires Inv-loop μ-loop
 advance-requires c κs =
     let l = c .before .before .before .before .before .before .before .before .before .before .before .before .before .before .before .before in
-    let s = l .before .before .before .before .before .before .before .before .before .before .before in
+    let s = l .before .before .before .before .before .before .before .before .before .before .before .before in
     (form-iff (s .args .t) .0 (s .pre .0) .fits, c .before .before .before .before .before .before .before .before .before .before .before .before .before .before .before .before .before .before .before .before .draw-first .ensures .facts .sources-long, c .before .before .before .before .before .before .before .before .close .ensures .full .long, l .loop .inv .2, l .loop .inv .4 .full .long)
 
 slice-aggregate-test : tie.Need-slice-aggregate-test Inv-loop μ-loop
@@ -117,10 +118,10 @@ slice-aggregate-test c =
     let cp = ad .before .before .before .before .before .before .before .before .before .before .before .before .before .before in
     let l = ad .before .before .before .before .before .before .before .before .before .before .before .before .before .before .before .before .before in
     let df = l .before .before .before .before in
-    let s = l .before .before .before .before .before .before .before .before .before .before .before in
+    let s = l .before .before .before .before .before .before .before .before .before .before .before .before in
     let q = cp .copy .ensures ∙ copy-same (l .loop .next) (l .loop .edges) (l .loop .inv .4 .full .long ∙ sym (l .loop .inv .0)) in
     let d : Closed (l .loop .next) _ _ = rw q at (cl .close .ensures) in
-    sym (next-full (frameOf (s .args .t)) (keptOf (s .args .model) (s .args .t)) (supposedOf (s .args .t) (s .args .supposed .now)) (s .args .k) (s .args .x) (s .args .y) (l .loop .number) (l .loop .next) _ _ (l .loop .inv .4) d (good (s .args .t) (s .pre .0)) (form-iff (s .args .t) .0 (s .pre .0) .fits) (kept-within (s .args .model) (s .args .t) (s .pre .0)) (supposed-within (s .args .t) (s .args .supposed .now) (s .pre .0)) _ _ (df .draw-first .ensures .facts) (ad .advance .ensures) .long)
+    sym (next-full (frameOf (s .args .t)) (lentOf (s .args .t) (s .args .kept .now)) (supposedOf (s .args .t) (s .args .supposed .now)) (s .args .k) (s .args .x) (s .args .y) (l .loop .number) (l .loop .next) _ _ (l .loop .inv .4) d (good (s .args .t) (s .pre .0)) (form-iff (s .args .t) .0 (s .pre .0) .fits) (lent-within (s .args .t) (s .args .kept .now) (s .pre .0)) (supposed-within (s .args .t) (s .args .supposed .now) (s .pre .0)) _ _ (df .draw-first .ensures .facts) (ad .advance .ensures) .long)
 
 test-requires : tie.Need-test-requires Inv-loop μ-loop
 test-requires c κs = search needs
@@ -129,12 +130,12 @@ same-length-3 : tie.Need-same-length-3 Inv-loop μ-loop
 same-length-3 c =
     let cp = c .before .before .before .before .before .before .before .before .before .before .before .before .before .before .before .before .before .before .before in
     let l = c .before .before .before .before .before .before .before .before .before .before .before .before .before .before .before .before .before .before .before .before .before .before in
-    let s = l .before .before .before .before .before .before .before .before .before .before .before in
+    let s = l .before .before .before .before .before .before .before .before .before .before .before .before in
     let q = cp .copy .ensures ∙ copy-same (l .loop .next) (l .loop .edges) (l .loop .inv .4 .full .long ∙ sym (l .loop .inv .0)) in
     ap length q ∙ l .loop .inv .4 .full .long ∙ sym (s .pre .1)
 
 same-length-4 : tie.Need-same-length-4 Inv-loop μ-loop
-same-length-4 c = c .before .before .before .before .before .before .before .before .before .before .before .before .before .before .close .ensures .full .long ∙ sym (c .before .before .before .before .before .before .before .before .before .before .before .before .before .before .before .before .before .before .before .before .before .before .before .before .before .before .before .before .before .before .before .before .before .pre .2)
+same-length-4 c = c .before .before .before .before .before .before .before .before .before .before .before .before .before .before .close .ensures .full .long ∙ sym (c .before .before .before .before .before .before .before .before .before .before .before .before .before .before .before .before .before .before .before .before .before .before .before .before .before .before .before .before .before .before .before .before .before .before .pre .2)
 
 returns-2 : tie.Need-returns-2 Inv-loop μ-loop
 unfolding frameOf
@@ -144,10 +145,10 @@ returns-2 c =
     let cp = ad .before .before .before .before .before .before .before .before .before .before .before .before .before .before in
     let l = ad .before .before .before .before .before .before .before .before .before .before .before .before .before .before .before .before .before in
     let df = l .before .before .before .before in
-    let s = l .before .before .before .before .before .before .before .before .before .before .before in
+    let s = l .before .before .before .before .before .before .before .before .before .before .before .before in
     let q = cp .copy .ensures ∙ copy-same (l .loop .next) (l .loop .edges) (l .loop .inv .4 .full .long ∙ sym (l .loop .inv .0)) in
     let d : Closed (l .loop .next) _ _ = rw q at (cl .close .ensures) in
-    rw q (prior-here (frameOf (s .args .t)) (keptOf (s .args .model) (s .args .t)) (supposedOf (s .args .t) (s .args .supposed .now)) (s .args .k) (s .args .x) (s .args .y) (l .loop .number) (l .loop .next) _ _ (l .loop .inv .4) d (inr (next-has (frameOf (s .args .t)) (keptOf (s .args .model) (s .args .t)) (supposedOf (s .args .t) (s .args .supposed .now)) (s .args .k) (s .args .x) (s .args .y) (l .loop .number) (l .loop .next) _ _ (l .loop .inv .4) d (good (s .args .t) (s .pre .0)) (form-iff (s .args .t) .0 (s .pre .0) .fits) (kept-within (s .args .model) (s .args .t) (s .pre .0)) (supposed-within (s .args .t) (s .args .supposed .now) (s .pre .0)) _ _ (df .draw-first .ensures .facts) (ad .advance .ensures) (s .args .x) (s .args .y) .0 (sym (c .before .test .ensures) ∙ c .if2 .taken))))
+    rw q (prior-here (frameOf (s .args .t)) (lentOf (s .args .t) (s .args .kept .now)) (supposedOf (s .args .t) (s .args .supposed .now)) (s .args .k) (s .args .x) (s .args .y) (l .loop .number) (l .loop .next) _ _ (l .loop .inv .4) d (inr (next-has (frameOf (s .args .t)) (lentOf (s .args .t) (s .args .kept .now)) (supposedOf (s .args .t) (s .args .supposed .now)) (s .args .k) (s .args .x) (s .args .y) (l .loop .number) (l .loop .next) _ _ (l .loop .inv .4) d (good (s .args .t) (s .pre .0)) (form-iff (s .args .t) .0 (s .pre .0) .fits) (lent-within (s .args .t) (s .args .kept .now) (s .pre .0)) (supposed-within (s .args .t) (s .args .supposed .now) (s .pre .0)) _ _ (df .draw-first .ensures .facts) (ad .advance .ensures) (s .args .x) (s .args .y) .0 (sym (c .before .test .ensures) ∙ c .if2 .taken))))
 
 sub-result : tie.Need-sub-result Inv-loop μ-loop
 sub-result c = omega arith
@@ -156,12 +157,12 @@ same-length-5 : tie.Need-same-length-5 Inv-loop μ-loop
 same-length-5 c =
     let cp = c .before .before .before .before .before .before .before .before .before .before .before .before .before .before .before .before .before .before .before .before in
     let l = c .before .before .before .before .before .before .before .before .before .before .before .before .before .before .before .before .before .before .before .before .before .before .before in
-    let s = l .before .before .before .before .before .before .before .before .before .before .before in
+    let s = l .before .before .before .before .before .before .before .before .before .before .before .before in
     let q = cp .copy .ensures ∙ copy-same (l .loop .next) (l .loop .edges) (l .loop .inv .4 .full .long ∙ sym (l .loop .inv .0)) in
     ap length q ∙ l .loop .inv .4 .full .long ∙ sym (s .pre .1)
 
 same-length-6 : tie.Need-same-length-6 Inv-loop μ-loop
-same-length-6 c = c .before .before .before .before .before .before .before .before .before .before .before .before .before .before .before .close .ensures .full .long ∙ sym (c .before .before .before .before .before .before .before .before .before .before .before .before .before .before .before .before .before .before .before .before .before .before .before .before .before .before .before .before .before .before .before .before .before .before .pre .2)
+same-length-6 c = c .before .before .before .before .before .before .before .before .before .before .before .before .before .before .before .close .ensures .full .long ∙ sym (c .before .before .before .before .before .before .before .before .before .before .before .before .before .before .before .before .before .before .before .before .before .before .before .before .before .before .before .before .before .before .before .before .before .before .before .pre .2)
 
 returns-3 : tie.Need-returns-3 Inv-loop μ-loop
 unfolding frameOf
@@ -171,14 +172,14 @@ returns-3 c =
     let cp = ad .before .before .before .before .before .before .before .before .before .before .before .before .before .before in
     let l = ad .before .before .before .before .before .before .before .before .before .before .before .before .before .before .before .before .before in
     let df = l .before .before .before .before in
-    let s = l .before .before .before .before .before .before .before .before .before .before .before in
+    let s = l .before .before .before .before .before .before .before .before .before .before .before .before in
     let q = cp .copy .ensures ∙ copy-same (l .loop .next) (l .loop .edges) (l .loop .inv .4 .full .long ∙ sym (l .loop .inv .0)) in
     let d : Closed (l .loop .next) _ _ = rw q at (cl .close .ensures) in
-    let out : Edge (frameOf (s .args .t)) (keptOf (s .args .model) (s .args .t)) (supposedOf (s .args .t) (s .args .supposed .now)) (suc (l .loop .number)) (s .args .x) (s .args .y) → ⊥ = λ u. false≢true (sym (sym (c .before .before .test .ensures) ∙ c .before .if2 .left) ∙ next-has (frameOf (s .args .t)) (keptOf (s .args .model) (s .args .t)) (supposedOf (s .args .t) (s .args .supposed .now)) (s .args .k) (s .args .x) (s .args .y) (l .loop .number) (l .loop .next) _ _ (l .loop .inv .4) d (good (s .args .t) (s .pre .0)) (form-iff (s .args .t) .0 (s .pre .0) .fits) (kept-within (s .args .model) (s .args .t) (s .pre .0)) (supposed-within (s .args .t) (s .args .supposed .now) (s .pre .0)) _ _ (df .draw-first .ensures .facts) (ad .advance .ensures) (s .args .x) (s .args .y) .1 u) in
-    rw q (prior-still (frameOf (s .args .t)) (keptOf (s .args .model) (s .args .t)) (supposedOf (s .args .t) (s .args .supposed .now)) (s .args .k) (s .args .x) (s .args .y) (l .loop .number) (l .loop .next) _ _ (l .loop .inv .4) d (omega (arith, c .before .before .before .before .before .before .before .before .before .before .before .before .if1 .left)) out (stays-last (frameOf (s .args .t)) (keptOf (s .args .model) (s .args .t)) (supposedOf (s .args .t) (s .args .supposed .now)) (s .args .k) (s .args .x) (s .args .y) (l .loop .number) (l .loop .next) _ _ (l .loop .inv .4) d (good (s .args .t) (s .pre .0)) (form-iff (s .args .t) .0 (s .pre .0) .fits) (kept-within (s .args .model) (s .args .t) (s .pre .0)) (supposed-within (s .args .t) (s .args .supposed .now) (s .pre .0)) _ _ (df .draw-first .ensures .facts) (ad .advance .ensures) (not-true _ (c .if3 .taken))))
+    let out : Edge (frameOf (s .args .t)) (lentOf (s .args .t) (s .args .kept .now)) (supposedOf (s .args .t) (s .args .supposed .now)) (suc (l .loop .number)) (s .args .x) (s .args .y) → ⊥ = λ u. false≢true (sym (sym (c .before .before .test .ensures) ∙ c .before .if2 .left) ∙ next-has (frameOf (s .args .t)) (lentOf (s .args .t) (s .args .kept .now)) (supposedOf (s .args .t) (s .args .supposed .now)) (s .args .k) (s .args .x) (s .args .y) (l .loop .number) (l .loop .next) _ _ (l .loop .inv .4) d (good (s .args .t) (s .pre .0)) (form-iff (s .args .t) .0 (s .pre .0) .fits) (lent-within (s .args .t) (s .args .kept .now) (s .pre .0)) (supposed-within (s .args .t) (s .args .supposed .now) (s .pre .0)) _ _ (df .draw-first .ensures .facts) (ad .advance .ensures) (s .args .x) (s .args .y) .1 u) in
+    rw q (prior-still (frameOf (s .args .t)) (lentOf (s .args .t) (s .args .kept .now)) (supposedOf (s .args .t) (s .args .supposed .now)) (s .args .k) (s .args .x) (s .args .y) (l .loop .number) (l .loop .next) _ _ (l .loop .inv .4) d (omega (arith, c .before .before .before .before .before .before .before .before .before .before .before .before .if1 .left)) out (stays-last (frameOf (s .args .t)) (lentOf (s .args .t) (s .args .kept .now)) (supposedOf (s .args .t) (s .args .supposed .now)) (s .args .k) (s .args .x) (s .args .y) (l .loop .number) (l .loop .next) _ _ (l .loop .inv .4) d (good (s .args .t) (s .pre .0)) (form-iff (s .args .t) .0 (s .pre .0) .fits) (lent-within (s .args .t) (s .args .kept .now) (s .pre .0)) (supposed-within (s .args .t) (s .args .supposed .now) (s .pre .0)) _ _ (df .draw-first .ensures .facts) (ad .advance .ensures) (not-true _ (c .if3 .taken))))
 
 add-number : tie.Need-add-number Inv-loop μ-loop
-add-number c = omega (arith, c .before .before .before .before .before .before .before .before .before .before .before .before .if1 .left, c .before .before .before .before .before .before .before .before .before .before .before .before .before .before .before .before .before .before .before .before .before .before .before .before .before .before .before .before .before .before .before .before .before .before .fits)
+add-number c = omega (arith, c .before .before .before .before .before .before .before .before .before .before .before .before .if1 .left, c .before .before .before .before .before .before .before .before .before .before .before .before .before .before .before .before .before .before .before .before .before .before .before .before .before .before .before .before .before .before .before .before .before .before .before .fits)
 
 loop-less : tie.Need-loop-less Inv-loop μ-loop
 loop-less c = omega (arith, c .before .before .before .before .before .before .before .before .before .before .before .before .if1 .left)
@@ -191,16 +192,16 @@ loop-again c =
     let cp = ad .before .before .before .before .before .before .before .before .before .before .before .before .before .before in
     let l = ad .before .before .before .before .before .before .before .before .before .before .before .before .before .before .before .before .before in
     let df = l .before .before .before .before in
-    let s = l .before .before .before .before .before .before .before .before .before .before .before in
+    let s = l .before .before .before .before .before .before .before .before .before .before .before .before in
     let q = cp .copy .ensures ∙ copy-same (l .loop .next) (l .loop .edges) (l .loop .inv .4 .full .long ∙ sym (l .loop .inv .0)) in
     let d : Closed (l .loop .next) _ _ = rw q at (cl .close .ensures) in
-    let out : Edge (frameOf (s .args .t)) (keptOf (s .args .model) (s .args .t)) (supposedOf (s .args .t) (s .args .supposed .now)) (suc (l .loop .number)) (s .args .x) (s .args .y) → ⊥ = λ u. false≢true (sym (sym (c .before .before .test .ensures) ∙ c .before .if2 .left) ∙ next-has (frameOf (s .args .t)) (keptOf (s .args .model) (s .args .t)) (supposedOf (s .args .t) (s .args .supposed .now)) (s .args .k) (s .args .x) (s .args .y) (l .loop .number) (l .loop .next) _ _ (l .loop .inv .4) d (good (s .args .t) (s .pre .0)) (form-iff (s .args .t) .0 (s .pre .0) .fits) (kept-within (s .args .model) (s .args .t) (s .pre .0)) (supposed-within (s .args .t) (s .args .supposed .now) (s .pre .0)) _ _ (df .draw-first .ensures .facts) (ad .advance .ensures) (s .args .x) (s .args .y) .1 u) in
+    let out : Edge (frameOf (s .args .t)) (lentOf (s .args .t) (s .args .kept .now)) (supposedOf (s .args .t) (s .args .supposed .now)) (suc (l .loop .number)) (s .args .x) (s .args .y) → ⊥ = λ u. false≢true (sym (sym (c .before .before .test .ensures) ∙ c .before .if2 .left) ∙ next-has (frameOf (s .args .t)) (lentOf (s .args .t) (s .args .kept .now)) (supposedOf (s .args .t) (s .args .supposed .now)) (s .args .k) (s .args .x) (s .args .y) (l .loop .number) (l .loop .next) _ _ (l .loop .inv .4) d (good (s .args .t) (s .pre .0)) (form-iff (s .args .t) .0 (s .pre .0) .fits) (lent-within (s .args .t) (s .args .kept .now) (s .pre .0)) (supposed-within (s .args .t) (s .args .supposed .now) (s .pre .0)) _ _ (df .draw-first .ensures .facts) (ad .advance .ensures) (s .args .x) (s .args .y) .1 u) in
     let more = c .before .before .before .before .before .before .before .before .before .before .before .before .if1 .left in (
       ap length q ∙ l .loop .inv .4 .full .long,
       cl .close .ensures .full .long,
       ap length (grown (ad .advance .ensures) (not-false _ (c .if3 .left)) .0) ∙ cl .close .ensures .full .long,
       omega arith,
-      rw add-one (nears-next (frameOf (s .args .t)) (keptOf (s .args .model) (s .args .t)) (supposedOf (s .args .t) (s .args .supposed .now)) (s .args .k) (s .args .x) (s .args .y) (l .loop .number) (l .loop .next) _ _ (l .loop .inv .4) d _ (omega arith) out (next-full (frameOf (s .args .t)) (keptOf (s .args .model) (s .args .t)) (supposedOf (s .args .t) (s .args .supposed .now)) (s .args .k) (s .args .x) (s .args .y) (l .loop .number) (l .loop .next) _ _ (l .loop .inv .4) d (good (s .args .t) (s .pre .0)) (form-iff (s .args .t) .0 (s .pre .0) .fits) (kept-within (s .args .model) (s .args .t) (s .pre .0)) (supposed-within (s .args .t) (s .args .supposed .now) (s .pre .0)) _ _ (df .draw-first .ensures .facts) (ad .advance .ensures)) (next-has (frameOf (s .args .t)) (keptOf (s .args .model) (s .args .t)) (supposedOf (s .args .t) (s .args .supposed .now)) (s .args .k) (s .args .x) (s .args .y) (l .loop .number) (l .loop .next) _ _ (l .loop .inv .4) d (good (s .args .t) (s .pre .0)) (form-iff (s .args .t) .0 (s .pre .0) .fits) (kept-within (s .args .model) (s .args .t) (s .pre .0)) (supposed-within (s .args .t) (s .args .supposed .now) (s .pre .0)) _ _ (df .draw-first .ensures .facts) (ad .advance .ensures))),
+      rw add-one (nears-next (frameOf (s .args .t)) (lentOf (s .args .t) (s .args .kept .now)) (supposedOf (s .args .t) (s .args .supposed .now)) (s .args .k) (s .args .x) (s .args .y) (l .loop .number) (l .loop .next) _ _ (l .loop .inv .4) d _ (omega arith) out (next-full (frameOf (s .args .t)) (lentOf (s .args .t) (s .args .kept .now)) (supposedOf (s .args .t) (s .args .supposed .now)) (s .args .k) (s .args .x) (s .args .y) (l .loop .number) (l .loop .next) _ _ (l .loop .inv .4) d (good (s .args .t) (s .pre .0)) (form-iff (s .args .t) .0 (s .pre .0) .fits) (lent-within (s .args .t) (s .args .kept .now) (s .pre .0)) (supposed-within (s .args .t) (s .args .supposed .now) (s .pre .0)) _ _ (df .draw-first .ensures .facts) (ad .advance .ensures)) (next-has (frameOf (s .args .t)) (lentOf (s .args .t) (s .args .kept .now)) (supposedOf (s .args .t) (s .args .supposed .now)) (s .args .k) (s .args .x) (s .args .y) (l .loop .number) (l .loop .next) _ _ (l .loop .inv .4) d (good (s .args .t) (s .pre .0)) (form-iff (s .args .t) .0 (s .pre .0) .fits) (lent-within (s .args .t) (s .args .kept .now) (s .pre .0)) (supposed-within (s .args .t) (s .args .supposed .now) (s .pre .0)) _ _ (df .draw-first .ensures .facts) (ad .advance .ensures))),
     )
 
 pub run-before-spec : {M : Type 1} → statement M

@@ -1,153 +1,46 @@
--- `search::first::first_order`: where nothing is to be answered, the edges contradict each other or a source is missing, there is no order.
-use mathlib.Core.Path.{refl, sym, ap₂, _∙_, subst}
-use mathlib.Core.Bool.{Bool, So, _&&_, false≢true}
+-- `search::first::first_order`: the first order by the rows of the model's kept pairs.
+use mathlib.Core.Path.{sym, _∙_}
 use borrow.Author.Needs.{needs}
-use borrow.Author.Tests.{not-true, not-false}
-use Rattle.laws.specs.Dict.{Least}
-use Rattle.laws.proofs.Tests.{and-iff, same-iff}
-use Rattle.trace.specs.Meaning.{frameOf}
-use Rattle.rules.specs.Order.{Valid}
-use Rattle.trace.specs.WellFormed.{wellFormed}
-use Rattle.pairs.specs.Kept.{modelled, keptOf}
-use Rattle.edges.specs.ForcedPairs.{answered}
-use Rattle.pairs.proofs.ValidOrders.{well-fits}
-use Rattle.rules.proofs.Says.{missing-none}
-use Rattle.search.specs.inner.SearchBelow.{followsAs}
-use Rattle.search.proofs.Guiding.{held-guided, refuted-none}
-use Rattle.search.proofs.FirstOrder.{empty-rest, first-none, first-some, counted-fits}
+use Rattle.search.proofs.FirstOrder.{first-model, first-kept}
 use Rattle.search.proofs.first.first_order.Statement.{statement}
 use Rattle.search.proofs.first.first_order.Tie as tie
-
-well-formed-requires : tie.Need-well-formed-requires
-well-formed-requires c κs = search needs
 
 modelled-requires : tie.Need-modelled-requires
 modelled-requires c κs = search needs
 
+kept-rows-requires : tie.Need-kept-rows-requires
+kept-rows-requires c κs = search needs
+
+slice-aggregate-first-order-by : tie.Need-slice-aggregate-first-order-by
+slice-aggregate-first-order-by c = search needs
+
+first-order-by-requires : tie.Need-first-order-by-requires
+first-order-by-requires c κs = search needs
+
+returns : tie.Need-returns
+returns c =
+    let k = c .before .before in
+    let m = k .before .before in
+    let s = m .before in
+    first-kept (s .args .t) (s .args .model) _ (sym (m .modelled .ensures) ∙ k .before .if1 .taken) _ (k .kept-rows .ensures) (c .first-order-by .ensures)
+
 nothing-requires : tie.Need-nothing-requires
 nothing-requires c κs = search needs
 
-returns : tie.Need-returns
-returns c = let s = c .before .before .before .before in
-    let e = ap₂ _&&_ (c .before .before .before .well-formed .ensures) (c .before .before .modelled .ensures) in
-    first-none (s .args .t) (s .args .model) (c .nothing .result) (c .nothing .ensures) (λ a. absurd (false≢true (sym (not-true _ (c .before .if1 .taken)) ∙ e ∙ a)))
-
-slice-aggregate-forced : tie.Need-slice-aggregate-forced
-slice-aggregate-forced c = search needs
-
-forced-requires : tie.Need-forced-requires
-forced-requires c κs = search needs
-
-nothing-requires-2 : tie.Need-nothing-requires-2
-nothing-requires-2 c κs = search needs
-
 returns-2 : tie.Need-returns-2
-returns-2 c = let s = c .before .before .before .before .before .before .before in
-    first-none (s .args .t) (s .args .model) (c .nothing2 .result) (c .nothing2 .ensures)
-    (λ a. refuted-none (s .args .t) (s .args .model) a (c .before .before .forced .result) (c .before .before .forced .ensures) (c .before .if2 .taken))
-
-slice-aggregate-lay-sources : tie.Need-slice-aggregate-lay-sources
-slice-aggregate-lay-sources c = search needs
-
-lay-sources-requires : tie.Need-lay-sources-requires
-lay-sources-requires c κs = let s = c .before .before .before .before .before .before .before in
-    let a : So (answered (s .args .model) (s .args .t)) = sym (ap₂ _&&_ (c .before .before .before .before .before .before .well-formed .ensures) (c .before .before .before .before .before .modelled .ensures)) ∙ not-false _ (c .before .before .before .before .if1 .left) in
-    (well-fits (s .args .t) (and-iff (same-iff {a = wellFormed (s .args .t)}) (same-iff {a = modelled (s .args .model)}) .0 a .0), refl)
-
-slice-aggregate-sourced : tie.Need-slice-aggregate-sourced
-slice-aggregate-sourced c = search needs
-
-sourced-requires : tie.Need-sourced-requires
-sourced-requires c κs = let s = c .before .before .before .before .before .before .before .before .before .before in
-    let a : So (answered (s .args .model) (s .args .t)) = sym (ap₂ _&&_ (c .before .before .before .before .before .before .before .before .before .well-formed .ensures) (c .before .before .before .before .before .before .before .before .modelled .ensures)) ∙ not-false _ (c .before .before .before .before .before .before .before .if1 .left) in
-    (and-iff (same-iff {a = wellFormed (s .args .t)}) (same-iff {a = modelled (s .args .model)}) .0 a .0, c .before .before .lay-sources .ensures)
-
-nothing-requires-3 : tie.Need-nothing-requires-3
-nothing-requires-3 c κs = search needs
-
-returns-3 : tie.Need-returns-3
-returns-3 c = let s = c .before .before .before .before .before .before .before .before .before .before .before .before .before in
-    let f = frameOf (s .args .t) in
-    first-none (s .args .t) (s .args .model) (c .nothing3 .result) (c .nothing3 .ensures)
-    (λ _ xs v. false≢true (sym (not-true _ (c .before .if3 .taken)) ∙ c .before .before .sourced .ensures .1 (λ L m. missing-none f (keptOf (s .args .model) (s .args .t)) L m xs v)))
-
-slice-aggregate-lay-operations : tie.Need-slice-aggregate-lay-operations
-slice-aggregate-lay-operations c = search needs
-
-lay-operations-requires : tie.Need-lay-operations-requires
-lay-operations-requires c κs = let s = c .before .before .before .before .before .before .before .before .before .before .before .before .before .before in
-    let a : So (answered (s .args .model) (s .args .t)) = sym (ap₂ _&&_ (c .before .before .before .before .before .before .before .before .before .before .before .before .before .well-formed .ensures) (c .before .before .before .before .before .before .before .before .before .before .before .before .modelled .ensures)) ∙ not-false _ (c .before .before .before .before .before .before .before .before .before .before .before .if1 .left) in
-    (well-fits (s .args .t) (and-iff (same-iff {a = wellFormed (s .args .t)}) (same-iff {a = modelled (s .args .model)}) .0 a .0), refl)
-
-slice-aggregate-look : tie.Need-slice-aggregate-look
-slice-aggregate-look c = search needs
-
-slice-aggregate-look-2 : tie.Need-slice-aggregate-look-2
-slice-aggregate-look-2 c = search needs
-
-slice-aggregate-look-3 : tie.Need-slice-aggregate-look-3
-slice-aggregate-look-3 c = search needs
-
-slice-aggregate-look-4 : tie.Need-slice-aggregate-look-4
-slice-aggregate-look-4 c = search needs
-
-look-requires : tie.Need-look-requires
-look-requires c κs = let s = c .before .before .before .before .before .before .before .before .before .before .before .before .before .before .before .before .before .before .before .before in
-    let a : So (answered (s .args .model) (s .args .t)) = sym (ap₂ _&&_ (c .before .before .before .before .before .before .before .before .before .before .before .before .before .before .before .before .before .before .before .well-formed .ensures) (c .before .before .before .before .before .before .before .before .before .before .before .before .before .before .before .before .before .before .modelled .ensures)) ∙ not-false _ (c .before .before .before .before .before .before .before .before .before .before .before .before .before .before .before .before .before .if1 .left) in
-    let w = and-iff (same-iff {a = wellFormed (s .args .t)}) (same-iff {a = modelled (s .args .model)}) .0 a .0 in
-    let n = c .before .before .before .before .before .lay-operations .ensures in
-    (w, n, counted-fits (s .args .t) w _ _ n, c .before .before .before .before .before .before .before .before .before .before .before .before .lay-sources .ensures)
-
-returns-4 : tie.Need-returns-4
-returns-4 c = let s = c .before .before .before .before .before .before .before .before .before .before .before .before .before .before .before .before .before .before .before .before .before .before .before in
-    let t = s .args .t in
-    let m = s .args .model in
-    let a : So (answered m t) = sym (ap₂ _&&_ (c .before .before .before .before .before .before .before .before .before .before .before .before .before .before .before .before .before .before .before .before .before .before .well-formed .ensures) (c .before .before .before .before .before .before .before .before .before .before .before .before .before .before .before .before .before .before .before .before .before .modelled .ensures)) ∙ not-false _ (c .before .before .before .before .before .before .before .before .before .before .before .before .before .before .before .before .before .before .before .before .if1 .left) in
-    let w = and-iff (same-iff {a = wellFormed t}) (same-iff {a = modelled m}) .0 a .0 in
-    let g = held-guided t m a (c .before .before .before .before .before .before .before .before .before .before .before .before .before .before .before .before .before .before .forced .result) (c .before .before .before .before .before .before .before .before .before .before .before .before .before .before .before .before .before .before .forced .ensures) (c .before .before .before .before .before .before .before .before .before .before .before .before .before .before .before .before .before .if2 .left) in
-    let r = c .before .before .look .ensures in
-    let best = subst (λ (b : Bool). Least (Valid (frameOf t) (keptOf m t)) (followsAs b 0 (c .before .before .before .before .before .before .before .before .lay-operations .result) (c .before .before .look .last .1 .1 .1 .1 .1 .0))) (c .if4 .taken)
-    (r .right (keptOf m t) g (c .before .before .before .before .before .before .before .before .before .before .before .before .sourced .ensures .0 (not-false _ (c .before .before .before .before .before .before .before .before .before .before .before .if3 .left)))) in
-    first-some t m _ a refl (counted-fits t w _ _ (c .before .before .before .before .before .before .before .before .lay-operations .ensures)) (c .before .before .look .kept .1 .1 .1 .1 .1 .0) (λ i h. r .rest i h ∙ empty-rest i) best
-
-nothing-requires-4 : tie.Need-nothing-requires-4
-nothing-requires-4 c κs = search needs
-
-returns-5 : tie.Need-returns-5
-returns-5 c = let s = c .before .before .before .before .before .before .before .before .before .before .before .before .before .before .before .before .before .before .before .before .before .before .before .before in
-    let t = s .args .t in
-    let m = s .args .model in
-    first-none t m (c .nothing4 .result) (c .nothing4 .ensures)
-    (λ a.
-    let g = held-guided t m a (c .before .before .before .before .before .before .before .before .before .before .before .before .before .before .before .before .before .before .before .forced .result) (c .before .before .before .before .before .before .before .before .before .before .before .before .before .before .before .before .before .before .before .forced .ensures) (c .before .before .before .before .before .before .before .before .before .before .before .before .before .before .before .before .before .before .if2 .left) in
-    subst (λ (b : Bool). Least (Valid (frameOf t) (keptOf m t)) (followsAs b 0 (c .before .before .before .before .before .before .before .before .before .lay-operations .result) (c .before .before .before .look .last .1 .1 .1 .1 .1 .0))) (c .before .if4 .left)
-    (c .before .before .before .look .ensures .right (keptOf m t) g (c .before .before .before .before .before .before .before .before .before .before .before .before .before .sourced .ensures .0 (not-false _ (c .before .before .before .before .before .before .before .before .before .before .before .before .if3 .left)))))
+returns-2 c =
+    let m = c .before .before in
+    let s = m .before in
+    first-model (s .args .t) (s .args .model) (c .nothing .result) (sym (m .modelled .ensures) ∙ c .before .if1 .left) (c .nothing .ensures)
 
 pub first-order-spec : {M : Type 1} → statement M
 first-order-spec =
     tie.close
     (tie.spec
-    well-formed-requires
     modelled-requires
-    nothing-requires
+    kept-rows-requires
+    slice-aggregate-first-order-by
+    first-order-by-requires
     returns
-    slice-aggregate-forced
-    forced-requires
-    nothing-requires-2
-    returns-2
-    slice-aggregate-lay-sources
-    lay-sources-requires
-    slice-aggregate-sourced
-    sourced-requires
-    nothing-requires-3
-    returns-3
-    slice-aggregate-lay-operations
-    lay-operations-requires
-    slice-aggregate-look
-    slice-aggregate-look-2
-    slice-aggregate-look-3
-    slice-aggregate-look-4
-    look-requires
-    returns-4
-    nothing-requires-4
-    returns-5)
+    nothing-requires
+    returns-2)

@@ -1,7 +1,8 @@
 -- `verdict::tell::unordered`: 10, then a missing source, then the rest.
 use mathlib.Core.Path.{sym, _∙_, subst}
 use borrow.Author.Tests.{not-true, not-false}
-use Rattle.verdict.specs.VerdictOf.{Told}
+use Rattle.rows.specs.Lent.{lentOf}
+use Rattle.verdict.specs.VerdictOf.{ToldBy}
 use Rattle.verdict.specs.declared.Verdict.{Verdict}
 use Rattle.verdict.proofs.LaidOut.{told-form, told-source}
 use borrow.Author.Needs.{needs}
@@ -16,9 +17,10 @@ bare-requires c κs = search needs
 
 returns : tie.Need-returns
 returns c = let w = c .before .before in
-    let s = w .before in
-    subst (λ (r : Verdict). Told (s .args .t) (s .args .model) r) (sym (c .bare .ensures))
-    (told-form (s .args .t) (s .args .model) (s .pre .0) (sym (w .well-formed .ensures) ∙ not-true _ (c .before .if1 .taken)))
+    let s = w .before .before in
+    let K = lentOf (s .args .t) (s .args .kept .now) in
+    subst (λ (r : Verdict). ToldBy (s .args .t) K r) (sym (c .bare .ensures))
+    (told-form (s .args .t) K (sym (w .well-formed .ensures) ∙ not-true _ (c .before .if1 .taken)))
 
 missing-requires : tie.Need-missing-requires
 missing-requires c κs = search needs
@@ -35,15 +37,16 @@ enum-told c = search needs
 circle-or-none-requires : tie.Need-circle-or-none-requires
 circle-or-none-requires c κs = let m = c .before .before in
     let w = m .before .before in
-    let s = w .before in
-    (record { model = s .pre .0; well = sym (w .well-formed .ensures) ∙ not-false _ (m .before .if1 .left); sourced = sym (m .missing .ensures) ∙ c .enum-told .given .1 }, s .pre .1)
+    let s = w .before .before in
+    (sym (w .well-formed .ensures) ∙ not-false _ (m .before .if1 .left), sym (m .missing .ensures) ∙ c .enum-told .given .1, s .pre)
 
 returns-2 : tie.Need-returns-2
 returns-2 c = let m = c .before .before .before .before in
     let w = m .before .before in
-    let s = w .before in
-    subst (λ (r : Verdict). Told (s .args .t) (s .args .model) r) (sym (c .bare2 .ensures))
-    (told-source (s .args .t) (s .args .model) (s .pre .0) (sym (w .well-formed .ensures) ∙ not-false _ (m .before .if1 .left)) _ (sym (c .before .before .x .given .1) ∙ m .missing .ensures))
+    let s = w .before .before in
+    let K = lentOf (s .args .t) (s .args .kept .now) in
+    subst (λ (r : Verdict). ToldBy (s .args .t) K r) (sym (c .bare2 .ensures))
+    (told-source (s .args .t) K (sym (w .well-formed .ensures) ∙ not-false _ (m .before .if1 .left)) _ (sym (c .before .before .x .given .1) ∙ m .missing .ensures))
 
 returns-3 : tie.Need-returns-3
 returns-3 c = search needs
