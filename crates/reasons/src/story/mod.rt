@@ -112,15 +112,12 @@ fn rests_on(
     }
 }
 
-// Names an edge that rests on the edges from a by the steps to b, by their numbers.
+// Names an edge with the numbers of the edges that it rests on.
 fn name_resting(
-    rule: u16,
+    rest: Rest,
     x: u16,
     y: u16,
-    a: u16,
     steps: &[u16],
-    len: usize,
-    b: u16,
     from: &mut [u16],
     to: &mut [u16],
     count: usize,
@@ -128,12 +125,27 @@ fn name_resting(
     limit: usize,
     at: usize,
 ) -> Told
-    requires { ⌜ (len ≤ RECORDS) × (length (now steps) ≡ RECORDS) × (at ≤ limit) × (count ≤ BRANCH) × (length (now from) ≡ BRANCH) × (length (now to) ≡ BRANCH) ⌝ }
-    ensures { λ r. ⌜ ToldBy limit (now (from .entry)) (now (to .entry)) (now (out .entry)) count at (record { rule = rule; from = x; to = y; rests = numbers (branchOf (now (from .entry)) (now (to .entry)) count) a (take len (now (steps .entry))) b } ∷ []) (now (from .exit)) (now (to .exit)) (now (out .exit)) r ⌝ }
+    requires { ⌜ (rest .from < 65536) × (rest .to < 65536) × (rest .len ≤ RECORDS) × (length (now steps) ≡ RECORDS) × (at ≤ limit) × (count ≤ BRANCH) × (length (now from) ≡ BRANCH) × (length (now to) ≡ BRANCH) ⌝ }
+    ensures { λ r. ⌜ ToldBy limit (now (from .entry)) (now (to .entry)) (now (out .entry)) count at (record { rule = rest .rule; from = x; to = y; rests = numbers (branchOf (now (from .entry)) (now (to .entry)) count) (rest .from) (take (rest .len) (now (steps .entry))) (rest .to) } ∷ []) (now (from .exit)) (now (to .exit)) (now (out .exit)) r ⌝ }
 {
+    let a = rest.from as u16;
+    let b = rest.to as u16;
+    let len = rest.len;
     let mut rests = [0u16; RECORDS + 1];
     number_all(from, to, count, a, steps, len, b, &mut rests);
-    name(rule, x, y, len + 1, &rests, from, to, count, out, limit, at)
+    name(
+        rest.rule,
+        x,
+        y,
+        len + 1,
+        &rests,
+        from,
+        to,
+        count,
+        out,
+        limit,
+        at,
+    )
 }
 
 // Tells an edge x, y of round k: nothing where the branch names it; otherwise first what it rests on, and then the edge.
@@ -208,21 +220,5 @@ pub(crate) fn tell(
     ) else {
         return Told::Over;
     };
-    let a = rest.from as u16;
-    let b = rest.to as u16;
-    name_resting(
-        rest.rule,
-        p,
-        q,
-        a,
-        &steps,
-        len,
-        b,
-        from,
-        to,
-        m,
-        out,
-        limit,
-        v,
-    )
+    name_resting(rest, p, q, &steps, from, to, m, out, limit, v)
 }

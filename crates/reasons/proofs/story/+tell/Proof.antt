@@ -1,19 +1,17 @@
 -- `story::tell`: what falls is the round. The loop's invariant: the first i edges of the way are told.
-use mathlib.Core.Path.{_≡_, refl, sym, ap, _∙_, subst}
-use mathlib.Core.Bool.{false}
+use mathlib.Core.Path.{_≡_, refl, sym, _∙_, subst}
 use mathlib.Core.List.{List}
 use Prim.Native.Nat.{_-_, _≤_}
 use native.Mathlib.Omega.{arith}
 use borrow.Author.Needs.{needs}
-use lib.ListN.{length, getD}
-use Rattle.trace.specs.Bounds.{RECORDS}
+use lib.ListN.{length}
 use Rattle.trace.specs.Meaning.{frameOf}
 use Rattle.pairs.specs.Kept.{keptOf}
 use Rattle.edges.specs.Supposed.{supposedOf}
 use Rattle.papers.specs.Paper.{BRANCH, Entry}
 use Rattle.papers.specs.inner.ReaderBranch.{branchOf}
 use Rattle.papers.proofs.Branches.{branch-long}
-use Rattle.reasons.specs.inner.Telling.{inside, tell as telling}
+use Rattle.reasons.specs.inner.Telling.{tell as telling}
 use Rattle.reasons.specs.inner.Laid.{ToldBy}
 use Rattle.reasons.specs.declared.naming.Told.the-variants.{On, Over}
 use Rattle.reasons.proofs.Joining.{told-none, told-on, told-over}
@@ -241,49 +239,43 @@ tell-returns-4 t c =
     told-short (frameOf (a .t)) (keptOf (a .model) (a .t)) (supposedOf (a .t) (a .supposed .now)) (a .k) (a .x) (a .y) (o .last .1 .1 .1 .1 .1 .1 .0) (o .result) (o .ensures) (a .limit) (a .from .now) (a .to .now) (a .out .now) (a .count) (a .at) new (b .last .1 .1 .1 .1 .1 .1 .0) (b .last .1 .1 .1 .1 .1 .1 .1 .0) (b .last .1 .1 .1 .1 .1 .1 .1 .1 .1 .0) Over (l .before .if2 .left)
     (along-end (a .limit) (a .from .now) (a .to .now) (a .out .now) (a .count) (a .at) (telling (frameOf (a .t)) (keptOf (a .model) (a .t)) (supposedOf (a .t) (a .supposed .now)) (o .result .number)) (o .result .from) (o .last .1 .1 .1 .1 .1 .1 .0) (o .result .len) (o .result .to) (omega (arith, o .kept .1 .1 .1 .1 .1 .1 .0, o .ensures .short)) (l .loop .i) (l .loop .z) (l .loop .from) (l .loop .to) (l .loop .out) (l .loop .n) (l .loop .w) (v .0) (b .last .1 .1 .1 .1 .1 .1 .0) (b .last .1 .1 .1 .1 .1 .1 .1 .0) (b .last .1 .1 .1 .1 .1 .1 .1 .1 .1 .0) (omega (arith, c .before .before .before .before .before .before .before .before .before .before .before .before .loop-test .left)) Over (told-over (a .limit) (l .loop .from) (l .loop .to) (l .loop .out) (l .loop .n) (l .loop .w) _ (b .last .1 .1 .1 .1 .1 .1 .0) (b .last .1 .1 .1 .1 .1 .1 .1 .0) (b .last .1 .1 .1 .1 .1 .1 .1 .1 .1 .0) (b .result) (b .ensures) (c .enum-told2 .given .1)))
 
-tell-cast-a : (t : ℕ) → tell-lts.Need-cast-a (calls t) (tell-at t) tell.Post tell-Inv-loop tell-μ-loop
-tell-cast-a t c = omega (arith, c .before .before .before .before .before .before .before .before .before .before .before .before .before .before .before .before .before .before .rests-on .ensures .from-small)
-
-tell-cast-b : (t : ℕ) → tell-lts.Need-cast-b (calls t) (tell-at t) tell.Post tell-Inv-loop tell-μ-loop
-tell-cast-b t c = omega (arith, c .before .before .before .before .before .before .before .before .before .before .before .before .before .before .before .before .before .before .before .rests-on .ensures .to-small)
-
 tell-slice-aggregate-name-resting : (t : ℕ) → tell-lts.Need-slice-aggregate-name-resting (calls t) (tell-at t) tell.Post tell-Inv-loop tell-μ-loop
 tell-slice-aggregate-name-resting t c = search needs
 
 tell-name-resting-requires : (t : ℕ) → tell-lts.Need-name-resting-requires (calls t) (tell-at t) tell.Post tell-Inv-loop tell-μ-loop
 tell-name-resting-requires t c κs =
-    let l = c .before .before .before .before .before .before .before .before .before .before .before .before .before .before .before .before .before .before .before .before in
+    let l = c .before .before .before .before .before .before .before .before .before .before .before .before .before .before .before .before .before .before in
     let v = l .loop .inv in
     let o = l .before .before .before .rests-on in
     let s = l .before .before .before .before .before .before .before .before .before .before .before .before .before in
     let a = s .args in
     let p = s .pre .1 in
-    let b = c .before .before .before .before .before .before .before .before .before .before .before .before .before .before .before .tell2 in
-    let d = told-on (a .limit) (l .loop .from) (l .loop .to) (l .loop .out) (l .loop .n) (l .loop .w) _ (b .last .1 .1 .1 .1 .1 .1 .0) (b .last .1 .1 .1 .1 .1 .1 .1 .0) (b .last .1 .1 .1 .1 .1 .1 .1 .1 .1 .0) (b .result) _ _ (b .ensures) (c .before .before .before .before .before .before .before .m2 .given .1) in
-    (o .ensures .short, o .kept .1 .1 .1 .1 .1 .1 .0, d .fits, d .small, b .kept .1 .1 .1 .1 .1 .1 .0 ∙ v .3, b .kept .1 .1 .1 .1 .1 .1 .1 .0 ∙ v .4)
+    let b = c .before .before .before .before .before .before .before .before .before .before .before .before .before .tell2 in
+    let d = told-on (a .limit) (l .loop .from) (l .loop .to) (l .loop .out) (l .loop .n) (l .loop .w) _ (b .last .1 .1 .1 .1 .1 .1 .0) (b .last .1 .1 .1 .1 .1 .1 .1 .0) (b .last .1 .1 .1 .1 .1 .1 .1 .1 .1 .0) (b .result) _ _ (b .ensures) (c .before .before .before .before .before .m2 .given .1) in
+    (o .ensures .from-small, o .ensures .to-small, o .ensures .short, o .kept .1 .1 .1 .1 .1 .1 .0, d .fits, d .small, b .kept .1 .1 .1 .1 .1 .1 .0 ∙ v .3, b .kept .1 .1 .1 .1 .1 .1 .1 .0 ∙ v .4)
 
 tell-same-length-12 : (t : ℕ) → tell-lts.Need-same-length-12 (calls t) (tell-at t) tell.Post tell-Inv-loop tell-μ-loop
-tell-same-length-12 t c = c .before .before .before .before .before .before .name-resting .kept .1 .1 .1 .1 .1 .1 .1 .0 ∙ c .before .before .before .before .before .before .before .before .before .before .before .before .before .before .before .before .before .before .before .before .before .before .tell2 .kept .1 .1 .1 .1 .1 .1 .0 ∙ c .before .before .before .before .before .before .before .before .before .before .before .before .before .before .before .before .before .before .before .before .before .before .before .before .before .before .before .loop .inv .3 ∙ sym (c .before .before .before .before .before .before .before .before .before .before .before .before .before .before .before .before .before .before .before .before .before .before .before .before .before .before .before .before .before .before .before .before .before .before .before .before .before .before .before .before .pre .1 .6)
+tell-same-length-12 t c = c .before .before .before .before .before .before .name-resting .kept .1 .1 .1 .1 .0 ∙ c .before .before .before .before .before .before .before .before .before .before .before .before .before .before .before .before .before .before .before .before .tell2 .kept .1 .1 .1 .1 .1 .1 .0 ∙ c .before .before .before .before .before .before .before .before .before .before .before .before .before .before .before .before .before .before .before .before .before .before .before .before .before .loop .inv .3 ∙ sym (c .before .before .before .before .before .before .before .before .before .before .before .before .before .before .before .before .before .before .before .before .before .before .before .before .before .before .before .before .before .before .before .before .before .before .before .before .before .before .pre .1 .6)
 
 tell-same-length-13 : (t : ℕ) → tell-lts.Need-same-length-13 (calls t) (tell-at t) tell.Post tell-Inv-loop tell-μ-loop
-tell-same-length-13 t c = c .before .before .before .before .before .before .name-resting .kept .1 .1 .1 .1 .1 .1 .1 .1 .0 ∙ c .before .before .before .before .before .before .before .before .before .before .before .before .before .before .before .before .before .before .before .before .before .before .tell2 .kept .1 .1 .1 .1 .1 .1 .1 .0 ∙ c .before .before .before .before .before .before .before .before .before .before .before .before .before .before .before .before .before .before .before .before .before .before .before .before .before .before .before .loop .inv .4 ∙ sym (c .before .before .before .before .before .before .before .before .before .before .before .before .before .before .before .before .before .before .before .before .before .before .before .before .before .before .before .before .before .before .before .before .before .before .before .before .before .before .before .before .pre .1 .7)
+tell-same-length-13 t c = c .before .before .before .before .before .before .name-resting .kept .1 .1 .1 .1 .1 .0 ∙ c .before .before .before .before .before .before .before .before .before .before .before .before .before .before .before .before .before .before .before .before .tell2 .kept .1 .1 .1 .1 .1 .1 .1 .0 ∙ c .before .before .before .before .before .before .before .before .before .before .before .before .before .before .before .before .before .before .before .before .before .before .before .before .before .loop .inv .4 ∙ sym (c .before .before .before .before .before .before .before .before .before .before .before .before .before .before .before .before .before .before .before .before .before .before .before .before .before .before .before .before .before .before .before .before .before .before .before .before .before .before .pre .1 .7)
 
 tell-same-length-14 : (t : ℕ) → tell-lts.Need-same-length-14 (calls t) (tell-at t) tell.Post tell-Inv-loop tell-μ-loop
-tell-same-length-14 t c = c .before .before .before .before .before .before .name-resting .kept .1 .1 .1 .1 .1 .1 .1 .1 .1 .1 .0 ∙ c .before .before .before .before .before .before .before .before .before .before .before .before .before .before .before .before .before .before .before .before .before .before .tell2 .kept .1 .1 .1 .1 .1 .1 .1 .1 .1 .0 ∙ c .before .before .before .before .before .before .before .before .before .before .before .before .before .before .before .before .before .before .before .before .before .before .before .before .before .before .before .loop .inv .5
+tell-same-length-14 t c = c .before .before .before .before .before .before .name-resting .kept .1 .1 .1 .1 .1 .1 .1 .0 ∙ c .before .before .before .before .before .before .before .before .before .before .before .before .before .before .before .before .before .before .before .before .tell2 .kept .1 .1 .1 .1 .1 .1 .1 .1 .1 .0 ∙ c .before .before .before .before .before .before .before .before .before .before .before .before .before .before .before .before .before .before .before .before .before .before .before .before .before .loop .inv .5
 
 tell-returns-5 : (t : ℕ) → tell-lts.Need-returns-5 (calls t) (tell-at t) tell.Post tell-Inv-loop tell-μ-loop
 tell-returns-5 t c =
-    let l = c .before .before .before .before .before .before .before .before .before .before .before .before .before .before .before .before .before .before .before .before .before .before .before .before .before .before .before in
+    let l = c .before .before .before .before .before .before .before .before .before .before .before .before .before .before .before .before .before .before .before .before .before .before .before .before .before in
     let v = l .loop .inv in
     let o = l .before .before .before .rests-on in
     let s = l .before .before .before .before .before .before .before .before .before .before .before .before .before in
     let a = s .args in
     let p = s .pre .1 in
     let new = inside-place (branchOf (a .from .now) (a .to .now) (a .count)) (a .x) (a .y) .1 (omega (arith, branch-long (a .from .now) (a .to .now) (a .count), l .before .before .before .before .before .before .place .ensures, l .before .before .before .before .before .if1 .left)) in
-    let b = c .before .before .before .before .before .before .before .before .before .before .before .before .before .before .before .before .before .before .before .before .before .before .tell2 in
+    let b = c .before .before .before .before .before .before .before .before .before .before .before .before .before .before .before .before .before .before .before .before .tell2 in
     let m = c .before .before .before .before .before .before .name-resting in
-    told-resting (frameOf (a .t)) (keptOf (a .model) (a .t)) (supposedOf (a .t) (a .supposed .now)) (a .k) (a .x) (a .y) (o .last .1 .1 .1 .1 .1 .1 .0) (o .result) (o .ensures) (a .limit) (a .from .now) (a .to .now) (a .out .now) (a .count) (a .at) new (m .last .1 .1 .1 .1 .1 .1 .1 .0) (m .last .1 .1 .1 .1 .1 .1 .1 .1 .0) (m .last .1 .1 .1 .1 .1 .1 .1 .1 .1 .1 .0) (m .result) (l .before .if2 .left) (b .last .1 .1 .1 .1 .1 .1 .0) (b .last .1 .1 .1 .1 .1 .1 .1 .0) (b .last .1 .1 .1 .1 .1 .1 .1 .1 .1 .0) _ _
-    (along-end (a .limit) (a .from .now) (a .to .now) (a .out .now) (a .count) (a .at) (telling (frameOf (a .t)) (keptOf (a .model) (a .t)) (supposedOf (a .t) (a .supposed .now)) (o .result .number)) (o .result .from) (o .last .1 .1 .1 .1 .1 .1 .0) (o .result .len) (o .result .to) (omega (arith, o .kept .1 .1 .1 .1 .1 .1 .0, o .ensures .short)) (l .loop .i) (l .loop .z) (l .loop .from) (l .loop .to) (l .loop .out) (l .loop .n) (l .loop .w) (v .0) (b .last .1 .1 .1 .1 .1 .1 .0) (b .last .1 .1 .1 .1 .1 .1 .1 .0) (b .last .1 .1 .1 .1 .1 .1 .1 .1 .1 .0) (omega (arith, c .before .before .before .before .before .before .before .before .before .before .before .before .before .before .before .before .before .before .before .before .before .before .before .before .before .before .loop-test .left)) (On _ _) (told-on (a .limit) (l .loop .from) (l .loop .to) (l .loop .out) (l .loop .n) (l .loop .w) _ (b .last .1 .1 .1 .1 .1 .1 .0) (b .last .1 .1 .1 .1 .1 .1 .1 .0) (b .last .1 .1 .1 .1 .1 .1 .1 .1 .1 .0) (b .result) _ _ (b .ensures) (c .before .before .before .before .before .before .before .before .before .before .before .before .before .before .m2 .given .1)))
+    told-resting (frameOf (a .t)) (keptOf (a .model) (a .t)) (supposedOf (a .t) (a .supposed .now)) (a .k) (a .x) (a .y) (o .last .1 .1 .1 .1 .1 .1 .0) (o .result) (o .ensures) (a .limit) (a .from .now) (a .to .now) (a .out .now) (a .count) (a .at) new (m .last .1 .1 .1 .1 .0) (m .last .1 .1 .1 .1 .1 .0) (m .last .1 .1 .1 .1 .1 .1 .1 .0) (m .result) (l .before .if2 .left) (b .last .1 .1 .1 .1 .1 .1 .0) (b .last .1 .1 .1 .1 .1 .1 .1 .0) (b .last .1 .1 .1 .1 .1 .1 .1 .1 .1 .0) _ _
+    (along-end (a .limit) (a .from .now) (a .to .now) (a .out .now) (a .count) (a .at) (telling (frameOf (a .t)) (keptOf (a .model) (a .t)) (supposedOf (a .t) (a .supposed .now)) (o .result .number)) (o .result .from) (o .last .1 .1 .1 .1 .1 .1 .0) (o .result .len) (o .result .to) (omega (arith, o .kept .1 .1 .1 .1 .1 .1 .0, o .ensures .short)) (l .loop .i) (l .loop .z) (l .loop .from) (l .loop .to) (l .loop .out) (l .loop .n) (l .loop .w) (v .0) (b .last .1 .1 .1 .1 .1 .1 .0) (b .last .1 .1 .1 .1 .1 .1 .1 .0) (b .last .1 .1 .1 .1 .1 .1 .1 .1 .1 .0) (omega (arith, c .before .before .before .before .before .before .before .before .before .before .before .before .before .before .before .before .before .before .before .before .before .before .before .before .loop-test .left)) (On _ _) (told-on (a .limit) (l .loop .from) (l .loop .to) (l .loop .out) (l .loop .n) (l .loop .w) _ (b .last .1 .1 .1 .1 .1 .1 .0) (b .last .1 .1 .1 .1 .1 .1 .1 .0) (b .last .1 .1 .1 .1 .1 .1 .1 .1 .1 .0) (b .result) _ _ (b .ensures) (c .before .before .before .before .before .before .before .before .before .before .before .before .m2 .given .1)))
     (m .ensures)
 
 pub +tell-spec : {M : Type 1} → statement M
@@ -327,8 +319,6 @@ pub +tell-spec : {M : Type 1} → statement M
     (tell-same-length-10 t)
     (tell-same-length-11 t)
     (tell-returns-4 t)
-    (tell-cast-a t)
-    (tell-cast-b t)
     (tell-slice-aggregate-name-resting t)
     (tell-name-resting-requires t)
     (tell-same-length-12 t)
