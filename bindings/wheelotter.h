@@ -197,6 +197,19 @@ uint8_t wheelotter_smaller(const uint8_t *text, size_t text_len, uint8_t model, 
  *   WHEELOTTER_NOT_ACCEPTED               it is not; there may be an order or not. */
 uint8_t wheelotter_accepts(const uint8_t *text, size_t text_len, uint8_t model, const uint16_t *list, size_t list_len);
 
+/* Why the trace of a text has no valid order under a model, as a paper that wheelotter_accepts accepts: docs/PAPERS.md has the layout. It is put at the front
+ * of out, the rest stays:
+ *   0                      how many numbers the list has, the low sixteen bits
+ *   1                      and the high ones
+ *   WHEELOTTER_LIST        the list
+ * Gives back
+ *   1 to 8, 17 or 22, or else WHEELOTTER_NO_MODEL   the text is turned back, or there is no such model; out stays as it was;
+ *   WHEELOTTER_NOTHING_TO_SHOW            else the trace has an order, or a source is missing; out stays as it was;
+ *   WHEELOTTER_NO_ROOM                    else out has fewer places than WHEELOTTER_LIST and the list, and stays as it was; no length is enough for every
+ *                                         trace, a few hundred numbers are for nearly all;
+ *   WHEELOTTER_SHOWN                      the paper was written. */
+uint8_t wheelotter_paper(const uint8_t *text, size_t text_len, uint8_t model, uint16_t *out, size_t out_len);
+
 /* Writes the packed file of the trace that a text writes into out (docs/GUIDE.md has its layout), the rest stays:
  *   0                      how many bytes the file has, in two bytes
  *   WHEELOTTER_BYTES_AT    the file
