@@ -68,6 +68,8 @@ extern "C" {
 #define WHEELOTTER_ACCEPTED 90          /* the list shows that there is no valid order */
 #define WHEELOTTER_NOT_ACCEPTED 91      /* it does not show it */
 #define WHEELOTTER_WAITS 92             /* a load or swap waits for its source */
+#define WHEELOTTER_NOTHING_TO_SHOW 93   /* no paper: the trace has an order, or a source is missing */
+#define WHEELOTTER_SHOWN 94             /* a paper was written */
 
 /* Bounds, lengths in bytes, and places. */
 #define WHEELOTTER_RECORDS 256          /* a trace has at most so many records */
@@ -101,6 +103,7 @@ extern "C" {
 #define WHEELOTTER_STEPS 512            /* a list of possible steps has at most so many */
 #define WHEELOTTER_STEPS_AT 2           /* where the steps of an order begin */
 #define WHEELOTTER_REPLAY 514           /* the steps of an order in bytes have so many */
+#define WHEELOTTER_LIST 2               /* where the list begins in a paper, behind its length in two numbers */
 #define WHEELOTTER_OLDS 4               /* where the old numbers begin in what is left of a trace */
 #define WHEELOTTER_LEFT 516             /* where the text begins in what is left of a trace */
 #define WHEELOTTER_SMALLER 37508        /* what is left of a trace has at most so many bytes */
