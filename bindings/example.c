@@ -114,6 +114,17 @@ static void print_paper(uint8_t model) {
     } else {
         printf("model %u: no paper, %u\n", model, answer);
     }
+    uint16_t out[64];
+    answer = wheelotter_paper(text, text_len, model, out, sizeof out / sizeof out[0]);
+    if (answer == WHEELOTTER_SHOWN) {
+        printf("model %u: a paper of %lu numbers:", model, out[0] + 65536ul * out[1]);
+        for (size_t i = 0; i < out[0]; i++) {
+            printf(" %u", out[WHEELOTTER_LIST + i]);
+        }
+        printf("\n");
+    } else {
+        printf("model %u: no paper to write, %u\n", model, answer);
+    }
 }
 
 /* The words of what the loads read, and the reads that come back from them. */

@@ -68,6 +68,8 @@ extern "C" {
 #define WHEELOTTER_ACCEPTED 90          /* the list shows that there is no valid order */
 #define WHEELOTTER_NOT_ACCEPTED 91      /* it does not show it */
 #define WHEELOTTER_WAITS 92             /* a load or swap waits for its source */
+#define WHEELOTTER_NOTHING_TO_SHOW 93   /* no paper: the trace has an order, or a source is missing */
+#define WHEELOTTER_SHOWN 94             /* a paper was written */
 
 /* Bounds, lengths in bytes, and places. */
 #define WHEELOTTER_RECORDS 256          /* a trace has at most so many records */
@@ -101,6 +103,7 @@ extern "C" {
 #define WHEELOTTER_STEPS 512            /* a list of possible steps has at most so many */
 #define WHEELOTTER_STEPS_AT 2           /* where the steps of an order begin */
 #define WHEELOTTER_REPLAY 514           /* the steps of an order in bytes have so many */
+#define WHEELOTTER_LIST 2               /* where the list begins in a paper, behind its length in two numbers */
 #define WHEELOTTER_OLDS 4               /* where the old numbers begin in what is left of a trace */
 #define WHEELOTTER_LEFT 516             /* where the text begins in what is left of a trace */
 #define WHEELOTTER_SMALLER 37508        /* what is left of a trace has at most so many bytes */
@@ -196,6 +199,19 @@ uint8_t wheelotter_smaller(const uint8_t *text, size_t text_len, uint8_t model, 
  *   WHEELOTTER_ACCEPTED                   it is, and there is no valid order;
  *   WHEELOTTER_NOT_ACCEPTED               it is not; there may be an order or not. */
 uint8_t wheelotter_accepts(const uint8_t *text, size_t text_len, uint8_t model, const uint16_t *list, size_t list_len);
+
+/* Why the trace of a text has no valid order under a model, as a paper that wheelotter_accepts accepts: docs/PAPERS.md has the layout. It is put at the front
+ * of out, the rest stays:
+ *   0                      how many numbers the list has, the low sixteen bits
+ *   1                      and the high ones
+ *   WHEELOTTER_LIST        the list
+ * Gives back
+ *   1 to 8, 17 or 22, or else WHEELOTTER_NO_MODEL   the text is turned back, or there is no such model; out stays as it was;
+ *   WHEELOTTER_NOTHING_TO_SHOW            else the trace has an order, or a source is missing; out stays as it was;
+ *   WHEELOTTER_NO_ROOM                    else out has fewer places than WHEELOTTER_LIST and the list, and stays as it was; no length is enough for every
+ *                                         trace, a few hundred numbers are for nearly all;
+ *   WHEELOTTER_SHOWN                      the paper was written. */
+uint8_t wheelotter_paper(const uint8_t *text, size_t text_len, uint8_t model, uint16_t *out, size_t out_len);
 
 /* Writes the packed file of the trace that a text writes into out (docs/GUIDE.md has its layout), the rest stays:
  *   0                      how many bytes the file has, in two bytes

@@ -5,6 +5,7 @@
 //!     bench short [SEED]                            only whether the verdicts agree
 //!     bench worst TRACES [SEED [FAMILY]]            the most placements and the longest time in each family, or in one
 //!     bench cuts TRACES [SEED]                      the time of cutting a faulty trace down
+//!     bench papers TRACES [SEED]                    the time of writing its paper
 //!     bench entries TRACES [SEED]                   the time of every entry, over so many traces of each family and model
 //!     bench stack TRACES [SEED]                     the same for its stack
 
@@ -32,9 +33,10 @@ fn main() -> std::io::Result<()> {
         Some("short") => {}
         Some("worst") => worst::worst(number(1, 1000), number(2, 1), words.get(3).map(String::as_str)),
         Some("cuts") => cuts::cuts(number(1, 100), number(2, 1)),
+        Some("papers") => cuts::papers(number(1, 100), number(2, 1)),
         Some("entries") => entries::entries(number(1, 100), number(2, 1)),
         Some("stack") => stack::stack(number(1, 100), number(2, 1)),
-        _ => eprintln!("usage: bench measure TRACES SECONDS FIGURES [SEED] | short [SEED] | worst TRACES [SEED [FAMILY]] | cuts|entries|stack TRACES [SEED]"),
+        _ => eprintln!("usage: bench measure TRACES SECONDS FIGURES [SEED] | short [SEED] | worst TRACES [SEED [FAMILY]] | cuts|papers|entries|stack TRACES [SEED]"),
     }
     Ok(())
 }

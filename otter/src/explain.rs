@@ -1,8 +1,9 @@
 //! `otter explain`: why a trace has no order, in sentences.
 
 use crate::input;
-use crate::judged::{Found, Judged};
+use crate::judged::{listed, Found, Judged};
 use crate::memory::Memory;
+use crate::paper::{self, Entry, Line};
 use crate::records::{records, Record};
 use crate::status::{self, Done};
 use std::io::{self, Write};
@@ -11,8 +12,8 @@ use wheelotter::Verdict;
 
 /// Say in sentences why a trace has no order under a model
 ///
-/// Each edge of the circle is worded by its rule and the records that it joins. Rules 6 and 7 rest on chains of other edges, which a verdict does
-/// not carry; they are named as such, and not worked out here.
+/// The sentences are those of the paper that the library writes, entry by entry: each edge by its rule, the records that it joins and the edges that it rests
+/// on; where the rules alone close no circle, two cases.
 #[derive(clap::Args)]
 #[command(after_help = status::HELP)]
 pub struct Options {
@@ -23,18 +24,24 @@ pub struct Options {
     model: Memory,
 }
 
+/// What is said where the paper does not fit.
+const TOO_LONG: &str = "The paper that shows it is too long to be told.";
+
 /// A fault as people talk about it: the trace, the model, and what the library found.
 pub struct Story {
     pub records: Vec<Record>,
     pub memory: Memory,
     pub verdict: Verdict,
+    /// The paper; none where there is nothing to show, or where it is too long to be told.
+    reasons: Vec<Line>,
 }
 
 impl Story {
     /// The library's verdict on a text that it took.
     pub fn of(text: &str, memory: Memory) -> Story {
         let verdict = wheelotter::verdict(text.as_bytes(), memory.model()).expect("a text that the library took");
-        Story { records: records(text), memory, verdict }
+        let list = paper::written(text, memory).unwrap_or_default().unwrap_or_default();
+        Story { records: records(text), memory, verdict, reasons: paper::lines(&list) }
     }
 
     pub fn status(&self) -> u8 {
@@ -76,12 +83,15 @@ impl Story {
     pub fn sentences(&self) -> Vec<String> {
         let model = self.memory.name();
         match &self.verdict {
-            Verdict::Order(_) => vec![format!("The memory kept {model}: there is an order in which every load reads what it read."), format!("{}.", self.title())],
-            Verdict::NoSource(load) => self.no_source(usize::from(*load)),
-            Verdict::NoneLeft => vec![
-                format!("Under {model} every order was ruled out, and yet the rules alone close no circle."),
-                "The fault is real: open a session with otter talk, and suppose pairs of stores to one address both ways round to see where it sits.".to_string(),
+            Verdict::Order(_) => vec![
+                format!("The memory kept {model}: there is an order in which every load reads what it read."),
+                format!("{}.", self.title()),
             ],
+            Verdict::NoSource(load) => self.no_source(usize::from(*load)),
+            Verdict::NoneLeft if self.reasons.is_empty() => {
+                vec![format!("Under {model} every order was ruled out, and yet the rules alone close no circle."), TOO_LONG.to_string()]
+            }
+            Verdict::NoneLeft => self.cases(),
             Verdict::Circle { .. } => self.circle(),
         }
     }
@@ -95,25 +105,81 @@ impl Story {
         ]
     }
 
+    /// A record to a line.
+    fn lines(&self, named: &[usize]) -> Vec<String> {
+        named.iter().map(|x| format!("  {x:>3}  core {}  {}", self.records[*x].core, self.records[*x])).collect()
+    }
+
+    /// The records that the paper names, but for some.
+    fn others(&self, but: &[usize]) -> Vec<usize> {
+        let entries = self.reasons.iter().map(|(Line::Edge(entry) | Line::Split(entry) | Line::Circle(entry) | Line::Other(entry))| entry);
+        let mut named: Vec<usize> = entries.flat_map(|entry| [entry.x, entry.y]).filter(|x| !but.contains(x)).collect();
+        named.sort();
+        named.dedup();
+        named
+    }
+
     fn circle(&self) -> Vec<String> {
-        let edges = self.edges();
-        let mut lines = vec![format!("Under {} these {} operations cannot be put into any order:", self.memory.name(), edges.len())];
-        lines.extend(self.named().into_iter().map(|x| format!("  {x:>3}  core {}  {}", self.records[x].core, self.records[x])));
-        lines.extend(edges.iter().map(|(x, y, rule)| format!("{x} is before {y}: {} (rule {rule}).", self.why(*x, *y, *rule))));
-        lines.push(format!("So {0} would be before {0}.", edges[0].0));
-        if edges.iter().any(|(_, _, rule)| [6, 7].contains(rule)) {
-            lines.push("The chains behind rules 6 and 7 are not part of a verdict, and are not told here.".to_string());
+        let named = self.named();
+        let mut lines = vec![format!("Under {} these {} operations cannot be put into any order:", self.memory.name(), named.len())];
+        lines.extend(self.lines(&named));
+        let others = self.others(&named);
+        if !others.is_empty() {
+            lines.push("Their reasons name these too:".to_string());
+            lines.extend(self.lines(&others));
         }
+        if self.reasons.is_empty() {
+            lines.push(TOO_LONG.to_string());
+        }
+        lines.extend(self.told());
         lines
     }
 
-    /// Why x is before y by a rule, from the two records alone.
-    fn why(&self, x: usize, y: usize, rule: u8) -> String {
+    /// Where the rules alone close no circle: each split with its two sides.
+    fn cases(&self) -> Vec<String> {
+        let named = self.others(&[]);
+        let first = format!(
+            "Under {} every order was ruled out, and yet the rules alone close no circle. These {} operations show it:",
+            self.memory.name(),
+            named.len()
+        );
+        let mut lines = vec![first];
+        lines.extend(self.lines(&named));
+        lines.extend(self.told());
+        lines.push("So there is no order.".to_string());
+        lines
+    }
+
+    /// The paper, a sentence to an entry. `branch` has the edges that the open branch names, by their numbers.
+    fn told(&self) -> Vec<String> {
+        let mut branch: Vec<(usize, usize)> = Vec::new();
+        let mut told = Vec::new();
+        for line in &self.reasons {
+            match line {
+                Line::Edge(entry) => {
+                    told.push(format!("{} is before {}: {} (rule {}).", entry.x, entry.y, self.why(entry, &branch), entry.rule))
+                }
+                Line::Split(entry) => told.push(format!("Suppose that {} is before {}.", entry.x, entry.y)),
+                Line::Circle(entry) => told.push(format!("So {0} would be before {0}.", entry.x)),
+                Line::Other(entry) => told.push(format!("So {} is before {}.", entry.x, entry.y)),
+            }
+            if let Line::Edge(entry) | Line::Split(entry) | Line::Other(entry) = line {
+                branch.truncate(entry.number);
+                branch.push((entry.x, entry.y));
+            }
+        }
+        told
+    }
+
+    /// Why x is before y: from the two records, and for rules 6 and 7 from the chain that the entry rests on.
+    fn why(&self, entry: &Entry, branch: &[(usize, usize)]) -> String {
+        let (x, y) = (entry.x, entry.y);
         let (first, second) = (&self.records[x], &self.records[y]);
         let (core, place, model) = (first.core, first.address, self.memory.name());
         let read = |record: &Record| record.read.expect("the rule is about a read");
         let written = |record: &Record| record.written.expect("the rule is about a write");
-        match rule {
+        let chain: Vec<(usize, usize)> = entry.rests.iter().map(|number| branch[*number]).collect();
+        match entry.rule {
             1 => format!("both are of core {core}, and {model} keeps them in this order"),
             2 => format!("{y} read the {} that {x} wrote to M[{place}]", read(second)),
             3 => format!("core {core} wrote {} to M[{place}] itself and read the {} of {y} there later", written(first), written(second)),
@@ -122,17 +188,29 @@ impl Story {
                 format!("core {core} wrote {} to M[{place}] before, and yet {y} read {}, with which it began", written(first), read(second))
             }
             6 => format!(
-                "a chain of other edges leads from {x}, which wrote {}, to one that read the {} of {y} from M[{place}]",
-                written(first),
-                written(second)
+                "{}, which read the {} that {y} wrote to M[{place}], and {x} wrote {} there",
+                led(&chain),
+                written(second),
+                written(first)
             ),
-            7 => format!(
-                "{x} read {} from M[{place}], and a chain of other edges leads from who wrote it to {y}, which wrote {}",
+            _ => format!(
+                "{x} read the {} that {} wrote to M[{place}], and {}, which wrote {} there",
                 read(first),
+                chain[0].0,
+                led(&chain),
                 written(second)
             ),
-            _ => "it was supposed".to_string(),
         }
+    }
+}
+
+/// A chain of edges in words, from its beginning to its end.
+fn led(chain: &[(usize, usize)]) -> String {
+    let (first, last) = (chain[0].0, chain[chain.len() - 1].1);
+    let between: Vec<usize> = chain[1..].iter().map(|(x, _)| *x).collect();
+    match between.is_empty() {
+        true => format!("{first} is before {last}"),
+        false => format!("{first} is by way of{} before {last}", listed(&between)),
     }
 }
 

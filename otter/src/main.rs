@@ -13,6 +13,7 @@ mod meaning;
 mod memory;
 mod night;
 mod pack;
+mod paper;
 mod picture;
 mod records;
 mod replay;
@@ -46,6 +47,7 @@ enum Command {
     Replay(replay::Options),
     Import(import::Options),
     Shrink(shrink::Options),
+    Paper(paper::Options),
     Night(night::Options),
     Pack(pack::Pack),
     Unpack(pack::Unpack),
@@ -62,6 +64,7 @@ fn done(command: &Command) -> status::Done {
         Command::Replay(options) => replay::replay(options),
         Command::Import(options) => import::import(options),
         Command::Shrink(options) => shrink::shrink(options),
+        Command::Paper(options) => paper::paper(options),
         Command::Night(options) => night::night(options),
         Command::Pack(options) => pack::pack(options),
         Command::Unpack(options) => pack::unpack(options),

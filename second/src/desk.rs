@@ -15,6 +15,7 @@
 //! | 81, 82 | steps that run an order through; a list that is no order |
 //! | 90, 91 | a paper: accepted, or not |
 //! | 92 | a session: a load or swap waits for its source |
+//! | 93, 94 | a paper to be written: nothing to show, or shown |
 //!
 //! Numbers of records, and how many are told, are laid down in two bytes, a count of steps in eight, the low one first.
 //!
@@ -55,6 +56,12 @@ pub const REPEAT: u8 = 73;
 pub const OUT_OF_TURN: u8 = 74;
 pub const WRONG_VALUE: u8 = 75;
 pub const UNDECIDED: u8 = 76;
+pub const NOTHING_TO_SHOW: u8 = 93;
+pub const SHOWN: u8 = 94;
+
+/// Where the list begins in a paper, behind its length.
+pub const LIST_AT: usize = 2;
+
 pub const STUCK: u8 = 25;
 pub const THROUGH: u8 = 79;
 pub const NOT_THROUGH: u8 = 80;
@@ -105,6 +112,14 @@ pub fn place_of((x, y): Pair) -> (usize, u8) {
 pub fn put_number(place: &mut [u8], number: usize) {
     let number = u16::try_from(number).expect("record numbers fit into two bytes");
     place[..2].copy_from_slice(&number.to_le_bytes());
+}
+
+/// A paper at the front of lent numbers: its length, the low half first, then its list.
+pub fn lay_paper(list: &[u16], lent: &mut [u16]) -> u8 {
+    let Some(place) = lent.get_mut(..LIST_AT + list.len()) else { return NO_ROOM };
+    (place[0], place[1]) = (list.len() as u16, (list.len() >> 16) as u16);
+    place[LIST_AT..].copy_from_slice(list);
+    SHOWN
 }
 
 pub fn number_at(place: &[u8]) -> usize {
@@ -279,6 +294,29 @@ impl<'a> Page<'a> {
             (Ok(_), None) => NO_MODEL,
             (Ok(trace), Some(model)) if papers::accepted(trace, model, list) => ACCEPTED,
             (Ok(_), Some(_)) => NOT_ACCEPTED,
+        }
+    }
+
+    /// What is answered to who asks for a paper, given room; None where the verdict is not known.
+    pub fn paper_answer(&self, model: u8) -> Option<u8> {
+        let model = match (&self.reading, Model::numbered(model.into())) {
+            (Err(refusal), _) => return Some(refusal.number),
+            (Ok(_), None) => return Some(NO_MODEL),
+            (Ok(_), Some(model)) => model,
+        };
+        match self.verdict_under(model)? {
+            Verdict::NotKnown => None,
+            Verdict::NoSource(_) | Verdict::Order(_) => Some(NOTHING_TO_SHOW),
+            Verdict::Circle(_) | Verdict::NoneLeft => Some(SHOWN),
+        }
+    }
+
+    /// A paper of this package's own, which is not the library's: its length in two numbers, the low one first, then the list. None where the verdict is not known, or where
+    /// no paper is found soon.
+    pub fn paper(&self, model: u8, lent: &mut [u16]) -> Option<u8> {
+        match (self.paper_answer(model)?, self.trace(), Model::numbered(model.into())) {
+            (SHOWN, Some(trace), Some(model)) => Some(lay_paper(&papers::written(trace, model)?, lent)),
+            (answer, _, _) => Some(answer),
         }
     }
 

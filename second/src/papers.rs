@@ -106,6 +106,40 @@ pub fn accepted(trace: &Trace, model: Model, list: &[u16]) -> bool {
     branches.is_empty()
 }
 
+/// What a list breaks of what request 11 promises of the writer's; None where it keeps all: it is accepted, names no edge twice in one branch, and splits only
+/// without a circle and on a pair that is held neither way.
+pub fn broken(trace: &Trace, model: Model, list: &[u16]) -> Option<&'static str> {
+    if !accepted(trace, model, list) {
+        return Some("it is not accepted");
+    }
+    // The branches still to close, the next one last: the edges of each, and those of them that are supposed.
+    let mut branches: Vec<(Vec<Pair>, Vec<Pair>)> = vec![(Vec::new(), Vec::new())];
+    for entry in entries(list)? {
+        let (mut branch, mut supposed) = branches.pop()?;
+        let (pair, turned) = ((entry.x, entry.y), (entry.y, entry.x));
+        if entry.rule == CIRCLE {
+            continue;
+        }
+        if branch.contains(&pair) || entry.rule == SPLIT && branch.contains(&turned) {
+            return Some("an edge is named twice in one branch");
+        }
+        if entry.rule == SPLIT {
+            let round = last_round(trace, model, &supposed);
+            if round.contradicted() {
+                return Some("a branch with a circle is split");
+            }
+            if round.chains.contains(&pair) || round.chains.contains(&turned) {
+                return Some("a branch is split on a pair that is held");
+            }
+            branches.push(([branch.as_slice(), &[turned]].concat(), [supposed.as_slice(), &[turned]].concat()));
+            supposed.push(pair);
+        }
+        branch.push(pair);
+        branches.push((branch, supposed));
+    }
+    None
+}
+
 /// A paper of this package's own, where the rules alone, or splits on two writers of an address, get to the end; None where they do not, or not soon. It names
 /// every forced edge that a circle leads over, and splits on the first pair that is open: papers of others are shorter.
 pub fn written(trace: &Trace, model: Model) -> Option<Vec<u16>> {

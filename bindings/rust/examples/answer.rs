@@ -3,8 +3,10 @@
 //! packed file is, whether a paper shows that there is no order, and a short talk with a session under TSO.
 
 use std::io::{self, Read};
-use wheelotter::{accepts, check, check_file, judge, limited, night, pack, reads, report, run, signature, smaller, steps, unpack, verdict};
-use wheelotter::{Answer, Asked, Judgement, Limited, Model, NoSignature, Ran, Record, Session, Smaller, Verdict, ENTRIES, MODELS};
+use wheelotter::{
+    accepts, check, check_file, judge, limited, night, pack, paper, reads, report, run, signature, smaller, steps, unpack, verdict,
+};
+use wheelotter::{Answer, Asked, Judgement, Limited, Model, NoSignature, Paper, Ran, Record, Session, Smaller, Verdict, ENTRIES, MODELS};
 
 fn main() -> io::Result<()> {
     let mut text = Vec::new();
@@ -98,6 +100,12 @@ fn print_paper(text: &[u8], model: Model) {
         Err(refusal) => format!("no paper, {}", refusal.answer as u8),
     };
     println!("model {}: {told}", model as u8);
+    match paper(text, model, 62) {
+        Ok(Paper::Shown(list)) => println!("model {}: a paper of {} numbers:{}", model as u8, list.len(), listed(&list)),
+        Ok(Paper::Nothing) => println!("model {}: no paper to write, {}", model as u8, Answer::NothingToShow as u8),
+        Ok(Paper::TooLong) => println!("model {}: no paper to write, {}", model as u8, Answer::NoRoom as u8),
+        Err(refusal) => println!("model {}: no paper to write, {}", model as u8, refusal.answer as u8),
+    }
 }
 
 /// The packed file of the text, and its text.

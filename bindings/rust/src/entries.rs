@@ -40,6 +40,7 @@ mod linked {
         ) -> u8;
         pub fn wheelotter_smaller(text: *const u8, text_len: usize, model: u8, out: *mut u8, out_len: usize) -> u8;
         pub fn wheelotter_accepts(text: *const u8, text_len: usize, model: u8, list: *const u16, list_len: usize) -> u8;
+        pub fn wheelotter_paper(text: *const u8, text_len: usize, model: u8, out: *mut u16, out_len: usize) -> u8;
         pub fn wheelotter_pack(text: *const u8, text_len: usize, out: *mut u8, out_len: usize) -> u8;
         pub fn wheelotter_unpack(file: *const u8, file_len: usize, out: *mut u8, out_len: usize) -> u8;
         pub fn wheelotter_file_number(file: *const u8, file_len: usize) -> u8;
@@ -148,6 +149,13 @@ pub fn smaller(text: &[u8], model: u8, out: &mut [u8]) -> u8 {
 /// Whether a list of numbers, from anyone, is a paper that shows that the trace of a text has no valid order under a model.
 pub fn accepts(text: &[u8], model: u8, list: &[u16]) -> u8 {
     unsafe { linked::wheelotter_accepts(text.as_ptr(), text.len(), model, list.as_ptr(), list.len()) }
+}
+
+/// Why the trace of a text has no valid order under a model, as a paper at the front of `out`: how many numbers the list has, its low sixteen bits and its high
+/// ones, and from [`LIST`](crate::LIST) on the list. Where the text or the model is turned back, there is nothing to show, or `out` has fewer places than
+/// that, it stays as it was.
+pub fn paper(text: &[u8], model: u8, out: &mut [u16]) -> u8 {
+    unsafe { linked::wheelotter_paper(text.as_ptr(), text.len(), model, out.as_mut_ptr(), out.len()) }
 }
 
 /// The packed file of the trace that a text writes, at the front of `out`: its length in two bytes, the low one first, and from

@@ -214,6 +214,28 @@ pub fn accepts<'a>(text: &'a [u8], model: Model, list: &[u16]) -> Result<bool, R
     }
 }
 
+/// Why a trace has no order, in numbers.
+#[derive(Clone, Debug, PartialEq, Eq)]
+pub enum Paper {
+    /// The trace has an order, or a source is missing.
+    Nothing,
+    /// The list has more numbers than there is room for.
+    TooLong,
+    /// The list, which [`accepts`] accepts.
+    Shown(Vec<u16>),
+}
+
+/// Why the trace of a text has no valid order under a model, as a list of at most `room` numbers: docs/PAPERS.md has the layout.
+pub fn paper(text: &[u8], model: Model, room: usize) -> Result<Paper, Refusal<'_>> {
+    let mut out = vec![0; LIST + room];
+    match Answer::of(entries::paper(text, model as u8, &mut out)) {
+        Answer::NothingToShow => Ok(Paper::Nothing),
+        Answer::NoRoom => Ok(Paper::TooLong),
+        Answer::Shown => Ok(Paper::Shown(out[LIST..][..usize::from(out[0]) + 65536 * usize::from(out[1])].to_vec())),
+        _ => check(text).map(|()| unreachable!("a good text is answered under every model")),
+    }
+}
+
 /// Why a packed file is turned back: the number (4, 6, 7, 8, 18, 19, 20 or 22 in the table), and the line, which is the record's number plus 1, or 0
 /// where no record is to blame.
 #[derive(Clone, Copy, Debug, PartialEq, Eq)]

@@ -93,6 +93,9 @@ pub const STEPS_AT: usize = 2;
 /// The steps of an order in bytes have so many.
 pub const REPLAY: usize = 514;
 
+/// Where the list begins in a paper, behind its length in two numbers.
+pub const LIST: usize = 2;
+
 /// Where the old numbers begin in what is left of a trace.
 pub const OLDS: usize = 4;
 
@@ -207,11 +210,15 @@ pub enum Answer {
     NotAccepted = 91,
     /// A load or swap waits for its source.
     Waits = 92,
+    /// No paper: the trace has an order, or a source is missing.
+    NothingToShow = 93,
+    /// A paper was written.
+    Shown = 94,
 }
 
 /// In the order of their numbers.
 #[rustfmt::skip]
-pub(crate) const ANSWERS: [Answer; 45] = [
+pub(crate) const ANSWERS: [Answer; 47] = [
     Answer::Done,
     Answer::LongText,
     Answer::LongLine,
@@ -257,4 +264,6 @@ pub(crate) const ANSWERS: [Answer; 45] = [
     Answer::Accepted,
     Answer::NotAccepted,
     Answer::Waits,
+    Answer::NothingToShow,
+    Answer::Shown,
 ];

@@ -1,11 +1,11 @@
 //! Each kind of answer through the safe functions, worked out from document 01.
 
 use wheelotter::{
-    accepts, check, check_file, entries, judge, limited, pack, report, run, smaller, steps, unpack, verdict, Answer, Asked, FileRefusal,
-    Judgement, Limited, Model, Ran, Record, Refusal, Session, Smaller, Verdict,
+    accepts, check, check_file, entries, judge, limited, pack, paper, report, run, smaller, steps, unpack, verdict, Answer, Asked,
+    FileRefusal, Judgement, Limited, Model, Paper, Ran, Record, Refusal, Session, Smaller, Verdict,
 };
 use wheelotter::{
-    BYTES_AT, COUNT, COUNTED, ENTRIES, FILE, FIRST, FIRSTS, HEAD, JUDGEMENT, LEFT, LIMITED, MARK, MODELS, OLDS, OPERATIONS,
+    BYTES_AT, COUNT, COUNTED, ENTRIES, FILE, FIRST, FIRSTS, HEAD, JUDGEMENT, LEFT, LIMITED, LIST, MARK, MODELS, OLDS, OPERATIONS,
     PACKED as PACKED_ROOM, PAIRS, PLACE, RECORD, RECORDS, REPLAY, REPORT, RULES, SESSION, SMALLER, STANDING, STEPS, STEPS_AT, TABLE, TEXT,
     UNPACKED, VERDICT,
 };
@@ -106,6 +106,21 @@ fn papers() {
     assert_eq!(accepts(BUFFERS, Model::Sc, &[]), Ok(false));
     assert_eq!(accepts(b"\n", Model::Sc, &list).map_err(|refusal| refusal.answer), Err(Answer::NoForm));
     assert_eq!(entries::accepts(BUFFERS, 0, &list), Answer::NoModel as u8);
+}
+
+/// The writer's list for the same trace is this very list; room for one number less is too little, and then nothing is written.
+#[test]
+fn papers_written() {
+    let list = [1, 0, 1, 0, 4, 1, 2, 0, 1, 2, 3, 0, 4, 3, 0, 0, 0, 0, 0, 4, 0, 1, 2, 3];
+    assert_eq!(paper(BUFFERS, Model::Sc, list.len()), Ok(Paper::Shown(list.to_vec())));
+    assert_eq!(paper(BUFFERS, Model::Sc, list.len() - 1), Ok(Paper::TooLong));
+    assert_eq!(paper(BUFFERS, Model::Tso, 100), Ok(Paper::Nothing));
+    assert_eq!(paper(b"0: M[1] == 5\n", Model::Sc, 100), Ok(Paper::Nothing));
+    assert_eq!(paper(b"\n", Model::Sc, 100).map_err(|refusal| refusal.answer), Err(Answer::NoForm));
+    let mut out = [7; LIST + 23];
+    assert_eq!(entries::paper(BUFFERS, 1, &mut out), Answer::NoRoom as u8);
+    assert_eq!(entries::paper(BUFFERS, 0, &mut out), Answer::NoModel as u8);
+    assert_eq!(out, [7; LIST + 23]);
 }
 
 /// Two stores into their buffers, two loads from memory: the buffers have to be emptied. Under SC the second load would get 1.

@@ -4,6 +4,7 @@ pub mod Spelling
 pub mod Limiting
 pub mod Judging
 pub mod Papering
+pub mod PaperWriting
 pub mod Hosted
 pub mod Leaving
 pub mod HeadBytes

@@ -11,6 +11,7 @@ use Rattle.desk.proofs.Spelling.{answered-one}
 use Rattle.desk.proofs.Limiting.{limited-one}
 use Rattle.desk.proofs.Judging.{judged-one}
 use Rattle.desk.proofs.Papering.{papered-one}
+use Rattle.desk.proofs.PaperWriting.{asked-one}
 use Rattle.desk.proofs.Hosted.{run-one, replayed-one}
 use Rattle.desk.proofs.Leaving.{smaller-one}
 use Rattle.desk.proofs.Nightly.{nighted-one}
@@ -32,6 +33,8 @@ use Rattle.desk.proofs.judgements.wheelotter_judge.Reads as judge
 use Rattle.desk.proofs.judgements.wheelotter_judge.Kinds as judge-kinds
 use Rattle.desk.proofs.paper.wheelotter_accepts.Reads as accepts
 use Rattle.desk.proofs.paper.wheelotter_accepts.Kinds as accepts-kinds
+use Rattle.desk.proofs.paper.wheelotter_paper.Reads as paper
+use Rattle.desk.proofs.paper.wheelotter_paper.Kinds as paper-kinds
 use Rattle.desk.proofs.runs.wheelotter_run.Reads as run
 use Rattle.desk.proofs.runs.wheelotter_run.Kinds as run-kinds
 use Rattle.desk.proofs.runs.wheelotter_steps.Reads as steps
@@ -111,6 +114,12 @@ judge-leaves κs a x y s t p q =
 
 pub accepts-settles : Settles 2 accepts-kinds.ps accepts-kinds.r accepts.Post
 accepts-settles κs a x y s t p q = papered-one (now (a .0)) (a .1 .0) (now (a .1 .1 .0)) x y p q
+
+pub paper-settles : Settles 2 paper-kinds.ps paper-kinds.r paper.Post
+paper-settles κs a x y s t p q = asked-one (now (a .0)) (a .1 .0) (now (a .1 .1 .0)) (now (s .1 .1 .0)) (now (t .1 .1 .0)) x y p q .0
+
+pub paper-leaves : Leaves 2 paper-kinds.ps paper-kinds.r (λ κs s. now (s .1 .1 .0)) paper.Post
+paper-leaves κs a x y s t p q = asked-one (now (a .0)) (a .1 .0) (now (a .1 .1 .0)) (now (s .1 .1 .0)) (now (t .1 .1 .0)) x y p q .1
 
 pub run-settles : Settles 3 run-kinds.ps run-kinds.r run.Post
 run-settles κs a x y s t p q =

@@ -11,6 +11,7 @@
 --   REPLAYED, NO-ORDER             == steps that run an order through, or a list that is none
 --   ACCEPTED, NOT-ACCEPTED         == the small reader of papers: a list is accepted, or not
 --   WAITS                          == a session: a load or swap waits for its source
+--   NOTHING-TO-SHOW, SHOWN         == a paper that is asked for: there is nothing to show, or it was written
 --   NO-MODEL, NOT-WELL-FORMED, NO-SOURCE == document 01's numbers of a model that does not exist, of a trace that is not well formed, and of a missing source
 --   answerTo v                     == the answer to a verdict: a missing source is document 01's 11
 --   outcomeNumber o                == the same, by its outcome as the code holds it
@@ -88,6 +89,12 @@ NOT-ACCEPTED = 91
 
 abbrev pub WAITS : ℕ
 WAITS = 92
+
+abbrev pub NOTHING-TO-SHOW : ℕ
+NOTHING-TO-SHOW = 93
+
+abbrev pub SHOWN : ℕ
+SHOWN = 94
 
 abbrev pub NO-MODEL : ℕ
 NO-MODEL = 9

@@ -7,6 +7,7 @@ pub mod VerdictBytes
 pub mod Limits
 pub mod JudgeCall
 pub mod PaperCall
+pub mod PaperWritten
 pub mod Runs
 pub mod Signed
 pub mod Nights

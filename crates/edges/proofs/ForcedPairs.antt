@@ -6,6 +6,7 @@
 --   kept-same                          == then lent rows of the kept pairs are the kept pairs
 --   rounded-model, forces-model        == under a model that does not exist
 --   rounded-kept, forces-kept          == from the rows of a model's kept pairs
+--   same-rows                          == whole rows with the same pairs are the same
 --   ends-one                           == the rounds end at one round only, and its rows are settled
 --   rounded-one, forces-one            == no second answer fits
 --   rounded-by-one, forces-by-one      == nor from lent pairs
@@ -100,7 +101,7 @@ module _ (f : Frame) (K P : Table) where
     | inr r ↦ elim r [ inl e ↦ e | inr l ↦ absurd (stops q (p .earlier k l)) ]
   ]
 
-  same-rows : (a b : List ℕ) → Full a → Full b → ((x y : ℕ) → bit a x y ≡ bit b x y) → a ≡ b
+  pub same-rows : (a b : List ℕ) → Full a → Full b → ((x y : ℕ) → bit a x y ≡ bit b x y) → a ≡ b
   same-rows a b p q = rows-one a b (p .long) (q .long) (p .words) (q .words)
 
   pub ends-one : (j k : ℕ) (c c′ : Bool) (b e h b′ e′ h′ : List ℕ) → Ends f K P j c b e h → Ends f K P k c′ b′ e′ h′ → (j ≡ k) × (c ≡ c′) × (b ≡ b′) × (e ≡ e′) × (h ≡ h′)

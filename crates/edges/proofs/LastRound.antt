@@ -3,6 +3,7 @@
 --   kept-within, supposed-within     == the pairs of a well formed trace join its records
 --   begun                            == round 0 of a well formed trace
 --   closed, stayed-at, grown-at      == what one turn's functions do
+--   adds-full, closed-chains         == rows stay whole when they are added to; the chains of a round's edges are those before the next
 --   stayed, grown                    == the two outcomes of a turn
 --   Stands f K P k b e               == the loop stands at round k: b has the chains before it, e its edges, and it went on so far
 --   stands-first, stands-next        == at the first round; at the next
@@ -61,7 +62,7 @@ empty-none rows n e x y b = false≢true (sym (ap (λ r. bit r x y) e ∙ empty-
 empty-full : (rows : List ℕ) (n : ℕ) → rows ≡ emptyOf n → n ≡ CELLS → Full rows
 empty-full rows n e l = rw e (record { long = empty-long n ∙ l; words = empty-words n })
 
-adds-full : {a b : List ℕ} {R : Rel} → Full a → Added a R b → Full b
+pub adds-full : {a b : List ℕ} {R : Rel} → Full a → Added a R b → Full b
 adds-full f p = record { long = p .long ∙ f .long; words = p .words (f .words) }
 
 pub kept-within : (m : ℕ) (t : Trace) → So (wellFormed t) → InRecords (frameOf t) (keptOf m t)
@@ -140,6 +141,12 @@ pub turns : (k : ℕ) (e e′ : List ℕ) (R : Rel) → Full e → Added e R e�
 turns k e e′ R full adds d h = omega (arith, fewer e e′ R full adds d, pairs-bound RECORDS (bit e′))
 
 module _ (f : Frame) (K P : Table) where
+  pub closed-chains : (k : ℕ) (e h : List ℕ) (c : Bool) → ((x y : ℕ) → So (bit e x y) ↔ Edge f K P k x y) → Closed e h c → (x y : ℕ) → So (bit h x y) ↔ Chains f K P (suc k) x y
+  closed-chains k e h c has d x y = (
+    λ u. chain-mono (λ x y. has x y .0) x y (d .has x y .0 u),
+    λ u. d .has x y .1 (chain-mono (λ x y. has x y .1) x y u),
+  )
+
   pub record Stands (k : ℕ) (b e : List ℕ) : Type 0 where
     pub earlier : (j : ℕ) → j < k → GoesOn f K P j
     pub before-full : Full b
@@ -158,10 +165,7 @@ module _ (f : Frame) (K P : Table) where
 
   module _ (k : ℕ) (b e h : List ℕ) (now : Stands k b e) where
     chains-has : (c : Bool) → Closed e h c → (x y : ℕ) → So (bit h x y) ↔ Chains f K P (suc k) x y
-    chains-has c d x y = (
-      λ u. chain-mono (λ x y. now .edges-has x y .0) x y (d .has x y .0 u),
-      λ u. d .has x y .1 (chain-mono (λ x y. now .edges-has x y .1) x y u),
-    )
+    chains-has c d = closed-chains k e h c (now .edges-has) d
 
     has-circle : (c : Bool) → Closed e h c → So c ↔ ((x : ℕ) × Chains f K P (suc k) x x)
     has-circle c d =

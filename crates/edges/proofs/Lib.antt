@@ -7,6 +7,7 @@ pub mod KeptRows
 pub mod RoundStep
 pub mod LastRound
 pub mod ForcedPairs
+pub mod RoundBefore
 pub mod Unique
 pub mod Takes
 pub mod Settling

@@ -6,12 +6,15 @@ use Rattle.laws.specs.Settles.{Settles}
 use Rattle.rows.specs.Lent.{lentOf}
 use Rattle.edges.proofs.KeptRows.{kept-rows-one}
 use Rattle.edges.proofs.ForcedPairs.{rounded-one, rounded-by-one, forces-one, forces-by-one}
+use Rattle.edges.proofs.RoundBefore.{prior-one}
 use Rattle.edges.proofs.kept.kept_rows.Reads as kept-rows
 use Rattle.edges.proofs.kept.kept_rows.Kinds as kept-rows-kinds
 use Rattle.edges.proofs.force.last_round.Reads as last-round
 use Rattle.edges.proofs.force.last_round.Kinds as last-round-kinds
 use Rattle.edges.proofs.force.last_round_by.Reads as last-round-by
 use Rattle.edges.proofs.force.last_round_by.Kinds as last-round-by-kinds
+use Rattle.edges.proofs.force.round_before.Reads as round-before
+use Rattle.edges.proofs.force.round_before.Kinds as round-before-kinds
 use Rattle.edges.proofs.force.forced.Reads as forced
 use Rattle.edges.proofs.force.forced.Kinds as forced-kinds
 use Rattle.edges.proofs.force.forced_by.Reads as forced-by
@@ -25,6 +28,9 @@ last-round-settles κs a x y s t p q = rounded-one (a .0) (now (a .1 .1 .0)) (a 
 
 pub last-round-by-settles : Settles 2 last-round-by-kinds.ps last-round-by-kinds.r last-round-by.Post
 last-round-by-settles κs a x y s t p q = rounded-by-one (a .0) (now (a .1 .1 .0)) (lentOf (a .0) (now (a .1 .0))) x y p q
+
+pub round-before-settles : Settles 1 round-before-kinds.ps round-before-kinds.r round-before.Post
+round-before-settles κs a x y s t p q = prior-one (a .0) (a .1 .0) (now (a .1 .1 .0)) (a .1 .1 .1 .0) (a .1 .1 .1 .1 .0) (a .1 .1 .1 .1 .1 .0) x y p q
 
 pub forced-settles : Settles 1 forced-kinds.ps forced-kinds.r forced.Post
 forced-settles κs a x y s t p q = forces-one (a .0) (now (a .1 .1 .0)) (a .1 .0) x y p q

@@ -3,4 +3,5 @@ pub mod Supposed
 pub mod LastRound
 pub mod KeptRows
 pub mod ForcedPairs
+pub mod RoundBefore
 pub mod inner

@@ -1,6 +1,6 @@
 -- Entries told one after the other.
 --
---   spell-append == the numbers of two lists of entries
+--   spell-append, spell-long == the numbers of two lists of entries, and how many they are
 --   told-none    == nothing was told
 --   done-join    == first some entries, and then others
 --   over-first, over-then == no room for the first, or for what follows
@@ -28,7 +28,7 @@ spell-append [] fs = refl
 spell-append (e ∷ es) fs =
     ap (λ l. e .rule ∷ e .from ∷ e .to ∷ length (e .rests) ∷ l) (ap (λ l. e .rests ++ l) (spell-append es fs) ∙ sym (append-assoc (e .rests) (spell es) (spell fs)))
 
-spell-long : (es fs : List Entry) → length (spell (es ++ fs)) ≡ length (spell es) + length (spell fs)
+pub spell-long : (es fs : List Entry) → length (spell (es ++ fs)) ≡ length (spell es) + length (spell fs)
 spell-long es fs = ap length (spell-append es fs) ∙ length-append (spell es) (spell fs)
 
 module _ (limit : ℕ) (from to out : List ℕ) (n at : ℕ) where

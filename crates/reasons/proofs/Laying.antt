@@ -1,10 +1,12 @@
 -- What the functions that lay numbers and entries do, turn by turn.
 --
+--   left                        == the steps of a way from place i on
 --   numbers-step, numbers-end   == the numbers of the edges of a way
 --   way-step, way-stop, way-over == a way, step by step
 --   reads-on, reads-off₁, reads-off₂ == whether a load is the one looked for
 --   lay-write, lay-skip         == one number more, where there is a place for it, and where there is none
 --   put-at                      == what was laid, where the answer is known
+--   branch-set                  == a branch with one entry more
 --   entry-full, entry-laid      == an entry's head, and what it rests on
 --   name-full, name-over, name-done == an entry that is named
 use mathlib.Core.Path.{_≡_, refl, sym, ap, ap₂, _∙_, subst}
@@ -37,12 +39,12 @@ use Rattle.reasons.proofs.Places.{Reads, sets-join, sets-more}
 one-more : (r : List ℕ) (i v : ℕ) (rest : List ℕ) → i < length r → take (i + 1) (set r i v) ++ rest ≡ take i r ++ v ∷ rest
 one-more r i v rest h = ap (λ k. take k (set r i v) ++ rest) (add-one i) ∙ ap (λ l. l ++ rest) (take-suc-set r i v h) ∙ append-snoc (take i r) v rest
 
-module _ (E : List Claim) (steps : List ℕ) (len a b : ℕ) (fits : len ≤ length steps) where
-  left : (i : ℕ) → i < len → drop i (take len steps) ≡ getD steps i 0 ∷ drop (i + 1) (take len steps)
-  left i h =
-      drop-cons (take len steps) i 0 (omega (arith, length-take-le len steps fits))
-      ∙ ap₂ (λ z k. z ∷ drop k (take len steps)) (getD-take len steps i 0 h) (sym (add-one i))
+pub left : (steps : List ℕ) (len : ℕ) → len ≤ length steps → (i : ℕ) → i < len → drop i (take len steps) ≡ getD steps i 0 ∷ drop (i + 1) (take len steps)
+left steps len fits i h =
+    drop-cons (take len steps) i 0 (omega (arith, length-take-le len steps fits))
+    ∙ ap₂ (λ z k. z ∷ drop k (take len steps)) (getD-take len steps i 0 h) (sym (add-one i))
 
+module _ (E : List Claim) (steps : List ℕ) (len a b : ℕ) (fits : len ≤ length steps) where
   pub numbers-step : (r : List ℕ) (i x v : ℕ) → i < len → i < length r → v ≡ entryNumber E x (getD steps i 0)
       → take i r ++ numbers E x (drop i (take len steps)) b ≡ numbers E a (take len steps) b
       → take (i + 1) (set r i v) ++ numbers E (getD steps i 0) (drop (i + 1) (take len steps)) b ≡ numbers E a (take len steps) b
@@ -50,7 +52,7 @@ module _ (E : List Claim) (steps : List ℕ) (len a b : ℕ) (fits : len ≤ len
   numbers-step r i x v h l e inv =
       one-more r i v (numbers E (getD steps i 0) (drop (i + 1) (take len steps)) b) l
       ∙ ap (λ w. take i r ++ w ∷ numbers E (getD steps i 0) (drop (i + 1) (take len steps)) b) e
-      ∙ ap (λ zs. take i r ++ numbers E x zs b) (sym (left i h))
+      ∙ ap (λ zs. take i r ++ numbers E x zs b) (sym (left steps len fits i h))
       ∙ inv
 
   pub numbers-end : (r : List ℕ) (i x v : ℕ) → i ≡ len → len < length r → v ≡ entryNumber E x b
@@ -124,6 +126,14 @@ module _ (before : List ℕ) (at : ℕ) (words out : List ℕ) (i : ℕ) (h : i 
 pub put-at : (limit : ℕ) (out : List ℕ) (at : ℕ) (ws out′ : List ℕ) (r q : Put) → PutAt limit out at ws out′ r → r ≡ q → PutAt limit out at ws out′ q
 put-at limit out at ws out′ r q h e = subst (PutAt limit out at ws out′) e h
 
+-- one entry more, as it is kept in the arrays
+pub branch-set : (from to : List ℕ) (n x y : ℕ) → n < length from → n < length to → branchOf (set from n x) (set to n y) (n + 1) ≡ named (branchOf from to n) x y
+branch-set from to n x y l k =
+    ap (branchOf (set from n x) (set to n y)) (add-one n)
+    ∙ branch-more (set from n x) (set to n y) n
+    ∙ ap (λ E. named E (getD (set from n x) n 0) (getD (set to n y) n 0)) (same-branch (set from n x) (set to n y) from to n (set-same from n x) (set-same to n y))
+    ∙ ap₂ (named (branchOf from to n)) (getD-set-same from n x 0 l) (getD-set-same to n y 0 k)
+
 -- the numbers of one entry
 module _ (rule x y k : ℕ) (rests : List ℕ) (fits : k ≤ length rests) where
   abbrev pub one : Entry
@@ -166,10 +176,6 @@ module _ (rule x y k : ℕ) (rests : List ℕ) (fits : k ≤ length rests) where
       placed = a;
       small = omega arith;
       fits = b;
-      branch =
-          ap (branchOf (set from n x) (set to n y)) (add-one n)
-          ∙ branch-more (set from n x) (set to n y) n
-          ∙ ap (λ E. named E (getD (set from n x) n 0) (getD (set to n y) n 0)) (same-branch (set from n x) (set to n y) from to n (set-same from n x) (set-same to n y))
-          ∙ ap₂ (named (branchOf from to n)) (getD-set-same from n x 0 (omega (arith, lf, h))) (getD-set-same to n y 0 (omega (arith, lt, h)));
+      branch = branch-set from to n x y (omega (arith, lf, h)) (omega (arith, lt, h));
       laid = s;
     }

@@ -7,5 +7,14 @@ pub mod Written
 pub mod Ways
 pub mod Telling
 pub mod Joining
+pub mod Along
+pub mod Resting
 pub mod Choosing
 pub mod Writing
+pub mod Closed
+pub mod Ranks
+pub mod Noting
+pub mod Leaves
+pub mod Lists
+pub mod Answers
+pub mod Unique

@@ -1,6 +1,6 @@
 -- Edges that a branch names, and chains of its entries.
 --
---   Named E x y               == an entry of E is x before y; inside-iff: as a test
+--   inside-iff                == whether an edge is named
 --   chained-one, chained-more == a named edge is a chain, and goes in front of one
 --   named-grow, named-last    == what is named stays so, and one edge more is
 --   named-cases               == what a branch with one edge more names
@@ -14,13 +14,10 @@ use native.Mathlib.Decide.{decLt}
 use native.Mathlib.Omega.{arith}
 use lib.Dec.{eqb, ltb}
 use lib.ListN.{length, getD, length-append, List·getD-append}
-use Rattle.laws.specs.Relation.{Rel}
 use Rattle.laws.proofs.Tests.{and-iff, any-iff, so-eq, so-lt}
 use Rattle.papers.specs.Paper.{Claim, edgeAt, named, leads, arrives, chained}
+use Rattle.reasons.specs.inner.Fair.{Named}
 use Rattle.reasons.specs.inner.Telling.{inside}
-
-abbrev pub Named : List Claim → Rel
-Named E x y = (i : ℕ) × (i < length E) × ((edgeAt E i .from ≡ x) × (edgeAt E i .to ≡ y))
 
 pub inside-iff : (E : List Claim) (x y : ℕ) → So (inside E x y) ↔ Named E x y
 unfolding inside

@@ -3,7 +3,6 @@
 --   place-test               == an entry is x before y, by the arrays
 --   place-found, place-none  == the lowest place, as a loop finds it
 --   number-found, number-none == its number
---   inside-place             == an edge is named where it has a place
 --   load-here, load-past     == the lowest load, as a loop finds it
 --   open-off₁, open-off₂, open-on == whether a pair is open, part by part
 --   sets-more, sets-join     == one number more; some numbers, and then others

@@ -1,11 +1,9 @@
 -- A branch that names no edge twice has no more entries than there are pairs of records, so the reader has room for one entry more.
 --
---   Distinct E     == E names no edge twice
---   Fair n E       == so it is, and what it names are records below n
 --   distinct-short == n * n entries at the most
 --   roomy-new      == and fewer, where an edge is left that it does not name
 --   fair-one       == that edge may be named
-use mathlib.Core.Path.{_≡_, subst}
+use mathlib.Core.Path.{subst}
 use mathlib.Core.Logic.{inl, inr}
 use mathlib.Core.Bool.{So}
 use mathlib.Core.List.{List, [], _∷_}
@@ -18,16 +16,9 @@ use Rattle.laws.proofs.Growth.{pairs-bound, pairs-more}
 use Rattle.laws.proofs.Tests.{so-lt}
 use Rattle.trace.specs.Bounds.{RECORDS}
 use Rattle.papers.specs.Paper.{BRANCH, Claim, named, branchRoom}
+use Rattle.reasons.specs.inner.Fair.{Named, Distinct, none-yet, further, Fair}
 use Rattle.reasons.specs.inner.Telling.{inside}
-use Rattle.reasons.proofs.Names.{Named, inside-iff, named-grow, named-last, named-cases}
-
-pub data Distinct : List Claim → Type 0 where
-  none-yet : Distinct []
-  further : {E : List Claim} {x y : ℕ} → Distinct E → (Named E x y → ⊥) → Distinct (named E x y)
-
-pub record Fair (n : ℕ) (E : List Claim) : Type 0 where
-  pub once : Distinct E
-  pub below : (x y : ℕ) → Named E x y → (x < n) × (y < n)
+use Rattle.reasons.proofs.Names.{inside-iff, named-grow, named-last, named-cases}
 
 module _ (n : ℕ) where
   counted : {E : List Claim} → Distinct E → ((x y : ℕ) → Named E x y → (x < n) × (y < n)) → length E ≤ pairs n (inside E)

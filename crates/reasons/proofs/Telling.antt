@@ -32,9 +32,10 @@ use Rattle.pairs.proofs.SourceOf.{source-of-is, source-of-has}
 use Rattle.rules.proofs.Rounds.{edge-grow}
 use Rattle.rules.proofs.Ends.{step-within, chains-within}
 use Rattle.papers.specs.Paper.{CIRCLE, SPLIT, CHAINED, Claim, Entry, edgeAt, named, chained, branchRoom, mayRest, fits, refutes}
+use Rattle.reasons.specs.inner.Fair.{Named, Distinct, further, Fair}
 use Rattle.reasons.specs.inner.Telling.{edgesOf, inside, entryPlace, entryNumber, numbers, along, ruleBy, restLoad, bareEntry, restsFrom, restsTo, wayAt, resting, tell}
-use Rattle.reasons.proofs.Names.{Named, inside-iff, named-grow, named-last, named-cases, chained-one, chained-more}
-use Rattle.reasons.proofs.Short.{Distinct, further, Fair, roomy-new}
+use Rattle.reasons.proofs.Names.{inside-iff, named-grow, named-last, named-cases, chained-one, chained-more}
+use Rattle.reasons.proofs.Short.{roomy-new}
 use Rattle.reasons.proofs.Written.{Runs, runs-edge}
 use Rattle.reasons.proofs.Ways.{way-runs}
 
@@ -70,6 +71,11 @@ pub edges-append : (es fs : List Entry) → edgesOf (es ++ fs) ≡ edgesOf es ++
 unfolding edgesOf
 edges-append [] fs = refl
 edges-append (e ∷ es) fs = ap (λ E. record { from = e .from; to = e .to } ∷ E) (edges-append es fs)
+
+pub edges-long : (es : List Entry) → length (edgesOf es) ≡ length es
+unfolding edgesOf
+edges-long [] = refl
+edges-long (e ∷ es) = ap suc (edges-long es)
 
 grown : (E : List Claim) (es fs : List Entry) → (E ++ edgesOf es) ++ edgesOf fs ≡ E ++ edgesOf (es ++ fs)
 grown E es fs = append-assoc E (edgesOf es) (edgesOf fs) ∙ ap (λ F. E ++ F) (sym (edges-append es fs))

@@ -16,9 +16,9 @@ use Rattle.laws.proofs.Tests.{and-iff, not-iff, same-iff, so-eq}
 use Rattle.rules.specs.Frame.{Frame}
 use Rattle.rules.specs.Rules.{Held, Contradicted}
 use Rattle.papers.specs.Paper.{CIRCLE, SPLIT, Claim, Entry, named, chained, branchRoom, splits, fits, refutes, accepted}
+use Rattle.reasons.specs.inner.Fair.{Distinct}
 use Rattle.reasons.specs.inner.Telling.{inside}
 use Rattle.reasons.specs.inner.Writing.{circleEntry, splitEntry}
-use Rattle.reasons.proofs.Short.{Distinct}
 
 abbrev pub Runs : Frame → Table → List Claim → List Entry → List Claim → Type 0
 Runs f K E es E′ = (Es : List (List Claim)) (rest : List Entry) → So (refutes f K (E′ ∷ Es) rest) → So (refutes f K (E ∷ Es) (es ++ rest))

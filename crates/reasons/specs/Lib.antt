@@ -1,2 +1,3 @@
 -- The writer of papers: the list that it makes for a trace that has no valid order.
+pub mod Writes
 pub mod inner

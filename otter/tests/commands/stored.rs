@@ -92,3 +92,8 @@ fn night() {
 fn help() {
     page("help.txt");
 }
+
+#[test]
+fn paper() {
+    page("paper.txt");
+}

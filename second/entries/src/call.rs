@@ -18,6 +18,7 @@ pub enum Call {
     Steps { model: u8, list: Vec<u16>, room: usize },
     Smaller { model: u8, room: usize },
     Accepts { model: u8, list: Vec<u16> },
+    Paper { model: u8, room: usize },
     Open { model: u8, room: usize },
     Suppose { x: usize, y: usize },
     TakeBack,
@@ -43,7 +44,7 @@ pub const OTHER_MODELS: [u8; 5] = [0, LAST_MODEL + 1, LAST_MODEL + 2, 128, 255];
 pub const LAST_MODEL: u8 = MODELS as u8;
 
 /// The entries' names without the front that all share.
-pub const ENTRIES: [&str; 28] = [
+pub const ENTRIES: [&str; 29] = [
     "report",
     "number",
     "line",
@@ -72,6 +73,7 @@ pub const ENTRIES: [&str; 28] = [
     "reads",
     "open_file",
     "night",
+    "paper",
 ];
 
 impl Call {
@@ -106,6 +108,7 @@ impl Call {
             Call::Reads { .. } => 25,
             Call::OpenFile { .. } => 26,
             Call::Night { .. } => 27,
+            Call::Paper { .. } => 28,
         }
     }
 
@@ -127,6 +130,7 @@ impl fmt::Display for Call {
             Call::Steps { model, list, room } => write!(f, " under {model} of {list:?} into {room} bytes"),
             Call::Smaller { model, room } => write!(f, " under {model} into {room} bytes"),
             Call::Accepts { model, list } => write!(f, " under {model} of {list:?}"),
+            Call::Paper { model, room } => write!(f, " under {model} into {room} numbers"),
             Call::Open { model, room } | Call::OpenFile { model, room } => write!(f, " under {model} in {room} bytes"),
             Call::Suppose { x, y } | Call::Ask { x, y } => write!(f, " {x} {y}"),
             Call::Add { fields } => write!(f, " {fields:?}"),

@@ -2,7 +2,7 @@
 
 use crate::case::{Case, Counts};
 use crate::desk::Desk;
-use crate::{sessions, signed, texts};
+use crate::{papers, sessions, signed, texts};
 use second::chance::Chance;
 use second::desk::Page;
 use second::families::{text, Family};
@@ -20,6 +20,7 @@ pub fn compared(desk: &impl Desk, family: &Family, seed: u64, number: u64, most_
     signed::compare(&mut case);
     sessions::compare(&mut case);
     signed::compare_runs(&mut case);
+    papers::compare_written(&mut case);
     if before != case.text {
         case.counts.texts_failed += 1;
         case.differences.push("the text itself was changed\n".to_string());

@@ -16,6 +16,7 @@ pub trait Desk: Sync {
     fn steps(&self, text: &[u8], model: u8, order: &[u16], out: &mut [u8]) -> u8;
     fn smaller(&self, text: &[u8], model: u8, out: &mut [u8]) -> u8;
     fn accepts(&self, text: &[u8], model: u8, list: &[u16]) -> u8;
+    fn paper(&self, text: &[u8], model: u8, out: &mut [u16]) -> u8;
     fn open(&self, text: &[u8], model: u8, session: &mut [u8]) -> u8;
     fn open_file(&self, file: &[u8], model: u8, session: &mut [u8]) -> u8;
     fn suppose(&self, session: &mut [u8], x: usize, y: usize) -> u8;
@@ -73,6 +74,9 @@ impl Desk for Proved {
     }
     fn accepts(&self, text: &[u8], model: u8, list: &[u16]) -> u8 {
         entries::accepts(text, model, list)
+    }
+    fn paper(&self, text: &[u8], model: u8, out: &mut [u16]) -> u8 {
+        entries::paper(text, model, out)
     }
     fn open(&self, text: &[u8], model: u8, session: &mut [u8]) -> u8 {
         entries::open(text, model, session)

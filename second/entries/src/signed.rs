@@ -46,7 +46,7 @@ fn room<D: Desk>(case: &mut Case<'_, D>, right: usize) -> usize {
 }
 
 /// Words and reads as bytes, so that all of them are compared.
-fn bytes<const N: usize, T: Copy>(list: &[T], of: impl Fn(T) -> [u8; N]) -> Lent {
+pub fn bytes<const N: usize, T: Copy>(list: &[T], of: impl Fn(T) -> [u8; N]) -> Lent {
     Lent::of(&list.iter().flat_map(|&x| of(x)).collect::<Vec<u8>>())
 }
 

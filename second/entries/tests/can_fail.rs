@@ -7,7 +7,7 @@ use second::desk::{
 };
 use second::desk::{lay_left, CUT, LEFT, OLDS_AT};
 use second::desk::{Fields, NOT_THROUGH, NO_ENTRY, NO_ORDER, PLACE, REPLAY, REPLAYED, STEPS_AT, STUCK, THROUGH, WAITS};
-use second::desk::{ACCEPTED, NOT_ACCEPTED};
+use second::desk::{ACCEPTED, LIST_AT, NOTHING_TO_SHOW, NOT_ACCEPTED, SHOWN};
 use second::desk::{
     BAD_NUMBER, CIRCLE, CONTRADICTED, JUDGEMENT, LIMITED, NONE_LEFT, NOT_HELD, NO_ROOM, NO_SOURCE, ORDER, REPEAT, UNDECIDED, VALID,
     WRONG_LENGTH, WRONG_VALUE,
@@ -20,6 +20,7 @@ use second::session::{self, Session, MOST_PAIRS};
 use second::signatures::{layout, list, loads, pack_into, unpack_into};
 use second::smaller::{faulty, without, Part};
 use second::trace::{text_of, Model, Record, Trace};
+use std::collections::BTreeMap;
 use std::sync::atomic::{AtomicUsize, Ordering};
 use std::sync::Mutex;
 use std::thread;
@@ -31,7 +32,7 @@ struct Faulty(&'static str);
 
 const RIGHT: &str = "none";
 
-const FAULTS: [&str; 138] = [
+const FAULTS: [&str; 146] = [
     "report: a letter too far",
     "report: short memory written",
     "report: length of one line",
@@ -102,6 +103,14 @@ const FAULTS: [&str; 138] = [
     "accepts: numbers left over",
     "accepts: any model is SC",
     "accepts: no model",
+    "paper: nothing to show",
+    "paper: one number less is enough",
+    "paper: written before it is counted",
+    "paper: the circle left out",
+    "paper: an edge twice",
+    "paper: a split that is not needed",
+    "paper: what lies behind is wiped",
+    "paper: no model",
     "open: one byte less is enough",
     "open: room before the text",
     "open: refused, and too short is written",
@@ -517,6 +526,38 @@ impl Desk for Faulty {
         answer
     }
 
+    fn paper(&self, text: &[u8], model: u8, out: &mut [u16]) -> u8 {
+        let model = if self.is("paper: no model") && Model::numbered(model.into()).is_none() { 1 } else { model };
+        let (answer, list) = paper_of(&self.page(text), text, model);
+        if answer != SHOWN {
+            return answer;
+        }
+        if out.len() < LIST_AT + list.len() {
+            let short = out.len() + 1 == LIST_AT + list.len();
+            return match self.0 {
+                "paper: one number less is enough" if short => desk::lay_paper(&list[..list.len() - 1], out),
+                "paper: written before it is counted" => {
+                    out.iter_mut().take(1).for_each(|number| *number = number.wrapping_add(1));
+                    NO_ROOM
+                }
+                _ => NO_ROOM,
+            };
+        }
+        let other = match self.0 {
+            "paper: nothing to show" => return NOTHING_TO_SHOW,
+            "paper: what lies behind is wiped" => {
+                out[LIST_AT + list.len()..].fill(0);
+                list
+            }
+            "paper: the circle left out" => entries_of(&list).split_last().expect("a circle").1.concat(),
+            // of a list that begins with a split the first edge is no other's
+            "paper: an edge twice" if list[0] != 8 => [&list[..4], &one_on(&list)].concat(),
+            "paper: a split that is not needed" => [vec![8, list[1], list[2], 0], one_on(&list), one_on(&list)].concat(),
+            _ => list,
+        };
+        desk::lay_paper(&other, out)
+    }
+
     fn open(&self, text: &[u8], model: u8, session: &mut [u8]) -> u8 {
         let (page, before) = (self.page(text), session.to_vec());
         let needed = HEAD + page.trace().map_or(HEADER, |trace| file_of(trace).len());
@@ -839,6 +880,38 @@ impl Desk for Faulty {
         }
         answer
     }
+}
+
+/// What is answered to who asks for a paper, and the list; kept, since every desk is asked about the same texts.
+fn paper_of(page: &Page<'_>, text: &[u8], model: u8) -> (u8, Vec<u16>) {
+    static KEPT: Mutex<BTreeMap<(Vec<u8>, u8), (u8, Vec<u16>)>> = Mutex::new(BTreeMap::new());
+    if let Some(found) = KEPT.lock().unwrap().get(&(text.to_vec(), model)) {
+        return found.clone();
+    }
+    let mut lent = vec![0; 1 << 16];
+    let answer = page.paper(model, &mut lent).unwrap_or(NO_ROOM);
+    let found = (answer, lent[LIST_AT..][..usize::from(lent[0])].to_vec());
+    KEPT.lock().unwrap().insert((text.to_vec(), model), found.clone());
+    found
+}
+
+/// The numbers of each entry of a paper.
+fn entries_of(list: &[u16]) -> Vec<Vec<u16>> {
+    let mut entries = Vec::new();
+    let mut left = list;
+    while !left.is_empty() {
+        let (entry, rest) = left.split_at(4 + usize::from(left[3]));
+        entries.push(entry.to_vec());
+        left = rest;
+    }
+    entries
+}
+
+/// A paper that goes on behind one entry more.
+fn one_on(list: &[u16]) -> Vec<u16> {
+    let mut entries = entries_of(list);
+    entries.iter_mut().for_each(|entry| entry[4..].iter_mut().for_each(|number| *number += 1));
+    entries.concat()
 }
 
 /// A trace cut down by a wrong reading of request 9; None for a fault that is none of these.

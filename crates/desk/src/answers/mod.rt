@@ -59,3 +59,8 @@ pub const NOT_ACCEPTED: u8 = 91;
 
 // A session: a load or swap waits for its source.
 pub const WAITS: u8 = 92;
+
+// A paper that is asked for: there is nothing to show, or it was written.
+pub const NOTHING_TO_SHOW: u8 = 93;
+
+pub const SHOWN: u8 = 94;

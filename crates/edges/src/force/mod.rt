@@ -21,6 +21,7 @@ ghost use Rattle.edges.specs.LastRound.{Ends};
 ghost use Rattle.edges.specs.inner.Settling.{Grew};
 ghost use Rattle.edges.specs.inner.Takes.{Lead, Takes, AskPair, AskSourced, AskWritten, AskNoted};
 ghost use Rattle.edges.specs.ForcedPairs.{RoundedBy, Rounded, ForcesBy, Forces};
+ghost use Rattle.edges.specs.RoundBefore.{PriorTo, PriorRound};
 use crate::Forced;
 use crate::kept::kept_rows;
 use pairs::modelled;
@@ -41,6 +42,13 @@ pub struct Round {
     pub number: usize,
     pub circle: bool,
     pub before: [u64; rows::CELLS],
+    pub edges: [u64; rows::CELLS],
+    pub chains: [u64; rows::CELLS],
+}
+
+// A round before another one: its number, its edges and its chains, as rows.
+pub struct Prior {
+    pub number: usize,
     pub edges: [u64; rows::CELLS],
     pub chains: [u64; rows::CELLS],
 }
@@ -412,6 +420,44 @@ fn run(
     }
 }
 
+// Goes from round to round until the next one is round k or has the edge x, y, and tells which one that is. What is left are its edges and its
+// chains. Once nothing is added any more, round k - 1 is as this one.
+fn run_before(
+    t: Trace,
+    kept: &[u64],
+    supposed: &[u64],
+    k: usize,
+    x: usize,
+    y: usize,
+    edges: &mut [u64],
+    chains: &mut [u64],
+) -> usize
+    requires { ⌜ (So (wellFormed t)) × (length (now edges) ≡ CELLS) × (length (now chains) ≡ CELLS) ⌝ }
+    ensures { λ r. ⌜ PriorTo (frameOf t) (lentOf t (now (kept .entry))) (supposedOf t (now (supposed .entry))) k x y r (now (edges .exit)) (now (chains .exit)) ⌝ }
+{
+    let mut sources = [RECORDS; RECORDS];
+    let mut writers = [0u64; rows::CELLS];
+    let mut before = [0u64; rows::CELLS];
+    let mut next = [0u64; rows::CELLS];
+    draw_first(t, kept, supposed, &mut sources, &mut writers, &mut next);
+    let mut number: usize = 0;
+    loop {
+        rows::copy(&next, edges);
+        close(edges, chains);
+        if k <= number + 1 {
+            return number;
+        }
+        let grew = advance(t.len, &sources, &writers, chains, &mut before, &mut next);
+        if rows::test(&next, x, y) {
+            return number;
+        }
+        if !grew {
+            return k - 1;
+        }
+        number += 1;
+    }
+}
+
 // The round at which the rounds end, from lent kept pairs and the supposed ones. For a trace that is not well formed, round 0, no circle and
 // no pairs.
 pub fn last_round_by(t: Trace, kept: &[u64], supposed: &[u64]) -> Round
@@ -455,6 +501,29 @@ pub fn last_round(t: Trace, model: u8, supposed: &[u64]) -> Round
         before: none,
         edges: none,
         chains: none,
+    }
+}
+
+// The first round that is followed by round k, or by one that has the edge x, y, from a model's kept pairs and the supposed ones. For a trace that
+// is not well formed, or a model that does not exist, round 0 and no pairs.
+pub fn round_before(t: Trace, model: u8, supposed: &[u64], k: usize, x: usize, y: usize) -> Prior
+    ensures { λ r. ⌜ PriorRound t model (now (supposed .entry)) k x y r ⌝ }
+{
+    let mut edges = [0u64; rows::CELLS];
+    let mut chains = [0u64; rows::CELLS];
+    if well_formed(t) & modelled(model) {
+        let kept = kept_rows(t, model);
+        let number = run_before(t, &kept, supposed, k, x, y, &mut edges, &mut chains);
+        return Prior {
+            number,
+            edges,
+            chains,
+        };
+    }
+    Prior {
+        number: 0,
+        edges,
+        chains,
     }
 }
 

@@ -48,16 +48,6 @@ pub(crate) fn number(from: &[u16], to: &[u16], count: usize, x: u16, y: u16) -> 
     0
 }
 
-// What stands at a place of a way from a by its steps to b; b after them.
-pub(crate) fn step_at(steps: &[u16], len: usize, b: u16, i: usize) -> u16
-    requires { ⌜ len ≤ length (now steps) ⌝ }
-{
-    if i < len {
-        return steps[i];
-    }
-    b
-}
-
 // Lays the numbers of the edges from a by the steps to b.
 pub(crate) fn number_all(
     from: &[u16],
