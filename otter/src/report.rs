@@ -45,8 +45,8 @@ body { font-family: sans-serif; margin: 2em; color: #222; }
 table { border-collapse: collapse; margin: 1em 0; }
 th, td { border: 1px solid #bbb; padding: 0.4em 0.8em; text-align: left; vertical-align: top; }
 td.count { text-align: right; }
-pre { margin: 0; white-space: pre-wrap; min-width: 46em; }
-svg { max-width: 48em; height: auto; }
+pre { margin: 0; white-space: pre-wrap; min-width: 24em; }
+svg { max-width: 42vw; height: auto; }
 .faulty { color: #a01c1c; }
 </style>
 </head>
