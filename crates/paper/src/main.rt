@@ -65,22 +65,20 @@ fn list_under(t: Trace, model: u8, room: &mut [u16]) -> Found {
     }
 }
 
-// The same for the first model that has a list to show.
+// The same for the first model under which the trace is faulty.
 fn first_list(t: Trace, room: &mut [u16]) -> Found {
-    let mut long = false;
     let mut model: u8 = pairs::SC;
     while model <= pairs::WMO {
         let found = list_under(t, model, room);
-        if 0 < found.count {
+        if (0 < found.count) | found.long {
             return found;
         }
-        long = long | found.long;
         model += 1;
     }
     Found {
         model: 0,
         count: 0,
-        long,
+        long: false,
     }
 }
 

@@ -7,10 +7,10 @@ use Rattle.paper.proofs.first_list.Statement.{statement}
 use Rattle.paper.proofs.first_list.Tie as tie
 
 abbrev Inv-loop : tie.InvT-loop
-Inv-loop t room₀ long₀ model₀ room long model = (model ≤ 5) × (length room ≡ length room₀)
+Inv-loop t room₀ model₀ room model = (model ≤ 5) × (length room ≡ length room₀)
 
 abbrev μ-loop : tie.MeasureT-loop
-μ-loop t room₀ long₀ model₀ room long model = 5 - model
+μ-loop t room₀ model₀ room model = 5 - model
 
 loop-holds : tie.Need-loop-holds Inv-loop μ-loop
 loop-holds c = search needs
