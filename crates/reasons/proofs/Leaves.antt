@@ -52,7 +52,7 @@ use Rattle.papers.proofs.Branches.{branch-long, branch-at}
 use Rattle.reasons.specs.inner.Fair.{Named, Fair}
 use Rattle.reasons.specs.inner.Telling.{edgesOf, inside, numbers, along, tell}
 use Rattle.reasons.specs.inner.Writing.{circleEntry, fallen, circleRound, closing, leafOf}
-use Rattle.reasons.specs.inner.Laid.{PutAt, Done, ToldBy}
+use Rattle.reasons.specs.inner.Laid.{PutAt, Done, EntriesTold}
 use Rattle.reasons.specs.inner.PutKept.{PutKept}
 use Rattle.reasons.specs.declared.naming.Put.{Put}
 use Rattle.reasons.specs.declared.naming.Put.the-variants.{At, Full}
@@ -175,10 +175,10 @@ module _ (f : Frame) (K P : Table) (k limit : ℕ) (from to out : List ℕ) (n a
   rests = numbers (E ++ edgesOf (circling (inside E))) s zs s
 
   -- by the pairs that the branch names
-  by-branch : (from₁ to₁ out₁ : List ℕ) (r : Told) → ToldBy limit from to out n at (circling P) from₁ to₁ out₁ r → ToldBy limit from to out n at (circling (inside E)) from₁ to₁ out₁ r
-  by-branch from₁ to₁ out₁ r = subst (λ (P : Table). ToldBy limit from to out n at (circling P) from₁ to₁ out₁ r) q
+  by-branch : (from₁ to₁ out₁ : List ℕ) (r : Told) → EntriesTold limit from to out n at (circling P) from₁ to₁ out₁ r → EntriesTold limit from to out n at (circling (inside E)) from₁ to₁ out₁ r
+  by-branch from₁ to₁ out₁ r = subst (λ (P : Table). EntriesTold limit from to out n at (circling P) from₁ to₁ out₁ r) q
 
-  pub closed-full : (from₁ to₁ out₁ : List ℕ) (r : Told) → ToldBy limit from to out n at (circling P) from₁ to₁ out₁ r → r ≡ Over → n + length (circling (inside E)) ≤ BRANCH
+  pub closed-full : (from₁ to₁ out₁ : List ℕ) (r : Told) → EntriesTold limit from to out n at (circling P) from₁ to₁ out₁ r → r ≡ Over → n + length (circling (inside E)) ≤ BRANCH
       → limit < at + length (spell (closing f K k E s zs))
   unfolding closing
   closed-full from₁ to₁ out₁ r d o l = elim (told-over limit from to out n at (circling (inside E)) from₁ to₁ out₁ r (by-branch from₁ to₁ out₁ r d) o) [
@@ -186,7 +186,7 @@ module _ (f : Frame) (K P : Table) (k limit : ℕ) (from to out : List ℕ) (n a
     | inr h ↦ absurd (omega arith)
   ]
 
-  module _ (from₁ to₁ out₁ : List ℕ) (r : Told) (m p : ℕ) (told : ToldBy limit from to out n at (circling P) from₁ to₁ out₁ r) (o : r ≡ On m p) where
+  module _ (from₁ to₁ out₁ : List ℕ) (r : Told) (m p : ℕ) (told : EntriesTold limit from to out n at (circling P) from₁ to₁ out₁ r) (o : r ≡ On m p) where
     pub closed-told : Done limit from to out n at (circling (inside E)) from₁ to₁ out₁ m p
     closed-told = told-on limit from to out n at (circling (inside E)) from₁ to₁ out₁ r m p (by-branch from₁ to₁ out₁ r told) o
 
