@@ -10,4 +10,5 @@ pub mod Lowest
 pub mod Bits
 pub mod Alike
 pub mod Latest
+pub mod Warshall
 pub mod inner

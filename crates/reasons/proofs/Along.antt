@@ -12,7 +12,7 @@ use lib.ListN.{length, getD, take, drop, drop-of-length-le}
 use lib.Seq.{length-take-le}
 use Rattle.papers.specs.Paper.{BRANCH, Claim, Entry}
 use Rattle.papers.specs.inner.ReaderBranch.{branchOf}
-use Rattle.reasons.specs.inner.Telling.{edgesOf, along}
+use Rattle.reasons.specs.Telling.{edgesOf, along}
 use Rattle.reasons.specs.inner.Laid.{Done, EntriesTold}
 use Rattle.reasons.specs.declared.naming.Told.{Told}
 use Rattle.reasons.specs.declared.naming.Told.the-variants.{On, Over}

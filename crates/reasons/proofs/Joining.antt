@@ -15,7 +15,7 @@ use lib.ListN.{length, length-append}
 use lib.Seq.{sets}
 use Rattle.papers.specs.Paper.{BRANCH, Entry, spell}
 use Rattle.papers.specs.inner.ReaderBranch.{branchOf}
-use Rattle.reasons.specs.inner.Telling.{edgesOf}
+use Rattle.reasons.specs.Telling.{edgesOf}
 use Rattle.reasons.specs.inner.Laid.{Done, EntriesTold}
 use Rattle.reasons.specs.declared.naming.Told.{Told}
 use Rattle.reasons.specs.declared.naming.Told.the-variants.{On, Over}

@@ -27,8 +27,8 @@ use Rattle.pairs.specs.SourceOf.{sourceOf}
 use Rattle.papers.specs.Paper.{BRANCH, Claim, Entry, named, spell}
 use Rattle.papers.specs.inner.ReaderBranch.{branchOf}
 use Rattle.papers.proofs.Branches.{branch-more, same-branch, set-same}
-use Rattle.reasons.specs.inner.Telling.{edgesOf, entryNumber, numbers}
-use Rattle.reasons.specs.inner.Ways.{stepOf, wayOf}
+use Rattle.reasons.specs.Telling.{edgesOf, entryNumber, numbers}
+use Rattle.reasons.specs.Ways.{stepOf, wayOf}
 use Rattle.reasons.specs.inner.Laid.{PutAt, Done, EntriesTold}
 use Rattle.reasons.specs.declared.naming.Put.{Put}
 use Rattle.reasons.specs.declared.naming.Put.the-variants.{At, Full}

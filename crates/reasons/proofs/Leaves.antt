@@ -29,8 +29,8 @@ use Rattle.rows.specs.Rows.{Edges}
 use Rattle.rules.specs.Frame.{Frame, Good}
 use Rattle.rules.specs.Rules.{Joins, InRecords, Chains, Edge as Forced}
 use Rattle.rules.specs.Circle.{Run, Shown}
-use Rattle.rules.specs.inner.ComputedRounds.{chains?, edge?}
-use Rattle.rules.specs.inner.ComputedWalks.{shown?}
+use Rattle.rules.specs.ComputedRounds.{chains?, edge?}
+use Rattle.rules.specs.ComputedWalks.{shown?}
 use Rattle.rules.proofs.Ends.{joins-within, step-within, chains-within}
 use Rattle.rules.proofs.RuleTests.{chains-iff, edge-iff}
 use Rattle.rules.proofs.Circle.{shown-one}
@@ -50,8 +50,8 @@ use Rattle.papers.specs.Paper.{BRANCH, Claim, Entry, edgeAt, spell}
 use Rattle.papers.specs.inner.ReaderBranch.{branchOf}
 use Rattle.papers.proofs.Branches.{branch-long, branch-at}
 use Rattle.reasons.specs.inner.Fair.{Named, Fair}
-use Rattle.reasons.specs.inner.Telling.{edgesOf, inside, numbers, along, tell}
-use Rattle.reasons.specs.inner.Writing.{circleEntry, fallen, circleRound, closing, leafOf}
+use Rattle.reasons.specs.Telling.{edgesOf, inside, numbers, along, tell}
+use Rattle.reasons.specs.Writing.{circleEntry, fallen, circleRound, closing, leafOf}
 use Rattle.reasons.specs.inner.Laid.{PutAt, Done, EntriesTold}
 use Rattle.reasons.specs.inner.PutKept.{PutKept}
 use Rattle.reasons.specs.declared.naming.Put.{Put}

@@ -25,7 +25,7 @@ use Rattle.laws.proofs.Lowest.{lowest-iff}
 use Rattle.trace.specs.Bounds.{RECORDS}
 use Rattle.rules.specs.Frame.{Frame, Good}
 use Rattle.rules.specs.Rules.{Chains, Edge as Forced, InRecords, nothing}
-use Rattle.rules.specs.inner.ComputedRounds.{chains?, edge?}
+use Rattle.rules.specs.ComputedRounds.{chains?, edge?}
 use Rattle.rules.specs.ShownCircle.{rule?}
 use Rattle.rules.specs.RuleTests.{source?}
 use Rattle.rules.proofs.RuleTests.{chains-iff, edge-iff}
@@ -37,8 +37,8 @@ use Rattle.pairs.specs.SourceOf.{sourceOf}
 use Rattle.edges.specs.RoundBefore.{PriorTo}
 use Rattle.papers.specs.Paper.{Claim, Entry, edgeAt}
 use Rattle.papers.specs.inner.ReaderBranch.{branchOf}
-use Rattle.reasons.specs.inner.Telling.{edgesOf, inside, entryPlace, numbers, along, ruleBy, restLoad, bareEntry, restsFrom, restsTo, wayAt, resting, tell}
-use Rattle.reasons.specs.inner.Ways.{wayOf}
+use Rattle.reasons.specs.Telling.{edgesOf, inside, entryPlace, numbers, along, ruleBy, restLoad, bareEntry, restsFrom, restsTo, wayAt, resting, tell}
+use Rattle.reasons.specs.Ways.{wayOf}
 use Rattle.reasons.specs.inner.Rests.{restingOn, RestsOn}
 use Rattle.reasons.specs.inner.Laid.{Done, EntriesTold}
 use Rattle.reasons.specs.declared.story.Rest.{Rest}

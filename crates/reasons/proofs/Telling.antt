@@ -24,7 +24,7 @@ use Rattle.rules.specs.Frame.{Frame, Good, Source, Writer}
 use Rattle.rules.specs.Rules.{Gives, rule1, rule2, rule3, rule4, rule5, rule6, rule7, rule8, Chains, Edge as Forced, InRecords, nothing}
 use Rattle.rules.specs.Circle.{Run}
 use Rattle.rules.specs.RuleTests.{gives?}
-use Rattle.rules.specs.inner.ComputedRounds.{chains?, edge?}
+use Rattle.rules.specs.ComputedRounds.{chains?, edge?}
 use Rattle.rules.specs.ShownCircle.{rule?}
 use Rattle.pairs.specs.SourceOf.{sourceOf}
 use Rattle.rules.proofs.RuleTests.{gives-iff, gives-small, chains-iff, edge-iff}
@@ -33,7 +33,7 @@ use Rattle.rules.proofs.Rounds.{edge-grow}
 use Rattle.rules.proofs.Ends.{step-within, chains-within}
 use Rattle.papers.specs.Paper.{CLOSE, SPLIT, CHAINED, Claim, Entry, edgeAt, named, chained, branchRoom, mayRest, fits, refutes}
 use Rattle.reasons.specs.inner.Fair.{Named, Distinct, further, Fair}
-use Rattle.reasons.specs.inner.Telling.{edgesOf, inside, entryPlace, entryNumber, numbers, along, ruleBy, restLoad, bareEntry, restsFrom, restsTo, wayAt, resting, tell}
+use Rattle.reasons.specs.Telling.{edgesOf, inside, entryPlace, entryNumber, numbers, along, ruleBy, restLoad, bareEntry, restsFrom, restsTo, wayAt, resting, tell}
 use Rattle.reasons.proofs.Names.{inside-iff, named-grow, named-last, named-cases, chained-one, chained-more}
 use Rattle.reasons.proofs.Short.{roomy-new}
 use Rattle.reasons.proofs.Written.{Runs, runs-edge}

@@ -17,8 +17,8 @@ use Rattle.rules.specs.Frame.{Frame}
 use Rattle.rules.specs.Rules.{Held, Contradicted}
 use Rattle.papers.specs.Paper.{CLOSE, SPLIT, Claim, Entry, named, chained, branchRoom, splits, fits, refutes, accepted}
 use Rattle.reasons.specs.inner.Fair.{Distinct}
-use Rattle.reasons.specs.inner.Telling.{inside}
-use Rattle.reasons.specs.inner.Writing.{circleEntry, splitEntry}
+use Rattle.reasons.specs.Telling.{inside}
+use Rattle.reasons.specs.Writing.{circleEntry, splitEntry}
 
 abbrev pub Runs : Frame → Table → List Claim → List Entry → List Claim → Type 0
 Runs f K E es E′ = (Es : List (List Claim)) (rest : List Entry) → So (refutes f K (E′ ∷ Es) rest) → So (refutes f K (E ∷ Es) (es ++ rest))

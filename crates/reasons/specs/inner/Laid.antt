@@ -13,7 +13,7 @@ use lib.ListN.{length}
 use lib.Seq.{sets}
 use Rattle.papers.specs.Paper.{BRANCH, Entry, spell}
 use Rattle.papers.specs.inner.ReaderBranch.{branchOf}
-use Rattle.reasons.specs.inner.Telling.{edgesOf}
+use Rattle.reasons.specs.Telling.{edgesOf}
 use Rattle.reasons.specs.declared.naming.Put.{Put}
 use Rattle.reasons.specs.declared.naming.Put.the-variants.{At, Full}
 use Rattle.reasons.specs.declared.naming.Told.{Told}

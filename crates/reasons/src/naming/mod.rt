@@ -5,7 +5,7 @@ ghost use Prim.Native.Nat.{_+_, _<_, _≤_};
 ghost use lib.ListN.{length, take};
 ghost use Rattle.papers.specs.Paper.{BRANCH, spell};
 ghost use Rattle.papers.specs.inner.ReaderBranch.{branchOf};
-ghost use Rattle.reasons.specs.inner.Telling.{entryPlace, entryNumber, numbers};
+ghost use Rattle.reasons.specs.Telling.{entryPlace, entryNumber, numbers};
 ghost use Rattle.reasons.specs.inner.Laid.{PutAt, EntriesTold};
 use papers::BRANCH;
 

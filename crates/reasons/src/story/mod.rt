@@ -14,7 +14,7 @@ ghost use Rattle.rows.specs.Rows.{bit};
 ghost use Rattle.edges.specs.Supposed.{supposedOf};
 ghost use Rattle.papers.specs.Paper.{BRANCH};
 ghost use Rattle.papers.specs.inner.ReaderBranch.{branchOf};
-ghost use Rattle.reasons.specs.inner.Telling.{numbers, restLoad, tell};
+ghost use Rattle.reasons.specs.Telling.{numbers, restLoad, tell};
 ghost use Rattle.reasons.specs.inner.Rests.{RestsOn};
 ghost use Rattle.reasons.specs.inner.Laid.{EntriesTold};
 use crate::naming::Told;

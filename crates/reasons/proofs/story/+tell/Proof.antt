@@ -11,7 +11,7 @@ use Rattle.edges.specs.Supposed.{supposedOf}
 use Rattle.papers.specs.Paper.{BRANCH, Entry}
 use Rattle.papers.specs.inner.ReaderBranch.{branchOf}
 use Rattle.papers.proofs.Branches.{branch-long}
-use Rattle.reasons.specs.inner.Telling.{tell as telling}
+use Rattle.reasons.specs.Telling.{tell as telling}
 use Rattle.reasons.specs.inner.Laid.{EntriesTold}
 use Rattle.reasons.specs.declared.naming.Told.the-variants.{On, Over}
 use Rattle.reasons.proofs.Joining.{told-none, told-on, told-over}
