@@ -7,6 +7,7 @@ pub mod ListOf
 pub mod Sums
 pub mod Dict
 pub mod Lowest
+pub mod Picks
 pub mod Bits
 pub mod Alike
 pub mod Latest

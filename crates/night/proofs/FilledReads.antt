@@ -21,6 +21,7 @@ use lib.ListN.{length, getD, set, take, drop, length-set, drop-of-length-le, Lis
 use lib.Seq.{take-suc-set, take-all, drop-cons, drop-drop, getD-drop}
 use Rattle.trace.specs.Bounds.{RECORDS, ADDRESSES, VALUES}
 use Rattle.laws.specs.Tests.{any}
+use Rattle.laws.specs.Picks.{picks}
 use Rattle.trace.specs.Op.{thread, address, read, written, reads, writes, fence}
 use Rattle.trace.specs.Trace.{at, idle, first}
 use Rattle.trace.specs.Meaning.{frameOf}
@@ -33,7 +34,7 @@ use Rattle.trace.specs.declared.Trace.{Trace}
 use Rattle.trace.proofs.Places.{at-past}
 use Rattle.trace.proofs.WellFormed.{form-iff}
 use Rattle.pairs.specs.Kept.{kindOf, modelled, keptBy, fenced, keptOf}
-use Rattle.signature.specs.Reads.{each, picks, other, values, valueOf, loads}
+use Rattle.signature.specs.Reads.{each, other, values, valueOf, loads}
 use Rattle.signature.specs.Unpack.{digitIn, readsOf}
 use Rattle.edges.specs.KeptRows.{KeptRows}
 use Rattle.night.specs.FilledReads.{readAs, fillReads, filledReads}

@@ -18,6 +18,7 @@ use lib.Dec.{leb}
 use lib.ListN.{length, getD, set, replicate, length-set, length-replicate, getD-replicate}
 use lib.Seq.{getD-set-same, getD-set-other}
 use Rattle.laws.specs.Tests.{any}
+use Rattle.laws.specs.Picks.{picks}
 use Rattle.laws.proofs.Tests.{eq?}
 use Rattle.trace.specs.Bounds.{RECORDS, THREADS}
 use Rattle.trace.specs.Op.{reads}
@@ -25,7 +26,7 @@ use Rattle.trace.specs.Trace.{at}
 use Rattle.trace.specs.FormFacts.{Form}
 use Rattle.trace.specs.declared.Trace.{Trace}
 use Rattle.signature.specs.DigitWords.{LIMIT}
-use Rattle.signature.specs.Reads.{picks, each, rangeOf, valueOf, reader, loads}
+use Rattle.signature.specs.Reads.{each, rangeOf, valueOf, reader, loads}
 use Rattle.signature.specs.Signature.{tops}
 use Rattle.signature.specs.Unpack.{readsOf}
 use Rattle.signature.specs.inner.WordsLaid.{

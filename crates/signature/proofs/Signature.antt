@@ -15,6 +15,7 @@ use native.Mathlib.Omega.{arith}
 use lib.Dec.{eqb}
 use lib.ListN.{length, getD, length-append}
 use Rattle.laws.specs.Places.{pos, count}
+use Rattle.laws.specs.Picks.{picks}
 use Rattle.laws.proofs.Tests.{and-iff, same-iff, so-eq, eq?, not-iff}
 use Rattle.laws.proofs.Places.{at-pos, pos-at, count-here, count-later, pos-inj}
 use Rattle.trace.specs.Bounds.{THREADS}
@@ -26,7 +27,7 @@ use Rattle.trace.specs.declared.Trace.{Trace}
 use Rattle.trace.proofs.Meaning.{writes-iff}
 use Rattle.trace.proofs.Good.{form-good}
 use Rattle.signature.specs.DigitWords.{packed, wordsOf}
-use Rattle.signature.specs.Reads.{other, picks, each, values, rangeOf, digitOf, valueOf, reader, readers, AllListed}
+use Rattle.signature.specs.Reads.{other, each, values, rangeOf, digitOf, valueOf, reader, readers, AllListed}
 use Rattle.signature.specs.Signature.{threadWords, wordsUpTo, wordsBy, signature, tops}
 use Rattle.signature.proofs.DigitWords.{Digits, packed-one, packed-long}
 use Rattle.signature.proofs.Lists.{each-none, each-once, pick-all, pick-same, pick-like, append-parts}

@@ -15,6 +15,7 @@ use lib.Dec.{eqb}
 use lib.ListN.{length, getD, take, drop, take-append-drop}
 use lib.Seq.{take-at, drop-at}
 use Rattle.laws.specs.Places.{pos, count}
+use Rattle.laws.specs.Picks.{picks}
 use Rattle.laws.proofs.Tests.{eq?, so-eq, off, and-iff, same-iff}
 use Rattle.trace.specs.Bounds.{THREADS}
 use Rattle.trace.specs.Op.{thread, reads}
@@ -22,7 +23,7 @@ use Rattle.trace.specs.Trace.{at}
 use Rattle.trace.specs.FormFacts.{Form}
 use Rattle.trace.specs.declared.Trace.{Trace}
 use Rattle.signature.specs.DigitWords.{taken, packed}
-use Rattle.signature.specs.Reads.{picks, each, values, rangeOf, digitOf, valueOf, reader, readers, AllListed}
+use Rattle.signature.specs.Reads.{each, values, rangeOf, digitOf, valueOf, reader, readers, AllListed}
 use Rattle.signature.specs.Signature.{threadWords, wordsUpTo, wordsBy, signature}
 use Rattle.signature.specs.Unpack.{wordCount, partFrom, partOf, digitIn, readOf}
 use Rattle.signature.proofs.DigitWords.{Ranges, Digits, room, taken-packed, packed-taken, taken-digits}

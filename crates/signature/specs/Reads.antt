@@ -2,7 +2,6 @@
 -- value for each record (a record that does not read has none).
 --
 --   other t L i    == record i writes L's address and is not L
---   picks q i k    == i, i + 1, .., k of them that pass q
 --   each g is      == g of each
 --   values t L     == what L may have read, by digit: the first value, then what the writers of its address wrote, by record number
 --   rangeOf t L    == how many those are
@@ -13,11 +12,12 @@
 --   loads t        == all loads and swaps by record number
 --   AllListed t v  == each read is in its list
 --   unlisted t v L == that of L is not
-use mathlib.Core.Bool.{Bool, cond, not, So, _&&_}
+use mathlib.Core.Bool.{Bool, not, So, _&&_}
 use mathlib.Core.List.{List, [], _∷_}
-use Prim.Native.Nat.{ℕ, zero, suc, _<_}
+use Prim.Native.Nat.{ℕ, _<_}
 use lib.Dec.{eqb}
 use lib.ListN.{length, getD}
+use Rattle.laws.specs.Picks.{picks}
 use Rattle.laws.specs.Places.{pos}
 use Rattle.trace.specs.Op.{thread, address, written, reads, writes}
 use Rattle.trace.specs.Trace.{at, first}
@@ -25,10 +25,6 @@ use Rattle.trace.specs.declared.Trace.{Trace}
 
 unfoldable pub other : Trace → ℕ → ℕ → Bool
 other t L i = writes (at t i) && eqb (address (at t i)) (address (at t L)) && not (eqb i L)
-
-unfoldable pub picks : (ℕ → Bool) → ℕ → ℕ → List ℕ
-picks q i zero = []
-picks q i (suc k) = cond (q i) (i ∷ picks q (suc i) k) (picks q (suc i) k)
 
 unfoldable pub each : (ℕ → ℕ) → List ℕ → List ℕ
 each g [] = []
