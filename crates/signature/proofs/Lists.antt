@@ -18,9 +18,10 @@ use native.Mathlib.Numerals.{add-one}
 use native.Mathlib.Omega.{arith}
 use lib.ListN.{length, getD}
 use Rattle.laws.specs.Places.{pos, count}
+use Rattle.laws.specs.Picks.{picks}
 use Rattle.laws.proofs.Tests.{eq?}
 use Rattle.laws.proofs.Places.{pos-here, pos-later, count-here, count-later, count-le}
-use Rattle.signature.specs.Reads.{picks, each}
+use Rattle.signature.specs.Reads.{each}
 use Rattle.signature.proofs.DigitWords.{Digits, none, one}
 
 module _ (q : ℕ → Bool) (g : ℕ → ℕ) where

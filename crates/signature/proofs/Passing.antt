@@ -16,11 +16,12 @@ use lib.Dec.{eqb}
 use lib.ListN.{length, getD}
 use borrow.Author.Tests.{eq-eqb, ne-eqb}
 use Rattle.laws.specs.Places.{pos}
+use Rattle.laws.specs.Picks.{picks}
 use Rattle.laws.proofs.Places.{pos-here, pos-later}
 use Rattle.trace.specs.Op.{address, written, reads, writes}
 use Rattle.trace.specs.Trace.{at, first}
 use Rattle.trace.specs.declared.Trace.{Trace}
-use Rattle.signature.specs.Reads.{other, picks, each, values, rangeOf, digitOf, valueOf, loads}
+use Rattle.signature.specs.Reads.{other, each, values, rangeOf, digitOf, valueOf, loads}
 use Rattle.signature.proofs.Lists.{pick-step, pick-end, each-long}
 
 -- what is still to come from record i on

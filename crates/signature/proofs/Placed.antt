@@ -18,6 +18,7 @@ use lib.Dec.{leb}
 use lib.ListN.{length, getD, set, replicate, length-set, length-replicate, getD-replicate}
 use lib.Seq.{getD-set-same, getD-set-other}
 use Rattle.laws.specs.Tests.{any}
+use Rattle.laws.specs.Picks.{picks}
 use Rattle.laws.proofs.Tests.{eq?}
 use Rattle.trace.specs.Bounds.{RECORDS, THREADS}
 use Rattle.trace.specs.Op.{reads}
@@ -25,7 +26,7 @@ use Rattle.trace.specs.Trace.{at}
 use Rattle.trace.specs.FormFacts.{Form}
 use Rattle.trace.specs.declared.Trace.{Trace}
 use Rattle.signature.specs.DigitWords.{LIMIT}
-use Rattle.signature.specs.Reads.{picks, each, rangeOf, valueOf, reader, loads}
+use Rattle.signature.specs.Reads.{each, rangeOf, valueOf, reader, loads}
 use Rattle.signature.specs.Signature.{tops}
 use Rattle.signature.specs.Unpack.{readsOf}
 use Rattle.signature.specs.inner.WordsLaid.{
@@ -42,7 +43,7 @@ use Rattle.signature.specs.inner.WordsLaid.{
   placedOf,
   placedAt,
   placedFrom,
-  leftOf,
+  pastThread,
   placedThread,
   placedAll,
   nonePlaced,
@@ -168,15 +169,15 @@ module _ (ws : List ℕ) where
       }
 
       -- and its last one done with
-      shuts : (x : Taking) (y : Places) → Along x y → Same (shutOf x) (leftOf y)
-      unfolding shutOf leftOf digitBy
+      shuts : (x : Taking) (y : Places) → Along x y → Same (shutOf x) (pastThread y)
+      unfolding shutOf pastThread digitBy
       shuts x y a = record { at = ap stepOn (a .same .at); digits = a .same .digits; full = a .same .full; full-word = a .same .full-word; full-below = a .same .full-below; full-range = a .same .full-range }
 
       pub same-thread : (x : Taking) (y : Places) → Same x y → y .q ≡ 0 → Same (tookThread t τ ws x) (placedThread t τ y) × (placedThread t τ y .q ≡ 0)
-      unfolding tookThread placedThread leftOf
+      unfolding tookThread placedThread pastThread
       same-thread x y s z = go (any (t .len) (reader t τ))
         where
-          go : (c : Bool) → Same (cond c (shutOf (tookFrom t τ ws (openedOf ws x) 0 (t .len))) x) (cond c (leftOf (placedFrom t τ y 0 (t .len))) y) × (cond c (leftOf (placedFrom t τ y 0 (t .len))) y .q ≡ 0)
+          go : (c : Bool) → Same (cond c (shutOf (tookFrom t τ ws (openedOf ws x) 0 (t .len))) x) (cond c (pastThread (placedFrom t τ y 0 (t .len))) y) × (cond c (pastThread (placedFrom t τ y 0 (t .len))) y .q ≡ 0)
           go true = (shuts (tookFrom t τ ws (openedOf ws x) 0 (t .len)) (placedFrom t τ y 0 (t .len)) (along-from (t .len) 0 (openedOf ws x) y (omega arith) (opens x y s z)), refl)
           go false = (s, z)
 
@@ -239,15 +240,15 @@ module _ (x : Places) where
     from-over n i h = let e : n - i ≡ 0 = omega arith in ap (placedFrom t τ x i) e
 
     pub thread-placed : So (any (t .len) (reader t τ)) → (y : Places) (n : ℕ) → y ≡ placedFrom t τ x 0 (t .len) → n ≡ stepOn (y .at) → record { word = y .word; below = y .below; range = y .range; at = n; q = 0 } ≡ placedThread t τ x
-    unfolding placedThread leftOf
+    unfolding placedThread pastThread
     thread-placed s y n e f =
         ap (λ (n : ℕ). record { word = y .word; below = y .below; range = y .range; at = n; q = 0 }) f
         ∙ ap (λ (y : Places). record { word = y .word; below = y .below; range = y .range; at = stepOn (y .at); q = 0 }) e
-        ∙ ap (λ (b : Bool). cond b (leftOf (placedFrom t τ x 0 (t .len))) x) (sym s)
+        ∙ ap (λ (b : Bool). cond b (pastThread (placedFrom t τ x 0 (t .len))) x) (sym s)
 
     pub thread-left : any (t .len) (reader t τ) ≡ false → x ≡ placedThread t τ x
     unfolding placedThread
-    thread-left s = ap (λ (b : Bool). cond b (leftOf (placedFrom t τ x 0 (t .len))) x) (sym s)
+    thread-left s = ap (λ (b : Bool). cond b (pastThread (placedFrom t τ x 0 (t .len))) x) (sym s)
 
   module _ (t : Trace) where
     pub all-on : (n τ : ℕ) → τ < n → placedAll t (placedThread t τ x) (τ + 1) (n - (τ + 1)) ≡ placedAll t x τ (n - τ)

@@ -10,7 +10,7 @@ use Prim.Native.Nat.{ℕ, zero, suc}
 use lib.Dec.{eqb}
 use Rattle.laws.specs.Tests.{any}
 use Rattle.laws.specs.Relation.{Table}
-use Rattle.laws.specs.inner.Warshall.{memo}
+use Rattle.laws.specs.Warshall.{memo}
 use Rattle.laws.specs.Lowest.{lowest}
 
 unfoldable pub walk? : ℕ → Table → ℕ → Table

@@ -7,7 +7,7 @@ use mathlib.Core.Bool.{false}
 use Prim.Native.Nat.{ℕ, zero, suc}
 use Rattle.laws.specs.Tests.{any}
 use Rattle.laws.specs.Relation.{Table}
-use Rattle.laws.specs.inner.Warshall.{chains}
+use Rattle.laws.specs.Warshall.{chains}
 use Rattle.rules.specs.Frame.{Frame}
 use Rattle.rules.specs.RuleTests.{gives?}
 

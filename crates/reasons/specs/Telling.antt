@@ -25,11 +25,11 @@ use Rattle.laws.specs.Lowest.{lowest}
 use Rattle.trace.specs.Bounds.{RECORDS}
 use Rattle.rules.specs.Frame.{Frame}
 use Rattle.rules.specs.Rules.{nothing}
-use Rattle.rules.specs.inner.ComputedRounds.{chains?, edge?}
+use Rattle.rules.specs.ComputedRounds.{chains?, edge?}
 use Rattle.pairs.specs.SourceOf.{sourceOf}
 use Rattle.rules.specs.ShownCircle.{rule?}
 use Rattle.papers.specs.Paper.{Claim, Entry, edgeAt}
-use Rattle.reasons.specs.inner.Ways.{wayOf}
+use Rattle.reasons.specs.Ways.{wayOf}
 
 unfoldable pub edgesOf : List Entry → List Claim
 edgesOf [] = []

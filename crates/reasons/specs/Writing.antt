@@ -25,14 +25,14 @@ use Rattle.laws.specs.Lowest.{lowest}
 use Rattle.trace.specs.Bounds.{RECORDS}
 use Rattle.rules.specs.Frame.{Frame}
 use Rattle.rules.specs.RuleTests.{writer?}
-use Rattle.rules.specs.inner.ComputedRounds.{chains?, edge?}
+use Rattle.rules.specs.ComputedRounds.{chains?, edge?}
 use Rattle.pairs.specs.SourceOf.{sourceOf}
-use Rattle.rules.specs.inner.ComputedWalks.{shown?}
-use Rattle.papers.specs.Paper.{CIRCLE, SPLIT, Claim, Entry, named}
-use Rattle.reasons.specs.inner.Telling.{edgesOf, inside, numbers, along, tell}
+use Rattle.rules.specs.ComputedWalks.{shown?}
+use Rattle.papers.specs.Paper.{CLOSE, SPLIT, Claim, Entry, named}
+use Rattle.reasons.specs.Telling.{edgesOf, inside, numbers, along, tell}
 
 abbrev pub circleEntry : ℕ → List ℕ → Entry
-circleEntry x is = record { rule = CIRCLE; from = x; to = x; rests = is }
+circleEntry x is = record { rule = CLOSE; from = x; to = x; rests = is }
 
 abbrev pub splitEntry : ℕ → ℕ → Entry
 splitEntry x y = record { rule = SPLIT; from = x; to = y; rests = [] }
