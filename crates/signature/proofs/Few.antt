@@ -1,6 +1,7 @@
 -- A program has no more words than loads, and no more loads than records.
 --
 --   pick-short  == no more pass than there are
+--   split-few   == two tests that exclude each other pass no more than one that has both
 --   range-small == a load's list is at most one longer than the trace
 --   words-few, words-loads == no more words than records, and no more than loads
 use mathlib.Core.Path.{_≡_, refl, sym, ap, _∙_}
@@ -36,8 +37,7 @@ pub range-small : (t : Trace) (L : ℕ) → rangeOf t L ≤ suc (t .len)
 unfolding values
 range-small t L = omega (arith, each-long (λ i. written (at t i)) (picks (other t L) 0 (t .len)), pick-short (other t L) 0 (t .len))
 
--- two tests that exclude each other pass no more than one that has both
-split-few : (q v u : ℕ → Bool) → ((j : ℕ) → So (q j) → So (u j) × (v j ≡ false)) → ((j : ℕ) → So (v j) → So (u j)) → (i k : ℕ) → length (picks q i k) + length (picks v i k) ≤ length (picks u i k)
+pub split-few : (q v u : ℕ → Bool) → ((j : ℕ) → So (q j) → So (u j) × (v j ≡ false)) → ((j : ℕ) → So (v j) → So (u j)) → (i k : ℕ) → length (picks q i k) + length (picks v i k) ≤ length (picks u i k)
 unfolding picks
 split-few q v u f g i zero = omega arith
 split-few q v u f g i (suc k) = go (q i) (v i) (u i) refl refl refl (split-few q v u f g (suc i) k)

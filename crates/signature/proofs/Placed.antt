@@ -4,6 +4,7 @@
 --   Along x y      == so it is within a thread, with as much of the word left
 --   along-placed, along-looked, along-from == it stays so for one digit more, one record, all records
 --   same-thread, same-all                  == and for a thread, and all of them
+--   digits-small   == each load has one of its own digits
 --   reads-placed   == so the reads by place are those that the words stand for
 --   placed-in .. all-over == what each function of the code comes to
 use mathlib.Core.Path.{_≡_, refl, sym, ap, ap₂, _∙_, subst}
@@ -28,7 +29,8 @@ use Rattle.trace.specs.declared.Trace.{Trace}
 use Rattle.signature.specs.DigitWords.{LIMIT}
 use Rattle.signature.specs.Reads.{each, rangeOf, valueOf, reader, loads}
 use Rattle.signature.specs.Signature.{tops}
-use Rattle.signature.specs.Unpack.{readsOf}
+use Rattle.signature.specs.Unpack.{digitIn, readOf, readsOf}
+use Rattle.signature.specs.inner.LoadLists.{DigitsSmall}
 use Rattle.signature.specs.inner.WordsLaid.{
   Taking,
   stepOn,
@@ -53,7 +55,8 @@ use Rattle.signature.specs.inner.WordsLaid.{
 use Rattle.signature.specs.declared.Places.{Places}
 use Rattle.signature.proofs.Lists.{each-on, pick-facts}
 use Rattle.signature.proofs.Laid.{range-some}
-use Rattle.signature.proofs.Taken.{reads-taken}
+use Rattle.signature.proofs.Taken.{digit-taken}
+use Rattle.signature.proofs.Unpack.{digit-small}
 
 module _ (ws : List ℕ) where
   pub record Same (x : Taking) (y : Places) : Type 0 where
@@ -198,12 +201,18 @@ module _ (ws : List ℕ) where
       full-range = length-replicate {A = ℕ} RECORDS 1;
     }
 
+    -- the digit of a load is the one that the words have for it, and so one of its own
+    digit-placed : Form t → length ws ≤ RECORDS → length ws ≡ length (tops t) → (L : ℕ) → L < t .len → So (reads (at t L)) → digitBy (placesOf t) ws L ≡ digitIn t ws L
+    digit-placed form short l L h s = sym (same-all THREADS 0 noneTaken nonePlaced begins refl .digits L (omega (arith, h, few))) ∙ digit-taken t ws few short form l L h s
+
+    pub digits-small : Form t → length ws ≤ RECORDS → length ws ≡ length (tops t) → DigitsSmall t (placesOf t) ws
+    digits-small form short l L h s = subst (λ (d : ℕ). d < rangeOf t L) (sym (digit-placed form short l L h s)) (digit-small t form ws L h s)
+
     pub reads-placed : Form t → length ws ≤ RECORDS → length ws ≡ length (tops t) → each (λ L. valueOf t L (digitBy (placesOf t) ws L)) (loads t) ≡ readsOf t ws
     unfolding loads
     reads-placed form short l =
-        each-on (λ L. valueOf t L (digitBy (placesOf t) ws L)) (λ L. valueOf t L (getD (tookAll t ws noneTaken 0 THREADS .of) L 0)) (picks (λ L. reads (at t L)) 0 (t .len))
-        (λ L h. let u = pick-facts (λ L. reads (at t L)) 0 (t .len) L h in ap (valueOf t L) (sym (same-all THREADS 0 noneTaken nonePlaced begins refl .digits L (omega (arith, u .0, few)))))
-        ∙ reads-taken t ws few short form l
+        each-on (λ L. valueOf t L (digitBy (placesOf t) ws L)) (readOf t ws) (picks (λ L. reads (at t L)) 0 (t .len))
+        (λ L h. let u = pick-facts (λ L. reads (at t L)) 0 (t .len) L h in ap (valueOf t L) (digit-placed form short l L (omega (arith, u .0)) (u .1)))
 
 -- ---- what each function of the code comes to, by the tests that lead there
 module _ (x : Places) where

@@ -6,7 +6,7 @@
 --   took-ran      == so for all records, as a thread sees them (Took)
 --   took-thread   == the digits of a thread stand at its loads, and the place is behind its words (Had)
 --   took-all      == so for all threads (Have)
---   digit-taken, reads-taken == each load has its digit, and so its value
+--   digit-taken   == each load has its digit
 use mathlib.Core.Path.{_≡_, refl, sym, ap, ap₂, _∙_, subst}
 use mathlib.Core.Logic.{_≢_, _⊎_, inl, inr}
 use mathlib.Core.Bool.{Bool, true, false, cond, So, _&&_, false≢true}
@@ -30,9 +30,9 @@ use Rattle.trace.specs.Trace.{at}
 use Rattle.trace.specs.FormFacts.{Form}
 use Rattle.trace.specs.declared.Trace.{Trace}
 use Rattle.signature.specs.DigitWords.{LIMIT, least, rest, nextWords, wordsFrom, takeFrom, wordsOf, taken}
-use Rattle.signature.specs.Reads.{each, values, rangeOf, valueOf, reader, readers, loads}
+use Rattle.signature.specs.Reads.{each, values, rangeOf, reader, readers, loads}
 use Rattle.signature.specs.Signature.{wordsUpTo, tops, threadWords}
-use Rattle.signature.specs.Unpack.{wordCount, partFrom, partOf, digitIn, readOf, readsOf}
+use Rattle.signature.specs.Unpack.{wordCount, partFrom, partOf, digitIn}
 use Rattle.signature.specs.inner.WordsLaid.{Taking, stepOn, tookOf, lookedOf, tookFrom, openedOf, shutOf, tookThread, tookAll, noneTaken}
 use Rattle.signature.proofs.DigitWords.{take-more, words-some}
 use Rattle.signature.proofs.Lists.{each-at, each-on, each-append, pick-snoc, pick-facts, pick-low, pick-in}
@@ -322,10 +322,3 @@ module _ (t : Trace) (ws : List ℕ) (few : t .len ≤ RECORDS) (short : length 
       let h = took-all THREADS 0 noneTaken (length-replicate {A = ℕ} RECORDS 0) (omega (arith, l)) in
       sym (each-at (λ j. getD (tookAll t ws noneTaken 0 THREADS .of) j 0) (readers t τ) L (is-reader t L b s))
       ∙ ap (λ (ds : List ℕ). getD ds (pos (readers t τ) L) 0) (h .digits τ (omega arith) (omega (arith, form .used L b .keeps .thread-below)))
-
-  -- and so its value
-  pub reads-taken : Form t → length ws ≡ length (tops t) → each (λ L. valueOf t L (getD (tookAll t ws noneTaken 0 THREADS .of) L 0)) (loads t) ≡ readsOf t ws
-  unfolding loads
-  reads-taken form l =
-      each-on (λ L. valueOf t L (getD (tookAll t ws noneTaken 0 THREADS .of) L 0)) (readOf t ws) (picks (λ L. reads (at t L)) 0 (t .len))
-      (λ L h. let u = pick-facts (λ L. reads (at t L)) 0 (t .len) L h in ap (valueOf t L) (digit-taken form l L (omega (arith, u .0)) (u .1)))

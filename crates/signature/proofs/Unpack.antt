@@ -2,6 +2,7 @@
 --
 --   part-same     == the part of a thread, among the words of all, is its own words
 --   unpack-pack   == the reads come back from their words
+--   digit-small   == each digit is one of its load's
 --   unpack-listed == any words stand for reads that are in their lists
 --   roomUpTo t ws σ k == ws has as many words as the threads σ, σ + 1, .., k of them take, and none is too large
 --   pack-back     == such words come back from the reads that they stand for
@@ -91,6 +92,11 @@ module _ (t : Trace) (form : Form t) (ws : List ℕ) where
       let q : digitOf t L (readOf t ws L) ≡ getD (digitsIn τ) (pos (readers t τ) L) 0
       = ap (λ (τ : ℕ). digitOf t L (valueOf t L (getD (digitsIn τ) (pos (readers t τ) L) 0))) e ∙ digit-value t form L (getD (digitsIn τ) (pos (readers t τ) L) 0) b in
       (q, subst (λ (d : ℕ). d < rangeOf t L) (sym q) b)
+
+  -- the digit of a load is one of its own
+  pub digit-small : (L : ℕ) → L < t .len → So (reads (at t L)) → digitIn t ws L < rangeOf t L
+  unfolding digitIn
+  digit-small L b s = let τ = thread (at t L) in by-bound (rangeOf t) (readers t τ) (digitsIn τ) (good-digits τ) L (is-reader t L b s)
 
   -- each of the reads is in its list
   pub unpack-listed : AllListed t (readOf t ws)
