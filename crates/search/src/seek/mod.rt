@@ -13,9 +13,9 @@ ghost use Rattle.search.specs.inner.SearchTables.{tables};
 ghost use Rattle.search.specs.inner.Candidates.{Quiet, MayCome, Unread, Covered, Stops};
 ghost use Rattle.search.specs.inner.DeadSets.{Recalls, Noted};
 ghost use Rattle.search.specs.inner.SearchBelow.{Room, Sought};
-use crate::refute::refuted;
 use crate::sets::join;
 use crate::sets::rest;
+use crate::split::refuted;
 use trace::RECORDS;
 
 // How many sets the memory has room for.
