@@ -1,6 +1,6 @@
 -- The tables are laid.
 --
---   filled       == rows to which every pair that passes was added
+--   filled       == what is held, turned round
 --   upTo f k     == how many operations there are below k
 --   Counting f k ops m == ops is the set of the operations below k, and m their number
 --   counting-none, counting-more, counting-skip, counted == record by record, and past the last one
@@ -8,7 +8,7 @@
 --   source-laid  == the lowest writer of the load's address that wrote what it reads is its source
 --   lacks-read   == a record lacks its source, as it is read off the trace and the sources
 use mathlib.Core.Path.{_≡_, refl, sym, ap, _∙_, subst}
-use mathlib.Core.Logic.{_⊎_, inl, inr, _↔_}
+use mathlib.Core.Logic.{inl, inr, _↔_}
 use mathlib.Core.Bool.{Bool, false, So, cond, not, _&&_, false≢true}
 use mathlib.Core.List.{List}
 use Prim.Native.Nat.{ℕ, _+_, _<_, _≤_}
@@ -18,7 +18,6 @@ use borrow.Author.Count.{below-more}
 use lib.Dec.{eqb, leb}
 use lib.ListN.{length, getD, set}
 use lib.Seq.{getD-set-same, getD-set-other}
-use Rattle.laws.specs.Relation.{Table}
 use Rattle.laws.specs.Sums.{sum}
 use Rattle.laws.proofs.Tests.{off, eq?, and-iff, or-iff, not-iff, same-iff, so-lt, so-eq}
 use Rattle.trace.specs.Bounds.{RECORDS}
@@ -29,14 +28,13 @@ use Rattle.trace.specs.Trace.{at, first}
 use Rattle.trace.specs.WellFormed.{wellFormed}
 use Rattle.trace.specs.declared.Trace.{Trace}
 use Rattle.trace.proofs.Meaning.{operation-iff}
-use Rattle.rows.specs.Bounds.{WORDS}
+use Rattle.rows.specs.Bounds.{WORDS, CELLS}
 use Rattle.rows.specs.Rows.{bit}
 use Rattle.rows.specs.Empty.{emptyOf}
 use Rattle.rows.specs.Put.{putOf}
+use Rattle.rows.specs.TurnedRound.{TurnedRound}
 use Rattle.rows.proofs.Rows.{bit-bounds}
 use Rattle.rows.proofs.Whole.{empty-bit, empty-long}
-use Rattle.edges.specs.inner.PairSets.{Only, Union}
-use Rattle.rows.specs.inner.AddedPairs.{Added}
 use Rattle.rules.specs.Missing.{missing?}
 use Rattle.rules.specs.RuleTests.{source?}
 use Rattle.pairs.specs.SourceOf.{readsFrom, sourceOf}
@@ -46,16 +44,8 @@ use Rattle.pairs.proofs.MissingOf.{lacks-parts}
 use Rattle.search.specs.inner.TablesLaid.{Filled, Addressed, Counted, Valued, SourceIn}
 use Rattle.rows.proofs.Sets.{put-more}
 
-pub filled : (n : ℕ) (R : Table) (m : ℕ) (rows : List ℕ) → Added (emptyOf m) (Union n (λ y. Union n (λ x. Only (R x y) y x))) rows → Filled n R rows
-unfolding Union
-filled n R m rows a = record { pairs = λ x y. (forth x y, λ h. a .pairs y x .1 (inr (y, h .0, (x, h .1, (h .2, refl, refl))))) }
-  where
-    forth : (x y : ℕ) → So (bit rows y x) → (y < n) × (x < n) × So (R x y)
-    forth x y t = go (a .pairs y x .0 t)
-      where
-        go : So (bit (emptyOf m) y x) ⊎ Union n (λ y. Union n (λ x. Only (R x y) y x)) y x → (y < n) × (x < n) × So (R x y)
-        go (inl e) = absurd (false≢true (sym (empty-bit m y x) ∙ e))
-        go (inr (v, h, (u, l, (r, e, d)))) = rw (e, d) (h, l, r)
+pub filled : (rows : List ℕ) (n : ℕ) (before after : List ℕ) → length before ≡ CELLS → TurnedRound rows n before after → Filled n (bit rows) after
+filled rows n before after l t = record { pairs = t .pairs l }
 
 abbrev pub upTo : Frame → ℕ → ℕ
 upTo f k = sum k (λ x. cond (f .operation x) 1 0)

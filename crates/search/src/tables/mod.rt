@@ -8,8 +8,6 @@ ghost use Rattle.trace.specs.Meaning.{frameOf};
 ghost use Rattle.rows.specs.Bounds.{CELLS, WORDS};
 ghost use Rattle.rows.specs.Rows.{bit, Edges};
 ghost use Rattle.rules.specs.RuleTests.{writer?};
-ghost use Rattle.edges.specs.inner.PairSets.{Only, Union};
-ghost use Rattle.rows.specs.inner.AddedPairs.{Added};
 ghost use Rattle.search.specs.inner.TablesLaid.{Filled, reader?, Addressed, Rowed, Filling, Counted, Valued, SourceIn, Sources};
 use trace::RECORDS;
 use trace::Trace;
@@ -78,33 +76,7 @@ fn lay_readers(t: Trace, by: &[u64], readers: &mut [u64])
     }
 }
 
-// Lays row y of what is held turned round: what is held before y.
-fn turn_row(n: usize, held: &[u64], y: usize, before: &mut [u64])
-    requires { ⌜ (y < n) × (n ≤ RECORDS) × (length (now before) ≡ CELLS) ⌝ }
-    ensures { λ r. ⌜ Added (now (before .entry)) (Union n (λ x. Only (bit (now (held .entry)) x y) y x)) (now (before .exit)) ⌝ }
-{
-    let mut x: usize = 0;
-    while x < n {
-        let led = rows::test(held, x, y);
-        rows::put_if(before, led, y, x);
-        x += 1;
-    }
-}
-
-// Turns what is held round.
-fn turn(n: usize, held: &[u64], before: &mut [u64])
-    requires { ⌜ (n ≤ RECORDS) × (length (now before) ≡ CELLS) ⌝ }
-    ensures { λ r. ⌜ Filled n (bit (now (held .entry))) (now (before .exit)) ⌝ }
-{
-    rows::clear(before);
-    let mut y: usize = 0;
-    while y < n {
-        turn_row(n, held, y, before);
-        y += 1;
-    }
-}
-
-// Lays the three relations.
+// Lays the three relations: what is held turned round, and those of the trace.
 pub(crate) fn lay(
     t: Trace,
     held: &[u64],
@@ -123,7 +95,7 @@ pub(crate) fn lay(
     lay_writers(t, &by, writers);
     lay_addresses(t, true, &mut by);
     lay_readers(t, &by, readers);
-    turn(n, held, before);
+    rows::turn(held, n, before);
 }
 
 // Lays the set of the operations, and counts them.
