@@ -1,10 +1,10 @@
--- `search::tables::value_at`: an element, or 0 past the end.
+-- `edges::sources::value_at`: an element, or 0 past the end.
 use mathlib.Core.Path.{sym}
 use native.Mathlib.Omega.{arith}
 use borrow.Author.Needs.{needs}
 use lib.ListN.{List·getD-eq-default}
-use Rattle.search.proofs.tables.value_at.Statement.{statement}
-use Rattle.search.proofs.tables.value_at.Tie as tie
+use Rattle.edges.proofs.sources.value_at.Statement.{statement}
+use Rattle.edges.proofs.sources.value_at.Tie as tie
 
 mul-result : tie.Need-mul-result
 mul-result c = search needs

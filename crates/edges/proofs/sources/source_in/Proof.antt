@@ -1,4 +1,4 @@
--- `search::tables::source_in`: none of the writers passed, but the load, wrote the value.
+-- `edges::sources::source_in`: none of the writers passed, but the load, wrote the value.
 use mathlib.Core.Bool.{So, false≢true}
 use mathlib.Core.Logic.{_⊎_, inl, inr}
 use mathlib.Core.Path.{_≡_, refl, sym, _∙_}
@@ -11,9 +11,9 @@ use lib.ListN.{getD}
 use Rattle.laws.proofs.Tests.{and-iff, so-not, so-eq}
 use Rattle.rows.specs.Rows.{bit}
 use Rattle.trace.specs.Bounds.{RECORDS}
-use Rattle.search.proofs.Candidates.{next-seen, next-on, next-at}
-use Rattle.search.proofs.tables.source_in.Statement.{statement}
-use Rattle.search.proofs.tables.source_in.Tie as tie
+use Rattle.edges.proofs.DrawnEdges.{next-seen, next-on, next-at}
+use Rattle.edges.proofs.sources.source_in.Statement.{statement}
+use Rattle.edges.proofs.sources.source_in.Tie as tie
 
 abbrev Inv-loop : tie.InvT-loop
 Inv-loop by addr values load value asks z₀ z = (So (bit by addr z) ⊎ (z ≡ RECORDS)) × ((x : ℕ) → x < z → So (bit by addr x) → (x ≡ load → ⊥) → getD values x 0 ≡ value → ⊥)
@@ -28,7 +28,7 @@ next-requires : tie.Need-next-requires Inv-loop μ-loop
 next-requires c κs = search needs
 
 loop-holds : tie.Need-loop-holds Inv-loop μ-loop
-loop-holds c = (next-at _ 0 _ (c .next .ensures), λ x h t _ _. c .next .ensures .skips x (omega arith) h t)
+loop-holds c = (next-at _ _ 0 _ (c .next .ensures), λ x h t _ _. c .next .ensures .skips x (omega arith) h t)
 
 value-at-requires : tie.Need-value-at-requires Inv-loop μ-loop
 value-at-requires c κs = search needs
@@ -47,12 +47,12 @@ next-requires-2 : tie.Need-next-requires-2 Inv-loop μ-loop
 next-requires-2 c κs = search needs
 
 loop-less : tie.Need-loop-less Inv-loop μ-loop
-loop-less c = omega (arith, next-on (c .before .before .before .before .before .before .before .before .before .args .by .now) (c .before .before .before .before .loop .z) _ (c .next2 .ensures) (omega (arith, c .before .before .before .loop-test .taken)))
+loop-less c = omega (arith, next-on (c .before .before .before .before .before .before .before .before .before .args .by .now) _ (c .before .before .before .before .loop .z) _ (c .next2 .ensures) (omega (arith, c .before .before .before .loop-test .taken)))
 
 loop-again : tie.Need-loop-again Inv-loop μ-loop
 loop-again c = let a = c .before .before .before .before .before .before .before .before .before .args in
     let l = c .before .before .before .before .loop in (
-      next-at _ _ _ (c .next2 .ensures),
+      next-at _ _ _ _ (c .next2 .ensures),
       next-seen {P = λ x. (x ≡ a .load → ⊥) → getD (a .values .now) x 0 ≡ a .value → ⊥} _ (l .z) _ (l .inv .1)
           (λ _ d e. false≢true (sym (c .before .if2 .left) ∙ and-iff (so-not {b = eqb (l .z) (a .load)}) (so-eq {m = c .before .before .value-at .result} {n = a .value}) .1 (λ q. d (so-eq .0 q), c .before .before .value-at .ensures ∙ e)))
           (c .next2 .ensures),

@@ -1,4 +1,4 @@
--- `edges::force::note_stores`: the writers below x are noted.
+-- `edges::sources::note_stores`: the writers below x are noted.
 use mathlib.Core.Path.{_≡_, _∙_}
 use Prim.Native.Nat.{_≤_, _-_}
 use native.Mathlib.Omega.{arith}
@@ -8,8 +8,8 @@ use Rattle.rows.specs.inner.AddedPairs.{Added}
 use Rattle.edges.proofs.PairSets.{adds-if, union-none, union-more}
 use Rattle.edges.proofs.DrawnEdges.{stored-at}
 use borrow.Author.Needs.{needs}
-use Rattle.edges.proofs.force.note_stores.Statement.{statement}
-use Rattle.edges.proofs.force.note_stores.Tie as tie
+use Rattle.edges.proofs.sources.note_stores.Statement.{statement}
+use Rattle.edges.proofs.sources.note_stores.Tie as tie
 
 abbrev Inv-loop : tie.InvT-loop
 Inv-loop stores₀ t n x₀ stores x = (x ≤ n) × Added stores₀ (Union x (λ z. Only (frameOf t .writes z) (frameOf t .address z) z)) stores

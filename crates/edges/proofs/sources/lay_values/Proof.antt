@@ -1,4 +1,4 @@
--- `search::tables::lay_values`: what the records below x write is laid.
+-- `edges::sources::lay_values`: what the records below x write is laid.
 use mathlib.Core.Path.{_≡_, sym, _∙_}
 use Prim.Native.Nat.{ℕ, _<_, _≤_, _-_}
 use native.Mathlib.Omega.{arith}
@@ -7,9 +7,9 @@ use lib.ListN.{length, getD, length-set}
 use Rattle.trace.specs.Bounds.{RECORDS}
 use Rattle.trace.specs.Op.{written}
 use Rattle.trace.specs.Trace.{at}
-use Rattle.search.proofs.TablesLaid.{listed-more}
-use Rattle.search.proofs.tables.lay_values.Statement.{statement}
-use Rattle.search.proofs.tables.lay_values.Tie as tie
+use Rattle.edges.proofs.SourcesLaid.{listed-more}
+use Rattle.edges.proofs.sources.lay_values.Statement.{statement}
+use Rattle.edges.proofs.sources.lay_values.Tie as tie
 
 abbrev Inv-loop : tie.InvT-loop
 Inv-loop values₀ t n x₀ values x = (x ≤ n) × (length values ≡ RECORDS) × ((k : ℕ) → k < x → getD values k 0 ≡ written (at t k))
