@@ -10,19 +10,19 @@
 --   settled-at                                == another writer's turn for a load with a source, by rules 6 and 7
 --   turned, settled-by                        == the same of a number that is noted
 --   settled-other, settled-none               == of the source, and of one that is not noted: nothing
---   next-on, next-at                          == a row's next number is further on; it is in the row, or there is none
+--   next-on, next-at, next-seen               == a row's next number is further on; it is in the row, or there is none; what a walk along the row has passed one step later
 use mathlib.Core.Path.{_≡_, refl, sym, _∙_}
 use mathlib.Core.Logic.{_⊎_, inl, inr, _↔_}
 use mathlib.Core.Bool.{Bool, true, false, So, not, _&&_, false≢true}
 use mathlib.Core.List.{List}
-use Prim.Native.Nat.{ℕ, _+_, _<_}
+use Prim.Native.Nat.{ℕ, _+_, _<_, _≤_}
+use native.Mathlib.Decide.{decLt}
 use native.Mathlib.Omega.{arith}
 use borrow.Author.Count.{below-more}
 use lib.Dec.{eqb, ltb}
-use lib.ListN.{length, getD, set, length-set}
-use lib.Seq.{getD-set-same, getD-set-other}
+use lib.ListN.{length, getD}
 use Rattle.laws.specs.Relation.{Rel}
-use Rattle.laws.proofs.Tests.{off, and-iff, not-iff, same-iff, so-eq, so-lt}
+use Rattle.laws.proofs.Tests.{off, and-iff, not-iff, same-iff, so-eq, so-lt, eq?}
 use Rattle.trace.specs.Bounds.{RECORDS}
 use Rattle.trace.specs.Op.{thread, address, read, reads, writes}
 use Rattle.trace.specs.Trace.{at, first}
@@ -116,26 +116,20 @@ not-writer f S L w = (λ x y o. false≢true (sym w ∙ o .0), λ x y v. false�
 pub loaded-none : (f : Frame) (n : ℕ) (s w e : List ℕ) → length s ≡ RECORDS → Loaded f n 0 s w w e e
 loaded-none f n s w e l = record { long = l; sources = λ L h. absurd (omega arith); writers = union-none _ w; edges = union-none _ e }
 
--- what is noted of a load's source
-sources-more : (f : Frame) (n k : ℕ) (s w₀ w e₀ e : List ℕ) (source : ℕ) → k < RECORDS → source ≡ sourceOf f k → Loaded f n k s w₀ w e₀ e
-    → (L : ℕ) → L < k + 1 → getD (set s k source) L 0 ≡ sourceOf f L
-sources-more f n k s w₀ w e₀ e source h src l =
-    below-more _ k (λ L b. getD-set-other s k L source 0 (λ d. omega arith) ∙ l .sources L b) (getD-set-same s k source 0 (omega (arith, l .long)) ∙ src)
-
-module _ (f : Frame) (n k : ℕ) (s w₀ w e₀ e : List ℕ) (source : ℕ) (h : k < RECORDS) (src : source ≡ sourceOf f k) (l : Loaded f n k s w₀ w e₀ e) where
+module _ (f : Frame) (n k : ℕ) (s w₀ w e₀ e : List ℕ) (src : getD s k 0 ≡ sourceOf f k) (l : Loaded f n k s w₀ w e₀ e) where
   pub loaded-more : (w′ e′ : List ℕ) → So (f .reads k) → Added w (Union n (λ S. Only (writer? f S k) k S)) w′ → Added e (Union n (ValuedFor f k)) e′
-      → Loaded f n (k + 1) (set s k source) w₀ w′ e₀ e′
+      → Loaded f n (k + 1) s w₀ w′ e₀ e′
   loaded-more w′ e′ r p q = record {
-    long = length-set s k source ∙ l .long;
-    sources = sources-more f n k s w₀ w e₀ e source h src l;
+    long = l .long;
+    sources = below-more _ k (l .sources) src;
     writers = union-more _ k (l .writers) (adds-as _ p (λ x y. (λ u. (r, u), λ u. u .1)));
     edges = union-more _ k (l .edges) (adds-as _ q (λ x y. (λ u. (r, u), λ u. u .1)));
   }
 
-  pub loaded-skip : f .reads k ≡ false → Loaded f n (k + 1) (set s k source) w₀ w e₀ e
+  pub loaded-skip : f .reads k ≡ false → Loaded f n (k + 1) s w₀ w e₀ e
   loaded-skip r = record {
-    long = length-set s k source ∙ l .long;
-    sources = sources-more f n k s w₀ w e₀ e source h src l;
+    long = l .long;
+    sources = below-more _ k (l .sources) src;
     writers = union-skip _ k (l .writers) (λ x y u. false≢true (sym r ∙ u .0));
     edges = union-skip _ k (l .edges) (λ x y u. false≢true (sym r ∙ u .0));
   }
@@ -168,6 +162,16 @@ module _ (w c : List ℕ) (S L z : ℕ) where
 
   pub settled-none : (So (bit w L z) → ⊥) → (i j : ℕ) → SettledBy w c S L z i j → ⊥
   settled-none n i j v = n (turned .0 (v .0) .0)
+
+-- a walk along a row: what is below z and in the row has been passed
+pub next-seen : {P : ℕ → Type 0} {m : ℕ} (row : List ℕ) (z r : ℕ) → ((x : ℕ) → x < z → So (bit row m x) → P x) → (So (bit row m z) → P z) → NextInRow row m (z + 1) r → (x : ℕ) → x < r → So (bit row m x) → P x
+next-seen row z r seen here n x h t = elim (eq? x z) [
+  | inl e ↦ rw e (here (rw e at t))
+  | inr d ↦ elim (ltOrGe x z) [ inl b ↦ seen x b t | inr b ↦ absurd (n .skips x (omega arith) h t) ]
+]
+  where
+    ltOrGe : (x z : ℕ) → (x < z) ⊎ (z ≤ x)
+    ltOrGe x z = elim (decLt x z) [ yes b ↦ inl b | no b ↦ inr (omega arith) ]
 
 pub next-on : (rows : List ℕ) (r x x′ : ℕ) → NextInRow rows r (x + 1) x′ → x < RECORDS → x < x′
 next-on rows r x x′ n h = elim (n .there) [ inl u ↦ omega (arith, u .0) | inr e ↦ omega arith ]

@@ -2,6 +2,7 @@
 pub mod Supposed
 pub mod PairSets
 pub mod DrawnEdges
+pub mod SourcesLaid
 pub mod LentPairs
 pub mod LaterRecords
 pub mod KeptRows

@@ -7,6 +7,9 @@ use Rattle.rows.specs.Lent.{lentOf}
 use Rattle.edges.proofs.KeptRows.{kept-rows-one}
 use Rattle.edges.proofs.ForcedPairs.{rounded-one, rounded-by-one, forces-one, forces-by-one}
 use Rattle.edges.proofs.RoundBefore.{prior-one}
+use Rattle.edges.proofs.SourcesLaid.{sources-one}
+use Rattle.edges.proofs.sources.sources_of.Reads as sources-of
+use Rattle.edges.proofs.sources.sources_of.Kinds as sources-of-kinds
 use Rattle.edges.proofs.kept.kept_rows.Reads as kept-rows
 use Rattle.edges.proofs.kept.kept_rows.Kinds as kept-rows-kinds
 use Rattle.edges.proofs.force.last_round.Reads as last-round
@@ -22,6 +25,9 @@ use Rattle.edges.proofs.force.forced_by.Kinds as forced-by-kinds
 
 pub kept-rows-settles : Settles 0 kept-rows-kinds.ps kept-rows-kinds.r kept-rows.Post
 kept-rows-settles κs a x y s t p q = kept-rows-one (a .0) (a .1 .0) x y p q
+
+pub sources-of-settles : Settles 0 sources-of-kinds.ps sources-of-kinds.r sources-of.Post
+sources-of-settles κs a x y s t p q = sources-one (a .0) x y p q
 
 pub last-round-settles : Settles 1 last-round-kinds.ps last-round-kinds.r last-round.Post
 last-round-settles κs a x y s t p q = rounded-one (a .0) (now (a .1 .1 .0)) (a .1 .0) x y p q

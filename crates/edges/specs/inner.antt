@@ -2,6 +2,7 @@
 pub mod PairSets
 pub mod DrawnEdges
 pub mod LaterRecords
+pub mod SourcesLaid
 pub mod RoundStep
 pub mod Settling
 pub mod Takes

@@ -5,6 +5,7 @@
 --   bit-word                      == a pair's bit is a bit of its row's word
 --   or-within                     == `or` adds nothing to a word exactly where the other's bits are its own
 --   within-yes, within-no         == what a loop over the words learns
+--   row-bit                       == a bit of a word is a number of its row
 --   bitOf-and                     == an `and` has the bits that both have
 --   meets-yes, meets-no           == likewise, where it looks for a number that both rows have
 use mathlib.Core.Path.{_≡_, refl, sym, ap, _∙_}
@@ -73,8 +74,7 @@ bitOf-and p q j =
     ∙ ap (λ (n : ℕ). eqb n 1) (and-mod (p / 2 ^ j) (q / 2 ^ j) 1)
     ∙ and-low (p / 2 ^ j % 2) (q / 2 ^ j % 2) (omega arith) (omega arith)
 
--- a bit of a word is a number of its row
-row-bit : (rows : List ℕ) (r i j : ℕ) → i < WORDS → j < WIDTH → bit rows r (i * WIDTH + j) ≡ bitOf (wordOf rows r i) j
+pub row-bit : (rows : List ℕ) (r i j : ℕ) → i < WORDS → j < WIDTH → bit rows r (i * WIDTH + j) ≡ bitOf (wordOf rows r i) j
 row-bit rows r i j h l =
     let z = i * WIDTH + j in
     let e₁ : z / WIDTH ≡ i = omega arith in

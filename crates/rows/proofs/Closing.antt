@@ -45,11 +45,11 @@ pub record Adding (e : List ℕ) (New : Rel) (m : ℕ → ℕ → ℕ) (n : ℕ)
   pub pairs : (i j : ℕ) → So (bit t i j) ↔ (Edges e i j ⊎ ((m i j < n) × New i j))
 
 module _ (e : List ℕ) (New : Rel) (m : ℕ → ℕ → ℕ) where
-  adding-none : Adding e New m 0 e
+  pub adding-none : Adding e New m 0 e
   adding-none = record { long = refl; words = λ w. w; pairs = λ i j. (inl, λ s. elim s [ inl r ↦ r | inr q ↦ absurd (omega (arith, q .0)) ]) }
 
   module _ (n : ℕ) (t : List ℕ) (now : Adding e New m n t) where
-    adding-more : (u : List ℕ) → length u ≡ length t → (Words t → Words u) → ((i j : ℕ) → So (bit u i j) ↔ (So (bit t i j) ⊎ ((m i j ≡ n) × New i j))) → Adding e New m (n + 1) u
+    pub adding-more : (u : List ℕ) → length u ≡ length t → (Words t → Words u) → ((i j : ℕ) → So (bit u i j) ↔ (So (bit t i j) ⊎ ((m i j ≡ n) × New i j))) → Adding e New m (n + 1) u
     adding-more u l w step = record { long = l ∙ now .long; words = λ v. w (now .words v); pairs = λ i j. (forth i j, back i j) }
       where
         forth : (i j : ℕ) → So (bit u i j) → Edges e i j ⊎ ((m i j < n + 1) × New i j)
@@ -65,10 +65,10 @@ module _ (e : List ℕ) (New : Rel) (m : ℕ → ℕ → ℕ) where
           | inr d ↦ step i j .1 (inl (now .pairs i j .1 (inr (omega (arith, q .0), q .1))))
         ]
 
-    adding-same : ((i j : ℕ) → m i j ≡ n → New i j → ⊥) → Adding e New m (n + 1) t
+    pub adding-same : ((i j : ℕ) → m i j ≡ n → New i j → ⊥) → Adding e New m (n + 1) t
     adding-same none = adding-more t refl (λ w. w) (λ i j. (inl, λ s. elim s [ inl g ↦ g | inr q ↦ absurd (none i j (q .0) (q .1)) ]))
 
-    added : ((i j : ℕ) → New i j → m i j < n) → Added e New t
+    pub added : ((i j : ℕ) → New i j → m i j < n) → Added e New t
     added all = record {
       long = now .long;
       words = now .words;

@@ -9,3 +9,5 @@ pub mod Nexts
 pub mod Dropping
 pub mod Sets
 pub mod Lent
+pub mod Squares
+pub mod Turning

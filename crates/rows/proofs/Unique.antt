@@ -9,6 +9,7 @@ use Rattle.laws.specs.Settles.{Settles, Leaves}
 use Rattle.laws.proofs.Tests.{test-one}
 use Rattle.rows.proofs.Closing.{chained-one}
 use Rattle.rows.proofs.Nexts.{next-one}
+use Rattle.rows.proofs.Turning.{turned-one}
 use Rattle.rows.proofs.test.Reads as test
 use Rattle.rows.proofs.test.Kinds as test-kinds
 use Rattle.rows.proofs.put.Reads as put
@@ -35,6 +36,8 @@ use Rattle.rows.proofs.add_row.Reads as add-row
 use Rattle.rows.proofs.add_row.Kinds as add-row-kinds
 use Rattle.rows.proofs.drop_row.Reads as drop-row
 use Rattle.rows.proofs.drop_row.Kinds as drop-row-kinds
+use Rattle.rows.proofs.turn.Reads as turn
+use Rattle.rows.proofs.turn.Kinds as turn-kinds
 use Rattle.rows.proofs.chains.Reads as chains
 use Rattle.rows.proofs.chains.Kinds as chains-kinds
 
@@ -79,3 +82,6 @@ drop-row-leaves κs a x y s t p q = p ∙ sym q
 
 pub chains-leaves : Leaves 1 chains-kinds.ps chains-kinds.r (λ κs s. now (s .0)) chains.Post
 chains-leaves κs a x y s t p q = chained-one (now (a .0)) (now (s .0)) (now (t .0)) p q
+
+pub turn-leaves : Leaves 2 turn-kinds.ps turn-kinds.r (λ κs s. now (s .1 .1 .0)) turn.Post
+turn-leaves κs a x y s t p q = turned-one (now (a .0)) (a .1 .0) (now (a .1 .1 .0)) (now (s .1 .1 .0)) (now (t .1 .1 .0)) p q

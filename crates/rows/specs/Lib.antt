@@ -10,4 +10,5 @@ pub mod Next
 pub mod AddRow
 pub mod DropRow
 pub mod Lent
+pub mod TurnedRound
 pub mod inner

@@ -1,13 +1,15 @@
 // A relation on record numbers, kept as rows of bits: RECORDS rows of WORDS words. Every promise speaks of the relation, `bit` of
 // specs/Rows.antt, so that no crate above knows which bit of which word a pair has.
 ghost use mathlib.Core.Path.{_≡_};
-ghost use mathlib.Core.Bool.{So};
+ghost use mathlib.Core.Bool.{So, cond};
 ghost use mathlib.Core.Logic.{_↔_};
-ghost use Prim.Native.Nat.{_<_, _≤_};
+ghost use Prim.Native.Nat.{ℕ, _<_, _≤_};
+ghost use lib.Dec.{ltb};
 ghost use lib.ListN.{length};
+ghost use Rattle.laws.specs.Bits.{bitOf};
 ghost use Rattle.laws.specs.Tests.{any};
 ghost use Rattle.trace.specs.Bounds.{RECORDS};
-ghost use Rattle.rows.specs.Bounds.{CELLS, WORDS};
+ghost use Rattle.rows.specs.Bounds.{WIDTH, WORDS, CELLS};
 ghost use Rattle.rows.specs.Rows.{bit, place};
 ghost use Rattle.rows.specs.Within.{wordOf, Within, Meets};
 ghost use Rattle.rows.specs.Next.{NextInRow};
@@ -18,6 +20,8 @@ ghost use Rattle.rows.specs.inner.AddedPairs.{Added, Row, Through, RowsB
 ghost use Rattle.rows.specs.Chained.{Chained};
 ghost use Rattle.rows.specs.AddRow.{addRowOf};
 ghost use Rattle.rows.specs.DropRow.{dropRowOf};
+ghost use Rattle.rows.specs.TurnedRound.{TurnedRound};
+ghost use Rattle.rows.specs.inner.Squares.{Square, Mask, squareBit, crossed, part, InSquare, LaysSquare, Turns};
 
 // The bits of a word.
 pub const WIDTH: usize = 64;
@@ -304,5 +308,113 @@ pub fn drop_row(from: &[u64], m: usize, to: &mut [u64], x: usize)
             to[at] = (p | q) ^ q;
         }
         i += 1;
+    }
+}
+
+// The columns that m has from one word, the others from another.
+fn mix(m: u64, a: u64, b: u64) -> u64
+    ensures { λ r. ⌜ ((j : ℕ) → bitOf r j ≡ cond (bitOf m j) (bitOf a j) (bitOf b j)) ⌝ }
+{
+    (a & m) | ((b | m) ^ m)
+}
+
+// Exchanges, in the rows of a square that lie d apart, the bits that stand crosswise: d is 2 to the k, and m has the columns whose bit k is 0.
+fn cross(square: &mut [u64], k: usize, d: usize, m: u64)
+    requires { ⌜ (length (now square) ≡ WIDTH) × Mask k d m ⌝ }
+    ensures { λ r. ⌜ Square (crossed k (now (square .entry))) (now (square .exit)) ⌝ }
+{
+    let mut p: usize = 0;
+    while p < WIDTH / 2 {
+        let i = (p >> k) * d + p;
+        let a = square[i];
+        let b = square[i + d];
+        square[i] = mix(m, a, b << d);
+        square[i + d] = mix(m, a >> d, b);
+        p += 1;
+    }
+}
+
+// Turns a square round: first its quarters, then the quarters of each, down to single bits.
+fn turn_square(square: &mut [u64])
+    requires { ⌜ length (now square) ≡ WIDTH ⌝ }
+    ensures { λ r. ⌜ Square (λ i j. squareBit (now (square .entry)) j i) (now (square .exit)) ⌝ }
+{
+    cross(square, 5, 32, 0x0000_0000_FFFF_FFFF);
+    cross(square, 4, 16, 0x0000_FFFF_0000_FFFF);
+    cross(square, 3, 8, 0x00FF_00FF_00FF_00FF);
+    cross(square, 2, 4, 0x0F0F_0F0F_0F0F_0F0F);
+    cross(square, 1, 2, 0x3333_3333_3333_3333);
+    cross(square, 0, 1, 0x5555_5555_5555_5555);
+}
+
+// A word of row x, if x is below n; 0 otherwise.
+fn word_below(rows: &[u64], n: usize, x: usize, i: usize) -> u64
+    requires { ⌜ i < WORDS ⌝ }
+    ensures { λ r. ⌜ r ≡ cond (ltb x n) (wordOf (now (rows .entry)) x i) 0 ⌝ }
+{
+    if x < n {
+        return word(rows, x, i);
+    }
+    0
+}
+
+// Takes the square in row p and column q of the squares out of the rows; rows from n on count as empty.
+fn take_square(rows: &[u64], n: usize, p: usize, q: usize, square: &mut [u64])
+    requires { ⌜ (p < WORDS) × (q < WORDS) × (length (now square) ≡ WIDTH) ⌝ }
+    ensures { λ r. ⌜ Square (part (now (rows .entry)) n p q) (now (square .exit)) ⌝ }
+{
+    let mut i: usize = 0;
+    while i < WIDTH {
+        square[i] = word_below(rows, n, p * WIDTH + i, q);
+        i += 1;
+    }
+}
+
+// Adds a square to the rows, in column p of the squares in row q; its rows from n on are left out.
+fn lay_square(square: &[u64], n: usize, p: usize, q: usize, out: &mut [u64])
+    requires { ⌜ (p < WORDS) × (q < WORDS) × (length (now square) ≡ WIDTH) × (length (now out) ≡ CELLS) ⌝ }
+    ensures { λ r. ⌜ Added (now (out .entry)) (LaysSquare (now (square .entry)) n p q) (now (out .exit)) ⌝ }
+{
+    let mut i: usize = 0;
+    while i < WIDTH {
+        let y = q * WIDTH + i;
+        if y < n {
+            let at = y * WORDS + p;
+            let w = out[at];
+            out[at] = w | square[i];
+        }
+        i += 1;
+    }
+}
+
+// Adds what one square of the rows, in row p and column q of the squares, is turned round; a square with no number below n has nothing.
+fn turn_part(rows: &[u64], n: usize, p: usize, q: usize, out: &mut [u64])
+    requires { ⌜ (p < WORDS) × (q < WORDS) × (length (now out) ≡ CELLS) ⌝ }
+    ensures { λ r. ⌜ Added (now (out .entry)) (λ y x. InSquare p q y x × Turns (now (rows .entry)) n y x) (now (out .exit)) ⌝ }
+{
+    if n <= p * WIDTH {
+        return;
+    }
+    if n <= q * WIDTH {
+        return;
+    }
+    let mut square = [0u64; WIDTH];
+    take_square(rows, n, p, q, &mut square);
+    turn_square(&mut square);
+    lay_square(&square, n, p, q, out);
+}
+
+// Makes `out` what the rows are turned round, as far as both numbers are below n, a square at a time; memory of another length is left as it is.
+pub fn turn(rows: &[u64], n: usize, out: &mut [u64])
+    ensures { λ r. ⌜ TurnedRound (now (rows .entry)) n (now (out .entry)) (now (out .exit)) ⌝ }
+{
+    if out.len() != CELLS {
+        return;
+    }
+    clear(out);
+    let mut c: usize = 0;
+    while c < WORDS * WORDS {
+        turn_part(rows, n, c / WORDS, c % WORDS, out);
+        c += 1;
     }
 }

@@ -1,7 +1,7 @@
 -- What may come next, and when the loop may stop.
 --
 --   rest-of, in-rest            == what is left of a row; what is not left was dropped
---   next-seen, next-on, next-at == a walk along a row: what it has passed one step later; it goes on; where it is
+--   next-on, next-at            == a walk along a row: it goes on; where it is
 --   in-left, readied, unready-on == what may be ready is left to place; one that is left and free is ready; none is, further on
 --   lacks                       == what a set lacks stands nowhere in its list
 --   ready-iff                   == the test of the tables is readiness after any list with that set
@@ -11,7 +11,6 @@ use mathlib.Core.Logic.{_⊎_, inl, inr, _↔_}
 use mathlib.Core.Bool.{false, So, false≢true}
 use mathlib.Core.List.{List}
 use Prim.Native.Nat.{ℕ, _+_, _<_, _≤_}
-use native.Mathlib.Decide.{decLt}
 use native.Mathlib.Omega.{arith}
 use lib.ListN.{getD}
 use Rattle.laws.specs.Places.{count}
@@ -40,16 +39,6 @@ pub rest-of : (from : List ℕ) → Words from → (x : ℕ) (out : List ℕ) (y
 rest-of from words x out y one two e d =
     let r = rowed from words x out y 0 (omega arith) (emptyOf WORDS) one two (omega (arith, empty-long WORDS)) e d in
     record { long = r .long ∙ empty-long WORDS; has = rest-out _ _ two r }
-
--- a walk along a row: what is below z and in the row has been passed
-pub next-seen : {P : ℕ → Type 0} {m : ℕ} (row : List ℕ) (z r : ℕ) → ((x : ℕ) → x < z → So (bit row m x) → P x) → (So (bit row m z) → P z) → NextInRow row m (z + 1) r → (x : ℕ) → x < r → So (bit row m x) → P x
-next-seen row z r seen here n x h t = elim (eq? x z) [
-  | inl e ↦ rw e (here (rw e at t))
-  | inr d ↦ elim (ltOrGe x z) [ inl b ↦ seen x b t | inr b ↦ absurd (n .skips x (omega arith) h t) ]
-]
-  where
-    ltOrGe : (x z : ℕ) → (x < z) ⊎ (z ≤ x)
-    ltOrGe x z = elim (decLt x z) [ yes b ↦ inl b | no b ↦ inr (omega arith) ]
 
 -- what is not left of a row was dropped
 pub in-rest : {from out r : List ℕ} {x y : ℕ} → Rest from x out y r → (z : ℕ) → So (bit from x z) → (So (bit r 0 z) → ⊥) → So (bit out y z)

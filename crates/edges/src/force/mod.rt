@@ -24,8 +24,9 @@ ghost use Rattle.edges.specs.ForcedPairs.{RoundedBy, Rounded, ForcesBy, 
 ghost use Rattle.edges.specs.RoundBefore.{PriorTo, PriorRound};
 use crate::Forced;
 use crate::kept::kept_rows;
+use crate::sources::lay_sources;
+use crate::sources::note_stores;
 use pairs::modelled;
-use pairs::source_of;
 use trace::RECORDS;
 use trace::Trace;
 use trace::first;
@@ -117,22 +118,6 @@ fn draw_value(earlier: bool, early: bool, source: usize, x: usize, load: usize, 
     rows::put_if(edges, early & earlier, x, load);
 }
 
-// Notes who writes which address: a row for each.
-fn note_stores(t: Trace, stores: &mut [u64])
-    requires { ⌜ (t .len ≤ RECORDS) × (length (now stores) ≡ CELLS) ⌝ }
-    ensures { λ r. ⌜ Added (now (stores .entry)) (Union (t .len) (λ x. Only (frameOf t .writes x) (frameOf t .address x) x)) (now (stores .exit)) ⌝ }
-{
-    let n = t.len;
-    let mut x: usize = 0;
-    while x < n {
-        let record = t.records[x];
-        let a = record.op;
-        let addr = a.address() as usize;
-        rows::put_if(stores, a.writes(), addr, x);
-        x += 1;
-    }
-}
-
 // Draws what every writer of its address gives one record as a load, by rules 2 to 5, and notes these writers.
 fn draw_values_for(
     t: Trace,
@@ -175,13 +160,13 @@ fn draw_values(t: Trace, sources: &mut [usize], writers: &mut [u64], edges: &mut
     let n = t.len;
     let mut stores = [0u64; rows::CELLS];
     note_stores(t, &mut stores);
+    lay_sources(t, &stores, sources);
     let mut load: usize = 0;
     while load < n {
-        let source = source_of(t, load);
-        sources[load] = source;
         let record = t.records[load];
         let b = record.op;
         if b.reads() {
+            let source = sources[load];
             draw_values_for(t, &stores, load, source, writers, edges);
         }
         load += 1;

@@ -6,8 +6,6 @@
 --   Rowed y In Out a b  == b is a, where row y took what In has and then lost what Out has
 --   Filling k n R rows  == the rows below k are as Filled says, and the others are empty
 --   Counted f ops m     == ops is the set of the operations, and m their number
---   Valued t k values   == of the first k records, what each writes
---   SourceIn by a values L v asks r == r is the lowest number but L that row a has and that wrote v; RECORDS where there is none, or none is asked for
 --   Sources f n sources == of each record below n, its source
 --   Guided f K held     == what is held joins records, and guides the search for the valid orders under K
 use mathlib.Core.Path.{_≡_}
@@ -20,7 +18,7 @@ use Rattle.laws.specs.Relation.{Table}
 use Rattle.laws.specs.inner.Sorted.{On}
 use Rattle.trace.specs.Bounds.{RECORDS}
 use Rattle.rules.specs.Frame.{Frame}
-use Rattle.trace.specs.Op.{address, writes, written}
+use Rattle.trace.specs.Op.{address, writes}
 use Rattle.trace.specs.Trace.{at}
 use Rattle.trace.specs.declared.Trace.{Trace}
 use Rattle.rows.specs.Bounds.{CELLS}
@@ -52,14 +50,6 @@ pub record Filling (k n : ℕ) (R : Table) (rows : List ℕ) : Type 0 where
 pub record Counted (f : Frame) (ops : List ℕ) (m : ℕ) : Type 0 where
   pub total : m ≡ operations f
   pub has : (x : ℕ) → So (bit ops 0 x) ↔ So (f .operation x)
-
-pub record Valued (t : Trace) (k : ℕ) (values : List ℕ) : Type 0 where
-  pub long : length values ≡ RECORDS
-  pub value : (x : ℕ) → x < k → getD values x 0 ≡ written (at t x)
-
-pub record SourceIn (by : List ℕ) (a : ℕ) (values : List ℕ) (L v : ℕ) (asks : Bool) (r : ℕ) : Type 0 where
-  pub none : So asks → (z : ℕ) → z < r → So (bit by a z) → (z ≡ L → ⊥) → getD values z 0 ≡ v → ⊥
-  pub there : (So asks × So (bit by a r) × (r ≡ L → ⊥) × (getD values r 0 ≡ v)) ⊎ (r ≡ RECORDS)
 
 pub record Sources (f : Frame) (n : ℕ) (sources : List ℕ) : Type 0 where
   pub long : length sources ≡ RECORDS

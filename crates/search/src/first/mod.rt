@@ -18,9 +18,9 @@ use crate::seek::MEMORY;
 use crate::seek::find;
 use crate::tables::lay;
 use crate::tables::lay_operations;
-use crate::tables::lay_sources;
 use edges::force::forced_by;
 use edges::kept::kept_rows;
+use edges::sources::sources_of;
 use pairs::modelled;
 use pairs::op_at;
 use trace::RECORDS;
@@ -104,8 +104,7 @@ pub fn first_order_by(t: Trace, kept: &[u64]) -> Order
     if forced.contradicted {
         return nothing();
     }
-    let mut sources = [RECORDS; RECORDS];
-    lay_sources(t, &mut sources);
+    let sources = sources_of(t);
     if !sourced(t, &sources) {
         return nothing();
     }

@@ -1,16 +1,14 @@
-// The tables of the search, laid once: relations on records as rows, the set of the operations, the sources.
+// The tables of the search, laid once: relations on records as rows, the set of the operations.
 ghost use mathlib.Core.Path.{_≡_};
 ghost use mathlib.Core.Bool.{true, false};
 ghost use Prim.Native.Nat.{_<_, _≤_};
-ghost use lib.ListN.{length, getD};
+ghost use lib.ListN.{length};
 ghost use Rattle.trace.specs.Bounds.{RECORDS};
 ghost use Rattle.trace.specs.Meaning.{frameOf};
 ghost use Rattle.rows.specs.Bounds.{CELLS, WORDS};
 ghost use Rattle.rows.specs.Rows.{bit, Edges};
 ghost use Rattle.rules.specs.RuleTests.{writer?};
-ghost use Rattle.edges.specs.inner.PairSets.{Only, Union};
-ghost use Rattle.rows.specs.inner.AddedPairs.{Added};
-ghost use Rattle.search.specs.inner.TablesLaid.{Filled, reader?, Addressed, Rowed, Filling, Counted, Valued, SourceIn, Sources};
+ghost use Rattle.search.specs.inner.TablesLaid.{Filled, reader?, Addressed, Rowed, Filling, Counted};
 use trace::RECORDS;
 use trace::Trace;
 
@@ -78,33 +76,7 @@ fn lay_readers(t: Trace, by: &[u64], readers: &mut [u64])
     }
 }
 
-// Lays row y of what is held turned round: what is held before y.
-fn turn_row(n: usize, held: &[u64], y: usize, before: &mut [u64])
-    requires { ⌜ (y < n) × (n ≤ RECORDS) × (length (now before) ≡ CELLS) ⌝ }
-    ensures { λ r. ⌜ Added (now (before .entry)) (Union n (λ x. Only (bit (now (held .entry)) x y) y x)) (now (before .exit)) ⌝ }
-{
-    let mut x: usize = 0;
-    while x < n {
-        let led = rows::test(held, x, y);
-        rows::put_if(before, led, y, x);
-        x += 1;
-    }
-}
-
-// Turns what is held round.
-fn turn(n: usize, held: &[u64], before: &mut [u64])
-    requires { ⌜ (n ≤ RECORDS) × (length (now before) ≡ CELLS) ⌝ }
-    ensures { λ r. ⌜ Filled n (bit (now (held .entry))) (now (before .exit)) ⌝ }
-{
-    rows::clear(before);
-    let mut y: usize = 0;
-    while y < n {
-        turn_row(n, held, y, before);
-        y += 1;
-    }
-}
-
-// Lays the three relations.
+// Lays the three relations: what is held turned round, and those of the trace.
 pub(crate) fn lay(
     t: Trace,
     held: &[u64],
@@ -123,7 +95,7 @@ pub(crate) fn lay(
     lay_writers(t, &by, writers);
     lay_addresses(t, true, &mut by);
     lay_readers(t, &by, readers);
-    turn(n, held, before);
+    rows::turn(held, n, before);
 }
 
 // Lays the set of the operations, and counts them.
@@ -145,68 +117,4 @@ pub(crate) fn lay_operations(t: Trace, operations: &mut [u64]) -> usize
         x += 1;
     }
     total
-}
-
-// What stands at a place of a list; 0 past its end.
-fn value_at(values: &[u16], i: usize) -> u16
-    ensures { λ r. ⌜ r ≡ getD (now (values .entry)) i 0 ⌝ }
-{
-    if i < values.len() {
-        return values[i];
-    }
-    0
-}
-
-// Lays what each record writes.
-fn lay_values(t: Trace, values: &mut [u16])
-    requires { ⌜ (t .len ≤ RECORDS) × (length (now values) ≡ RECORDS) ⌝ }
-    ensures { λ r. ⌜ Valued t (t .len) (now (values .exit)) ⌝ }
-{
-    let n = t.len;
-    let mut x: usize = 0;
-    while x < n {
-        let record = t.records[x];
-        let op = record.op;
-        values[x] = op.written();
-        x += 1;
-    }
-}
-
-// The lowest number but the load's own in the row of its address that wrote a value; RECORDS where there is none, or none is asked for.
-fn source_in(by: &[u64], addr: usize, values: &[u16], load: usize, value: u16, asks: bool) -> usize
-    ensures { λ r. ⌜ SourceIn (now (by .entry)) addr (now (values .entry)) load value asks r ⌝ }
-{
-    if !asks {
-        return RECORDS;
-    }
-    let mut z = rows::next(by, addr, 0);
-    while z < RECORDS {
-        if (z != load) & (value_at(values, z) == value) {
-            return z;
-        }
-        z = rows::next(by, addr, z + 1);
-    }
-    RECORDS
-}
-
-// Lays the source of each record, looked for among the writers of its address.
-pub(crate) fn lay_sources(t: Trace, sources: &mut [usize])
-    requires { ⌜ (t .len ≤ RECORDS) × (length (now sources) ≡ RECORDS) ⌝ }
-    ensures { λ r. ⌜ Sources (frameOf t) (t .len) (now (sources .exit)) ⌝ }
-{
-    let n = t.len;
-    let firsts = t.firsts;
-    let mut by = [0u64; rows::CELLS];
-    let mut values = [0u16; RECORDS];
-    lay_addresses(t, false, &mut by);
-    lay_values(t, &mut values);
-    let mut load: usize = 0;
-    while load < n {
-        let record = t.records[load];
-        let op = record.op;
-        let addr = op.address() as usize;
-        let later = op.reads() & (op.read() != value_at(&firsts, addr));
-        sources[load] = source_in(&by, addr, &values, load, op.read(), later);
-        load += 1;
-    }
 }

@@ -12,6 +12,7 @@ use Rattle.rows.proofs.Lent.{lent-joins}
 use Rattle.pairs.proofs.ValidOrders.{well-fits}
 use Rattle.rules.proofs.Says.{missing-none}
 use Rattle.search.specs.inner.SearchBelow.{followsAs}
+use Rattle.search.proofs.TablesLaid.{sources-read}
 use Rattle.search.proofs.Guiding.{held-guided, refuted-none}
 use Rattle.search.proofs.FirstOrder.{empty-rest, first-none, first-some, counted-fits}
 use Rattle.search.proofs.first.first_order_by.Statement.{statement}
@@ -41,27 +42,22 @@ returns-2 c = let s = c .before .before .before .before .before .before .before 
     first-none (s .args .t) (lentOf (s .args .t) (s .args .kept .now)) (c .nothing2 .result) (c .nothing2 .ensures)
     (λ a. refuted-none (s .args .t) (lentOf (s .args .t) (s .args .kept .now)) (lent-joins (s .args .t) (s .args .kept .now)) a (c .before .before .forced-by .result) (c .before .before .forced-by .ensures) (c .before .if2 .taken))
 
-slice-aggregate-lay-sources : tie.Need-slice-aggregate-lay-sources
-slice-aggregate-lay-sources c = search needs
-
-lay-sources-requires : tie.Need-lay-sources-requires
-lay-sources-requires c κs = let s = c .before .before .before .before .before .before .before in
-    let w : So (wellFormed (s .args .t)) = sym (c .before .before .before .before .before .well-formed .ensures) ∙ not-false _ (c .before .before .before .before .if1 .left) in
-    (well-fits (s .args .t) w, refl)
+sources-of-requires : tie.Need-sources-of-requires
+sources-of-requires c κs = search needs
 
 slice-aggregate-sourced : tie.Need-slice-aggregate-sourced
 slice-aggregate-sourced c = search needs
 
 sourced-requires : tie.Need-sourced-requires
-sourced-requires c κs = let s = c .before .before .before .before .before .before .before .before .before .before in
-    let w : So (wellFormed (s .args .t)) = sym (c .before .before .before .before .before .before .before .before .well-formed .ensures) ∙ not-false _ (c .before .before .before .before .before .before .before .if1 .left) in
-    (w, c .before .before .lay-sources .ensures)
+sourced-requires c κs = let s = c .before .before .before .before .before .before .before .before in
+    let w : So (wellFormed (s .args .t)) = sym (c .before .before .before .before .before .before .well-formed .ensures) ∙ not-false _ (c .before .before .before .before .before .if1 .left) in
+    (w, sources-read (s .args .t) w _ (c .before .sources-of .ensures))
 
 nothing-requires-3 : tie.Need-nothing-requires-3
 nothing-requires-3 c κs = search needs
 
 returns-3 : tie.Need-returns-3
-returns-3 c = let s = c .before .before .before .before .before .before .before .before .before .before .before .before .before in
+returns-3 c = let s = c .before .before .before .before .before .before .before .before .before .before .before in
     let f = frameOf (s .args .t) in
     first-none (s .args .t) (lentOf (s .args .t) (s .args .kept .now)) (c .nothing3 .result) (c .nothing3 .ensures)
     (λ _ xs v. false≢true (sym (not-true _ (c .before .if3 .taken)) ∙ c .before .before .sourced .ensures .1 (λ L m. missing-none f (lentOf (s .args .t) (s .args .kept .now)) L m xs v)))
@@ -70,8 +66,8 @@ slice-aggregate-lay-operations : tie.Need-slice-aggregate-lay-operations
 slice-aggregate-lay-operations c = search needs
 
 lay-operations-requires : tie.Need-lay-operations-requires
-lay-operations-requires c κs = let s = c .before .before .before .before .before .before .before .before .before .before .before .before .before .before in
-    let w : So (wellFormed (s .args .t)) = sym (c .before .before .before .before .before .before .before .before .before .before .before .before .well-formed .ensures) ∙ not-false _ (c .before .before .before .before .before .before .before .before .before .before .before .if1 .left) in
+lay-operations-requires c κs = let s = c .before .before .before .before .before .before .before .before .before .before .before .before in
+    let w : So (wellFormed (s .args .t)) = sym (c .before .before .before .before .before .before .before .before .before .before .well-formed .ensures) ∙ not-false _ (c .before .before .before .before .before .before .before .before .before .if1 .left) in
     (well-fits (s .args .t) w, refl)
 
 slice-aggregate-look : tie.Need-slice-aggregate-look
@@ -87,17 +83,17 @@ slice-aggregate-look-4 : tie.Need-slice-aggregate-look-4
 slice-aggregate-look-4 c = search needs
 
 look-requires : tie.Need-look-requires
-look-requires c κs = let s = c .before .before .before .before .before .before .before .before .before .before .before .before .before .before .before .before .before .before .before .before in
-    let w : So (wellFormed (s .args .t)) = sym (c .before .before .before .before .before .before .before .before .before .before .before .before .before .before .before .before .before .before .well-formed .ensures) ∙ not-false _ (c .before .before .before .before .before .before .before .before .before .before .before .before .before .before .before .before .before .if1 .left) in
+look-requires c κs = let s = c .before .before .before .before .before .before .before .before .before .before .before .before .before .before .before .before .before .before in
+    let w : So (wellFormed (s .args .t)) = sym (c .before .before .before .before .before .before .before .before .before .before .before .before .before .before .before .before .well-formed .ensures) ∙ not-false _ (c .before .before .before .before .before .before .before .before .before .before .before .before .before .before .before .if1 .left) in
     let n = c .before .before .before .before .before .lay-operations .ensures in
-    (w, n, counted-fits (s .args .t) w _ _ n, c .before .before .before .before .before .before .before .before .before .before .before .before .lay-sources .ensures)
+    (w, n, counted-fits (s .args .t) w _ _ n, sources-read (s .args .t) w _ (c .before .before .before .before .before .before .before .before .before .before .before .sources-of .ensures))
 
 returns-4 : tie.Need-returns-4
-returns-4 c = let s = c .before .before .before .before .before .before .before .before .before .before .before .before .before .before .before .before .before .before .before .before .before .before .before in
+returns-4 c = let s = c .before .before .before .before .before .before .before .before .before .before .before .before .before .before .before .before .before .before .before .before .before in
     let t = s .args .t in
     let K = lentOf t (s .args .kept .now) in
-    let w : So (wellFormed t) = sym (c .before .before .before .before .before .before .before .before .before .before .before .before .before .before .before .before .before .before .before .before .before .well-formed .ensures) ∙ not-false _ (c .before .before .before .before .before .before .before .before .before .before .before .before .before .before .before .before .before .before .before .before .if1 .left) in
-    let g = held-guided t K (lent-joins t (s .args .kept .now)) w (c .before .before .before .before .before .before .before .before .before .before .before .before .before .before .before .before .before .before .forced-by .result) (c .before .before .before .before .before .before .before .before .before .before .before .before .before .before .before .before .before .before .forced-by .ensures) (c .before .before .before .before .before .before .before .before .before .before .before .before .before .before .before .before .before .if2 .left) in
+    let w : So (wellFormed t) = sym (c .before .before .before .before .before .before .before .before .before .before .before .before .before .before .before .before .before .before .before .well-formed .ensures) ∙ not-false _ (c .before .before .before .before .before .before .before .before .before .before .before .before .before .before .before .before .before .before .if1 .left) in
+    let g = held-guided t K (lent-joins t (s .args .kept .now)) w (c .before .before .before .before .before .before .before .before .before .before .before .before .before .before .before .before .forced-by .result) (c .before .before .before .before .before .before .before .before .before .before .before .before .before .before .before .before .forced-by .ensures) (c .before .before .before .before .before .before .before .before .before .before .before .before .before .before .before .if2 .left) in
     let r = c .before .before .look .ensures in
     let best = subst (λ (b : Bool). Least (Valid (frameOf t) K) (followsAs b 0 (c .before .before .before .before .before .before .before .before .lay-operations .result) (c .before .before .look .last .1 .1 .1 .1 .1 .0))) (c .if4 .taken)
     (r .right K g (c .before .before .before .before .before .before .before .before .before .before .before .before .sourced .ensures .0 (not-false _ (c .before .before .before .before .before .before .before .before .before .before .before .if3 .left)))) in
@@ -107,12 +103,12 @@ nothing-requires-4 : tie.Need-nothing-requires-4
 nothing-requires-4 c κs = search needs
 
 returns-5 : tie.Need-returns-5
-returns-5 c = let s = c .before .before .before .before .before .before .before .before .before .before .before .before .before .before .before .before .before .before .before .before .before .before .before .before in
+returns-5 c = let s = c .before .before .before .before .before .before .before .before .before .before .before .before .before .before .before .before .before .before .before .before .before .before in
     let t = s .args .t in
     let K = lentOf t (s .args .kept .now) in
     first-none t K (c .nothing4 .result) (c .nothing4 .ensures)
     (λ a.
-    let g = held-guided t K (lent-joins t (s .args .kept .now)) a (c .before .before .before .before .before .before .before .before .before .before .before .before .before .before .before .before .before .before .before .forced-by .result) (c .before .before .before .before .before .before .before .before .before .before .before .before .before .before .before .before .before .before .before .forced-by .ensures) (c .before .before .before .before .before .before .before .before .before .before .before .before .before .before .before .before .before .before .if2 .left) in
+    let g = held-guided t K (lent-joins t (s .args .kept .now)) a (c .before .before .before .before .before .before .before .before .before .before .before .before .before .before .before .before .before .forced-by .result) (c .before .before .before .before .before .before .before .before .before .before .before .before .before .before .before .before .before .forced-by .ensures) (c .before .before .before .before .before .before .before .before .before .before .before .before .before .before .before .before .if2 .left) in
     subst (λ (b : Bool). Least (Valid (frameOf t) K) (followsAs b 0 (c .before .before .before .before .before .before .before .before .before .lay-operations .result) (c .before .before .before .look .last .1 .1 .1 .1 .1 .0))) (c .before .if4 .left)
     (c .before .before .before .look .ensures .right K g (c .before .before .before .before .before .before .before .before .before .before .before .before .before .sourced .ensures .0 (not-false _ (c .before .before .before .before .before .before .before .before .before .before .before .before .if3 .left)))))
 
@@ -127,8 +123,7 @@ first-order-by-spec =
     forced-by-requires
     nothing-requires-2
     returns-2
-    slice-aggregate-lay-sources
-    lay-sources-requires
+    sources-of-requires
     slice-aggregate-sourced
     sourced-requires
     nothing-requires-3

@@ -6,7 +6,8 @@ use borrow.Author.Needs.{needs}
 use borrow.Author.Tests.{not-false}
 use Rattle.rows.proofs.Rows.{bit-bounds}
 use Rattle.rows.specs.Rows.{bit}
-use Rattle.search.proofs.Candidates.{next-seen, next-on}
+use Rattle.edges.proofs.DrawnEdges.{next-seen}
+use Rattle.search.proofs.Candidates.{next-on}
 use Rattle.trace.specs.Bounds.{RECORDS}
 use Rattle.search.proofs.seek.covered.Statement.{statement}
 use Rattle.search.proofs.seek.covered.Tie as tie

@@ -8,7 +8,8 @@ use borrow.Author.Needs.{needs}
 use lib.ListN.{length, getD}
 use Rattle.laws.proofs.Tests.{no-iff, yes-iff}
 use Rattle.rows.specs.Rows.{bit}
-use Rattle.search.proofs.Candidates.{next-seen, next-on, next-at}
+use Rattle.edges.proofs.DrawnEdges.{next-seen}
+use Rattle.search.proofs.Candidates.{next-on, next-at}
 use Rattle.trace.specs.Bounds.{RECORDS}
 use Rattle.search.proofs.seek.quiet.Statement.{statement}
 use Rattle.search.proofs.seek.quiet.Tie as tie

@@ -6,7 +6,8 @@ use native.Mathlib.Omega.{arith}
 use borrow.Author.Needs.{needs}
 use lib.ListN.{length, getD}
 use Rattle.rows.specs.Rows.{bit}
-use Rattle.search.proofs.Candidates.{next-seen, next-on, in-rest}
+use Rattle.edges.proofs.DrawnEdges.{next-seen}
+use Rattle.search.proofs.Candidates.{next-on, in-rest}
 use Rattle.search.proofs.seek.unread.Statement.{statement}
 use Rattle.search.proofs.seek.unread.Tie as tie
 

@@ -2,6 +2,7 @@
 use mathlib.Core.Path.{refl}
 use borrow.Author.Needs.{needs}
 use Rattle.search.proofs.Rowing.{filled-of}
+use Rattle.search.proofs.TablesLaid.{filled}
 use Rattle.search.proofs.tables.lay.Statement.{statement}
 use Rattle.search.proofs.tables.lay.Tie as tie
 
@@ -30,7 +31,7 @@ lay-readers-requires : tie.Need-lay-readers-requires
 lay-readers-requires c κs = (c .before .before .before .before .before .before .before .before .before .before .before .before .before .before .before .before .before .pre .0, c .before .before .before .before .before .before .before .before .before .before .before .before .before .before .before .before .before .pre .3, c .before .before .before .lay-addresses2 .ensures)
 
 turn-requires : tie.Need-turn-requires
-turn-requires c κs = (c .before .before .before .before .before .before .before .before .before .before .before .before .before .before .before .before .before .before .before .before .before .pre .0, c .before .before .before .before .before .before .before .before .before .before .before .before .before .before .before .before .before .before .before .before .before .pre .1)
+turn-requires c κs = search needs
 
 same-length : tie.Need-same-length
 same-length c = search needs
@@ -42,7 +43,11 @@ same-length-3 : tie.Need-same-length-3
 same-length-3 c = search needs
 
 returns : tie.Need-returns
-returns c = (c .before .before .turn .ensures, (filled-of (c .before .before .before .before .before .before .before .before .before .before .before .before .before .before .lay-writers .ensures), filled-of (c .before .before .before .before .before .before .lay-readers .ensures)))
+returns c =
+    let s = c .before .before .before .before .before .before .before .before .before .before .before .before .before .before .before .before .before .before .before .before .before .before .before .before in (
+      filled (s .args .held .now) (s .args .t .len) _ _ (s .pre .1) (c .before .before .turn .ensures),
+      (filled-of (c .before .before .before .before .before .before .before .before .before .before .before .before .before .before .lay-writers .ensures), filled-of (c .before .before .before .before .before .before .lay-readers .ensures)),
+    )
 
 pub lay-spec : {M : Type 1} → statement M
 lay-spec =
