@@ -1,4 +1,5 @@
-//! The search of crates/search, with its placements counted: ready operations only, three stops of the loop, dead sets remembered.
+//! The search of crates/search, with its placements counted: ready operations only, three stops of the loop, dead sets remembered. The third stop tries
+//! both sides of a few pairs too.
 
 use simple::models::{kept, Model};
 use simple::rules::{missing, rounds, source, writes_there};
@@ -12,6 +13,9 @@ const SLOTS: u64 = 4093;
 
 /// The third stop is asked once for a set, when the search below it has cost so many placements.
 const PATIENCE: u64 = 64;
+
+/// So many pairs of writers are tried by the third stop.
+const TRIES: usize = 8;
 
 pub struct Found {
     pub order: bool,
@@ -99,9 +103,14 @@ impl Search {
             || (asks && self.refuted(placed))
     }
 
-    /// With all that is placed before all that is not, rules 6 and 7 close a circle.
+    /// With all that is placed before all that is not, rules 6 and 7 close a circle; or they do so either way round for one of a few pairs of writers.
     fn refuted(&self, placed: &Row) -> bool {
         let mut led = self.before.clone();
+        self.circular(placed, &mut led) || self.divided(placed, &led)
+    }
+
+    /// Rules 6 and 7 to their end; whether they close a circle.
+    fn circular(&self, placed: &Row, led: &mut Vec<Row>) -> bool {
         loop {
             let was = led.clone();
             for load in (0..self.records()).filter(|&load| !has(placed, load)) {
@@ -115,14 +124,36 @@ impl Search {
                     }
                 }
             }
-            if led == was {
+            if *led == was {
                 return false;
             }
-            close(&mut led);
+            close(led);
             if (0..self.records()).any(|x| has(&led[x], x)) {
                 return true;
             }
         }
+    }
+
+    /// Of the first few writers that have one, each with the next writer of its address that leads it neither way, one of the two read from: whether both
+    /// sides of such a pair close a circle.
+    fn divided(&self, placed: &Row, led: &[Row]) -> bool {
+        let left = |x: &usize| has(&self.operations, *x) && !has(placed, *x);
+        let read = set(self.records(), |x| (0..self.records()).any(|load| left(&load) && self.sources[load] == Some(x)));
+        let open = |x: usize, y: usize| {
+            has(&self.writers[x], y)
+                && has(&self.writers[y], x)
+                && (has(&read, x) || has(&read, y))
+                && !has(&led[x], y)
+                && !has(&led[y], x)
+        };
+        let pairs = (0..self.records()).filter(left).filter_map(|x| (x + 1..self.records()).filter(left).find(|&y| open(x, y)).map(|y| (x, y)));
+        let falls = |x: usize, y: usize| {
+            let mut side = led.to_vec();
+            put(&mut side[y], x);
+            close(&mut side);
+            self.circular(placed, &mut side)
+        };
+        pairs.take(TRIES).any(|(x, y)| falls(x, y) && falls(y, x))
     }
 
     /// 0 where an order is found, and otherwise what the search cost, up to PATIENCE.

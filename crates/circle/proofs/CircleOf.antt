@@ -37,7 +37,7 @@ use Rattle.rules.specs.Circle.{Run, Circle as Ring, Shown, after}
 use Rattle.rules.specs.ShownCircle.{Circled}
 use Rattle.edges.specs.LastRound.{Ends}
 use Rattle.circle.specs.ShownIn.{circleOf, ShownIn}
-use Rattle.circle.specs.inner.NamedRules.{Named}
+use Rattle.circle.specs.inner.NamedRules.{RulesNamed}
 use Rattle.edges.specs.KeptRows.{KeptRows}
 use Rattle.edges.specs.ForcedPairs.{answered, RoundedBy}
 use Rattle.circle.specs.CircleOf.{ruledOf, CircleBy, CircleOf}
@@ -74,11 +74,11 @@ module _ (f : Frame) (g : Good f) (K : Table) (k : ℕ) (before edges chains : L
   circled-none e = λ m. circle-none (Edge f K nothing m) .1 (λ x c. last-clear f K nothing k (e .last false≢true) (λ x d. false≢true (e .circle-is .1 (x, d))) (x, (suc m, c)))
 
   pub circled-some : (len : ℕ) (os rs zero-rules : List ℕ) → Ends f K nothing k true before edges chains → len ≤ length os → len ≤ length rs → Shown (Edges edges) (circleOf len os)
-      → Named f K (bit before) (take len os) len zero-rules rs → Circled f K (ruledOf len os rs)
+      → RulesNamed f K (bit before) (take len os) len zero-rules rs → Circled f K (ruledOf len os rs)
   unfolding circleOf ruledOf
   circled-some len os rs zero-rules e lo lr shown named = go len lo lr (shown-same (Edges edges) (Edge f K nothing k) (e .edges-has) (circleOf len os) shown) named
     where
-      go : (len : ℕ) → len ≤ length os → len ≤ length rs → Shown (Edge f K nothing k) (circleOf len os) → Named f K (bit before) (take len os) len zero-rules rs → Circled f K (ruledOf len os rs)
+      go : (len : ℕ) → len ≤ length os → len ≤ length rs → Shown (Edge f K nothing k) (circleOf len os) → RulesNamed f K (bit before) (take len os) len zero-rules rs → Circled f K (ruledOf len os rs)
       go zero lo lr s n = let (x, c) = e .circle-is .0 refl in absurd (circle-none (Edge f K nothing k) .0 s x c)
       go (suc m) lo lr s n = (
         k,
@@ -127,7 +127,7 @@ module _ (t : Trace) (K : Table) (n : ℕ) (supposed : List ℕ) (last : Round) 
   }
 
   pub circle-laid : (r : Circle) (wiped : List ℕ) → last .circle ≡ true → ShownIn (last .edges) RECORDS (r .len) (r .operations) → wiped ≡ replicate RECORDS 0
-      → Named (frameOf t) K (bit (last .before)) (take (r .len) (r .operations)) (r .len) wiped (r .rules) → CircleBy t K r
+      → RulesNamed (frameOf t) K (bit (last .before)) (take (r .len) (r .operations)) (r .len) wiped (r .rules) → CircleBy t K r
   circle-laid r wiped c shown z named = record {
     fits = shown .fits;
     long = (shown .long, long);

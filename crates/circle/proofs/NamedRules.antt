@@ -16,13 +16,13 @@ use Rattle.rules.specs.Frame.{Frame}
 use Rattle.rules.specs.Rules.{nothing}
 use Rattle.rules.specs.Circle.{after}
 use Rattle.rules.specs.ShownCircle.{rule?}
-use Rattle.circle.specs.inner.NamedRules.{Named}
+use Rattle.circle.specs.inner.NamedRules.{RulesNamed}
 
 module _ (f : Frame) (K C : Table) (c before : List ℕ) where
-  pub named-none : Named f K C c 0 before before
+  pub named-none : RulesNamed f K C c 0 before before
   named-none = record { long = refl; each = λ i h. absurd (omega arith); rest = λ i _. refl }
 
-  pub named-more : (i r : ℕ) (now : List ℕ) → i < length now → r ≡ rule? f K nothing C (getD c i 0) (after c i) → Named f K C c i before now → Named f K C c (i + 1) before (set now i r)
+  pub named-more : (i r : ℕ) (now : List ℕ) → i < length now → r ≡ rule? f K nothing C (getD c i 0) (after c i) → RulesNamed f K C c i before now → RulesNamed f K C c (i + 1) before (set now i r)
   named-more i r now l e n = record {
     long = length-set now i r ∙ n .long;
     each = below-more _ i (λ k h. getD-set-other now i k r 0 (omega arith) ∙ n .each k h) (getD-set-same now i r 0 l ∙ e);

@@ -12,11 +12,11 @@ use lib.Dec.{leb}
 use lib.ListN.{length, replicate}
 use Rattle.trace.specs.Bounds.{RECORDS}
 use Rattle.trace.specs.Meaning.{frameOf}
+use Rattle.trace.specs.Padded.{padded}
 use Rattle.trace.specs.declared.Trace.{Trace}
 use Rattle.pairs.specs.Kept.{keptOf}
 use Rattle.edges.specs.ForcedPairs.{answered}
 use Rattle.rules.specs.Ready.{operations}
-use Rattle.verdict.specs.VerdictOf.{padded}
 use Rattle.plain.specs.Plain.{plain}
 use Rattle.counting.specs.declared.Walked.{Walked}
 use Rattle.counting.specs.declared.Walked.the-variants.{Order, End, Over}

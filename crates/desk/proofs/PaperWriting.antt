@@ -17,7 +17,7 @@ use Rattle.reasons.specs.declared.listing.Listed.the-variants.{NoModel, NotWell
 use Rattle.desk.specs.AnswerNumbers.{SHOWN}
 use Rattle.reasons.proofs.Unique.{writes-one}
 use Rattle.reader.specs.Whole.{readWhole}
-use Rattle.desk.specs.PaperWritten.{LIST, listedNumber, shown?, lengthOf, halves, lengthFront, PaperWritten, PaperAsked}
+use Rattle.desk.specs.PaperWritten.{LIST, listedNumber, listShown?, lengthOf, halves, lengthFront, PaperWritten, PaperAsked}
 use Rattle.desk.proofs.Ranked.{ranked-one}
 
 pub front-set : (b : List ℕ) (x y : ℕ) → LIST ≤ length b → set (set b 0 x) 1 y ≡ x ∷ y ∷ drop LIST b
@@ -25,7 +25,7 @@ front-set (u ∷ v ∷ b) x y h = refl
 front-set (u ∷ []) x y h = absurd (omega (arith, h))
 front-set [] x y h = absurd (omega (arith, h))
 
-shown-number : (w : Listed) → shown? w ≡ true → SHOWN ≡ listedNumber w
+shown-number : (w : Listed) → listShown? w ≡ true → SHOWN ≡ listedNumber w
 shown-number NoModel e = absurd (false≢true e)
 shown-number NotWellFormed e = absurd (false≢true e)
 shown-number Nothing e = absurd (false≢true e)
@@ -52,10 +52,10 @@ module _ (t : Trace) (m : ℕ) (b : List ℕ) (h : LIST ≤ length b) where
     told : Writes t m (drop LIST b) last w
     told = subst (λ (u : Trace). Writes u m (drop LIST b) last w) same (subst (λ (x : List ℕ). Writes u m x last w) lent-all s)
 
-    pub unshown-written : shown? w ≡ false → (r : ℕ) → r ≡ listedNumber w → PaperWritten t m b r (whole last)
+    pub unshown-written : listShown? w ≡ false → (r : ℕ) → r ≡ listedNumber w → PaperWritten t m b r (whole last)
     unshown-written e r q = (w, last, told, q, ended last ∙ ap (λ (y : Bool). cond y (halves (lengthOf w)) (take LIST b) ++ last) (sym e))
 
-    pub shown-written : shown? w ≡ true → (n : ℕ) → n ≡ lengthOf w → (after : List ℕ) → after ≡ halves n ++ drop LIST (whole last) → PaperWritten t m b SHOWN after
+    pub shown-written : listShown? w ≡ true → (n : ℕ) → n ≡ lengthOf w → (after : List ℕ) → after ≡ halves n ++ drop LIST (whole last) → PaperWritten t m b SHOWN after
     shown-written e n l after a = (
       w,
       last,

@@ -11,6 +11,7 @@ use lib.Seq.{take-at, drop-at}
 use Rattle.trace.specs.Bounds.{RECORDS}
 use Rattle.trace.specs.Meaning.{frameOf}
 use Rattle.trace.specs.WellFormed.{wellFormed}
+use Rattle.trace.specs.Padded.{padded}
 use Rattle.trace.specs.declared.Trace.{Trace}
 use Rattle.trace.proofs.Good.{good}
 use Rattle.pairs.specs.Kept.{modelled, keptOf}
@@ -21,7 +22,6 @@ use Rattle.rules.specs.Verdict as said
 use Rattle.pairs.proofs.ValidOrders.{well-fits, well-kept, valid-short}
 use Rattle.reader.specs.Whole.{readWhole}
 use Rattle.reader.proofs.Whole.{whole-well}
-use Rattle.verdict.specs.VerdictOf.{padded}
 use Rattle.desk.specs.AnswerNumbers.{answerTo}
 use Rattle.desk.specs.Text.{textNumber}
 use Rattle.desk.specs.VerdictBytes.{VERDICT, wide, operationsOf, rulesIn, verdictBytes, VerdictAnswered}

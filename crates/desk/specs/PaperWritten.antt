@@ -1,14 +1,14 @@
 -- A paper that is asked for over a text.
 --
---   LIST                 == where the list begins in lent numbers, behind its length in two of them
---   listedNumber w       == the answer to what the writer says
---   shown? w             == a list is shown
---   lengthOf w           == how many numbers it has; 0 where there is none
---   halves n             == a length in two numbers, the low half first
---   lengthFront w before == the two numbers in front after it: the length of a list that is shown; otherwise as they were
---   PaperWritten t m before r after == what the writer says of a trace, told by r, and the numbers after it: the list behind its length, the rest as it was
+--   LIST                             == where the list begins in lent numbers, behind its length in two of them
+--   listedNumber w                   == the answer to what the writer says
+--   listShown? w                     == a list is shown
+--   lengthOf w                       == how many numbers it has; 0 where there is none
+--   halves n                         == a length in two numbers, the low half first
+--   lengthFront w before             == the two numbers in front after it: the length of a list that is shown; otherwise as they were
+--   PaperWritten t m before r after  == what the writer says of a trace, told by r, and the numbers after it: the list behind its length, the rest as it was
 --   PaperAsked text m before after r == what `wheelotter_paper` promises: what is wrong with the text, no such model, no room for a length, all as it was; and
---                           else what the writer says of the text's trace
+--                                       else what the writer says of the text's trace
 use mathlib.Core.Path.{_≡_}
 use mathlib.Core.Bool.{Bool, true, false, cond}
 use mathlib.Core.List.{List, [], _∷_, _++_}
@@ -32,12 +32,12 @@ listedNumber Nothing = NOTHING-TO-SHOW
 listedNumber TooLong = NO-ROOM
 listedNumber (Shown n) = SHOWN
 
-abbrev pub shown? : Listed → Bool
-shown? NoModel = false
-shown? NotWellFormed = false
-shown? Nothing = false
-shown? TooLong = false
-shown? (Shown n) = true
+abbrev pub listShown? : Listed → Bool
+listShown? NoModel = false
+listShown? NotWellFormed = false
+listShown? Nothing = false
+listShown? TooLong = false
+listShown? (Shown n) = true
 
 abbrev pub lengthOf : Listed → ℕ
 lengthOf NoModel = 0
@@ -50,7 +50,7 @@ abbrev pub halves : ℕ → List ℕ
 halves n = n % 65536 ∷ n / 65536 % 65536 ∷ []
 
 abbrev pub lengthFront : Listed → List ℕ → List ℕ
-lengthFront w before = cond (shown? w) (halves (lengthOf w)) (take LIST before)
+lengthFront w before = cond (listShown? w) (halves (lengthOf w)) (take LIST before)
 
 abbrev pub PaperWritten : Trace → ℕ → List ℕ → ℕ → List ℕ → Type 0
 PaperWritten t m before r after =

@@ -13,10 +13,10 @@ use Prim.Native.Nat.{ℕ, _+_, _*_, _/_, _%_}
 use lib.ListN.{length, drop}
 use Rattle.trace.specs.Bounds.{RECORDS}
 use Rattle.trace.specs.Meaning.{frameOf}
+use Rattle.trace.specs.Padded.{padded}
 use Rattle.pairs.specs.Kept.{keptOf}
 use Rattle.reader.specs.Whole.{readWhole}
 use Rattle.rules.specs.Verdict as said
-use Rattle.verdict.specs.VerdictOf.{padded}
 use Rattle.desk.specs.AnswerNumbers.{answerTo}
 use Rattle.desk.specs.Ranked.{Ranked}
 

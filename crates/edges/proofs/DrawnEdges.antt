@@ -1,8 +1,6 @@
 -- What the functions that draw edges add is what the rules give.
 --
---   fenced-none, fenced-apart, fenced-same    == none next to each other; one record further on, of another thread and of the same
---   kept-none, kept-apart, kept-at            == rule 1 from a record: to none up to itself, to none of another thread, and as a loop reads it off two records
---   writer-at, earlier-at, early-at, reads-at == the tests of rules 2 to 5, likewise
+--   writer-at, earlier-at, early-at, reads-at == the tests of rules 2 to 5, as a loop reads them off two records
 --   address-at                                == its address
 --   stored-at, stored                         == a record that is noted by its address, and all of them
 --   store-writer, store-own, store-none       == a record that is noted by the load's address writes it, unless it is the load; no other does
@@ -15,7 +13,7 @@
 --   next-on, next-at                          == a row's next number is further on; it is in the row, or there is none
 use mathlib.Core.Path.{_≡_, refl, sym, _∙_}
 use mathlib.Core.Logic.{_⊎_, inl, inr, _↔_}
-use mathlib.Core.Bool.{Bool, true, false, So, not, _&&_, _||_, false≢true}
+use mathlib.Core.Bool.{Bool, true, false, So, not, _&&_, false≢true}
 use mathlib.Core.List.{List}
 use Prim.Native.Nat.{ℕ, _+_, _<_}
 use native.Mathlib.Omega.{arith}
@@ -24,74 +22,26 @@ use lib.Dec.{eqb, ltb}
 use lib.ListN.{length, getD, set, length-set}
 use lib.Seq.{getD-set-same, getD-set-other}
 use Rattle.laws.specs.Relation.{Rel}
-use Rattle.laws.proofs.Tests.{off, and-iff, or-iff, not-iff, same-iff, so-eq, so-lt, eq?, test-one}
+use Rattle.laws.proofs.Tests.{off, and-iff, not-iff, same-iff, so-eq, so-lt}
 use Rattle.trace.specs.Bounds.{RECORDS}
-use Rattle.trace.specs.Op.{thread, address, read, reads, writes, fence}
+use Rattle.trace.specs.Op.{thread, address, read, reads, writes}
 use Rattle.trace.specs.Trace.{at, first}
 use Rattle.rules.specs.Frame.{Frame}
 use Rattle.trace.specs.Meaning.{frameOf}
 use Rattle.trace.specs.declared.Trace.{Trace}
-use Rattle.rows.specs.Bounds.{WORDS, CELLS}
+use Rattle.rows.specs.Bounds.{CELLS}
 use Rattle.rows.specs.Rows.{bit}
 use Rattle.rows.specs.Put.{putOf}
 use Rattle.rows.specs.Empty.{emptyOf}
-use Rattle.rows.specs.Within.{Within}
 use Rattle.rows.specs.Next.{NextInRow}
 use Rattle.rows.proofs.Whole.{empty-bit}
-use Rattle.pairs.specs.Kept.{keptPair, fenced, keptOf}
 use Rattle.rules.specs.RuleTests.{writer?}
 use Rattle.edges.specs.inner.PairSets.{Only, Union}
 use Rattle.rows.specs.inner.AddedPairs.{Added}
 use Rattle.pairs.specs.SourceOf.{sourceOf}
 use Rattle.edges.specs.inner.DrawnEdges.{Stored, Valued, readsFirst, ValuedFor, Loaded, second, third, fourth, fifth, Settled, sixth, seventh, SettledBy}
 use Rattle.rules.proofs.RuleTests.{writer-iff}
-use Rattle.pairs.proofs.KeptPairs.{earlier-iff, fenced-iff, kept-of-iff, kept-parts}
-use Rattle.edges.proofs.PairSets.{adds-none, adds-put, adds-only, adds-as, adds-or, union-none, union-more, union-skip}
-
-module _ (t : Trace) (x : ℕ) where
-  pub fenced-none : fenced t x (x + 1) ≡ false
-  fenced-none = off (λ s. let f = fenced-iff t x (x + 1) .0 s in omega (arith, f .1, f .2 .0 .1))
-
-  -- what a record further on adds
-  further : (y : ℕ) → So (fence (at t y)) → x < y → thread (at t y) ≡ thread (at t x) → So (fenced t x (y + 1))
-  further y p l e = fenced-iff t x (y + 1) .1 (y, omega arith, ((p, l), e))
-
-  nearer : (y : ℕ) → So (fenced t x y) → So (fenced t x (y + 1))
-  nearer y s = let f = fenced-iff t x y .0 s in fenced-iff t x (y + 1) .1 (f .0, omega (arith, f .1), f .2)
-
-  last : (y : ℕ) → So (fenced t x (y + 1)) → So (fenced t x y) ⊎ (So (fence (at t y)) × (thread (at t y) ≡ thread (at t x)))
-  last y s =
-      let f = fenced-iff t x (y + 1) .0 s in
-      elim (eq? (f .0) y) [
-        | inl e ↦ inr (rw (sym e) (f .2 .0 .0, f .2 .1))
-        | inr d ↦ inl (fenced-iff t x y .1 (f .0, omega (arith, f .1), f .2))
-      ]
-
-  pub fenced-apart : (y : ℕ) → (thread (at t y) ≡ thread (at t x) → ⊥) → fenced t x y ≡ fenced t x (y + 1)
-  fenced-apart y d = test-one {A = So (fenced t x (y + 1))} (nearer y, λ s. elim (last y s) [ inl f ↦ f | inr q ↦ absurd (d (q .1)) ]) same-iff
-
-  pub fenced-same : (y : ℕ) → x < y → thread (at t y) ≡ thread (at t x) → (fenced t x y || fence (at t y)) ≡ fenced t x (y + 1)
-  fenced-same y l e =
-      test-one {A = So (fenced t x (y + 1))} (
-        λ s. elim (or-iff (same-iff {a = fenced t x y}) (same-iff {a = fence (at t y)}) .0 s) [ inl f ↦ nearer y f | inr p ↦ further y p l e ],
-        λ s. or-iff (same-iff {a = fenced t x y}) (same-iff {a = fence (at t y)}) .1 (elim (last y s) [ inl f ↦ inl f | inr q ↦ inr (q .0) ]),
-      ) same-iff
-
-  module _ (m : ℕ) where
-    -- a kept pair is one of program order
-    ordered : (y : ℕ) → So (keptOf m t x y) → (x < y) × (thread (at t x) ≡ thread (at t y))
-    ordered y s = earlier-iff t x y .0 (kept-of-iff t x y m .0 s .0 .0 .0 .0)
-
-    pub kept-none : (e : List ℕ) → Added e (Union (x + 1) (λ y. Only (keptOf m t x y) x y)) e
-    unfolding Union
-    kept-none e = adds-none e (Union (x + 1) (λ y. Only (keptOf m t x y) x y)) (λ i j u. omega (arith, u .1, ordered (u .0) (u .2 .0) .0))
-
-    pub kept-apart : (y : ℕ) → (thread (at t y) ≡ thread (at t x) → ⊥) → (i j : ℕ) → Only (keptOf m t x y) x y i j → ⊥
-    kept-apart y d i j o = d (sym (ordered y (o .0) .1))
-
-    -- what is known of the two records comes from calls: their results stand for the tests
-    pub kept-at : (y : ℕ) → x < y → y < t .len → (kept passed : Bool) → passed ≡ fenced t x y → kept ≡ keptPair m (at t x) (at t y) true passed → kept ≡ keptOf m t x y
-    kept-at y l h kept passed p k = rw (k, p, kept-parts t x y m, so-lt {m = x} {n = y} .1 l, so-lt {m = y} {n = t .len} .1 h) refl
+use Rattle.edges.proofs.PairSets.{adds-put, adds-only, adds-as, adds-or, union-none, union-more, union-skip}
 
 module _ (t : Trace) (S L : ℕ) where
   pub writer-at : S < t .len → (w : Bool) (a b : ℕ) → w ≡ writes (at t S) → a ≡ address (at t S) → b ≡ address (at t L)

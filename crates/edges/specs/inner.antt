@@ -1,6 +1,7 @@
 -- What only contracts of private functions cite.
 pub mod PairSets
 pub mod DrawnEdges
+pub mod LaterRecords
 pub mod RoundStep
 pub mod Settling
 pub mod Takes

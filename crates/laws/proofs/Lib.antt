@@ -10,6 +10,7 @@ pub mod Growth
 pub mod Counts
 pub mod Dict
 pub mod Lowest
+pub mod Picks
 pub mod Sorted
 pub mod Bits
 pub mod Alike

@@ -12,7 +12,7 @@ use native.Mathlib.Omega.{arith}
 use lib.ListN.{getD}
 use Rattle.laws.specs.Relation.{Rel, Table, Chain}
 use Rattle.laws.specs.ListOf.{row}
-use Rattle.laws.specs.inner.Warshall.{memo, wars, chains}
+use Rattle.laws.specs.Warshall.{memo, wars, chains}
 use Rattle.laws.proofs.Rows.{row-at, row-out}
 use Rattle.laws.proofs.Via.{Via, last, via-zero, via-more, via-rows, chain-iff-via, cell}
 

@@ -7,7 +7,9 @@ pub mod ListOf
 pub mod Sums
 pub mod Dict
 pub mod Lowest
+pub mod Picks
 pub mod Bits
 pub mod Alike
 pub mod Latest
+pub mod Warshall
 pub mod inner

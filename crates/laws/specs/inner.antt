@@ -2,5 +2,4 @@
 pub mod TryingInTurn
 pub mod Sorted
 pub mod Steps
-pub mod Warshall
 pub mod Joined

@@ -1,18 +1,18 @@
 -- The buffers are first in, first out: an entry goes in behind all others of its core, and the one that comes out stands before all others.
 --
---   picks-add, picks-drop, picks-same == a test that passes one number more, one less, the same
---   reach-tells                       == what a run reaches has a history
---   fifo                              == a step puts an entry in last, takes the first out, or leaves the buffer alone
-use mathlib.Core.Path.{_≡_, refl, sym, ap, ap₂, _∙_, subst}
+--   reach-tells == what a run reaches has a history
+--   fifo        == a step puts an entry in last, takes the first out, or leaves the buffer alone
+use mathlib.Core.Path.{_≡_, refl, sym, ap, _∙_, subst}
 use mathlib.Core.Logic.{_≢_, _↔_, _⊎_, inl, inr}
-use mathlib.Core.Bool.{Bool, true, false, cond, So, not, _&&_, false≢true}
+use mathlib.Core.Bool.{true, false, So, not, false≢true}
 use mathlib.Core.List.{List, [], _∷_, _++_}
 use mathlib.Core.Option.{Option, none, some}
-use Prim.Native.Nat.{ℕ, zero, suc, _+_, _-_, _<_, _≤_}
+use Prim.Native.Nat.{ℕ, _+_, _-_, _<_, _≤_}
 use native.Mathlib.Omega.{arith}
 use Rattle.laws.specs.Places.{count}
 use Rattle.laws.proofs.Tests.{test, off, eq?, test-one}
 use Rattle.laws.proofs.Places.{count-here}
+use Rattle.laws.proofs.Picks.{picks-same, picks-add, picks-drop}
 use Rattle.trace.specs.Bounds.{THREADS}
 use Rattle.trace.specs.Op.{thread, writes}
 use Rattle.trace.specs.Trace as trace
@@ -24,7 +24,7 @@ use Rattle.trace.proofs.WellFormed.{form-iff}
 use Rattle.pairs.specs.Kept.{keptOf}
 use Rattle.machine.specs.declared.Machine.{Machine}
 use Rattle.machine.specs.Machine.{machined, waiting, step, machineStart}
-use Rattle.machine.specs.Fifo.{picks, bufferOf, Reached, begin, on}
+use Rattle.machine.specs.Fifo.{bufferOf, Reached, begin, on}
 use Rattle.machine.proofs.CoresOf.{coresOf}
 use Rattle.machine.proofs.History.{_∈_, Waits, Run, Empty, Go, through, enters, empties, Laws}
 use Rattle.machine.proofs.Snoc.{cons-in, cons-cases, in-snoc, snoc-other, last-in, in?}
@@ -32,52 +32,6 @@ use Rattle.machine.proofs.Invariant.{Sound, nothing-sound, go-sound, ra
 use Rattle.machine.proofs.KeptLaws.{model-laws}
 use Rattle.machine.proofs.Lockstep.{Tells, waiting-iff, waits-below, step-go}
 use Rattle.machine.proofs.Equal.{start-tells}
-
-pub picks-same : (q q′ : ℕ → Bool) (i k : ℕ) → ((j : ℕ) → i ≤ j → j < i + k → q j ≡ q′ j) → picks q i k ≡ picks q′ i k
-unfolding picks
-picks-same q q′ i zero h = refl
-picks-same q q′ i (suc k) h = ap₂ (λ (b : Bool) (l : List ℕ). cond b (i ∷ l) l) (h i (omega arith) (omega arith)) (picks-same q q′ (suc i) k (λ j a b. h j (omega arith) (omega arith)))
-
-picks-none : (q : ℕ → Bool) (i k : ℕ) → ((j : ℕ) → i ≤ j → j < i + k → q j ≡ false) → picks q i k ≡ []
-unfolding picks
-picks-none q i zero h = refl
-picks-none q i (suc k) h = ap₂ (λ (b : Bool) (l : List ℕ). cond b (i ∷ l) l) (h i (omega arith) (omega arith)) (picks-none q (suc i) k (λ j a b. h j (omega arith) (omega arith)))
-
-module _ (q q′ : ℕ → Bool) (n x : ℕ) (same : (j : ℕ) → j < n → j ≢ x → q j ≡ q′ j) where
-  pub picks-add : (i k : ℕ) → i + k ≡ n → i ≤ x → x < n → So (q′ x) → ((j : ℕ) → j < n → So (q j) → j < x) → picks q′ i k ≡ picks q i k ++ (x ∷ [])
-  unfolding picks
-  picks-add i zero z a b s h = absurd (omega arith)
-  picks-add i (suc k) z a b s h = elim (eq? i x) [
-    | inl e ↦
-        let later : (j : ℕ) → suc i ≤ j → j < suc i + k → q j ≡ false = λ j c d. off (λ u. omega (arith, h j (omega arith) u)) in
-        let qi : q i ≡ false = off (λ u. omega (arith, h i (omega arith) u)) in
-        let ri : q′ i ≡ true = ap q′ e ∙ s in
-        ap₂ (λ (b : Bool) (l : List ℕ). cond b (i ∷ l) l) ri (sym (picks-same q q′ (suc i) k (λ j c d. same j (omega arith) (omega arith))) ∙ picks-none q (suc i) k later)
-        ∙ ap (λ (n : ℕ). n ∷ []) e
-        ∙ sym (ap (λ l. l ++ (x ∷ [])) (ap₂ (λ (b : Bool) (l : List ℕ). cond b (i ∷ l) l) qi (picks-none q (suc i) k later)))
-    | inr d ↦ step-on (q i) (q′ i) (same i (omega arith) d) (picks-add (suc i) k (omega arith) (omega arith) b s h)
-  ]
-    where
-      step-on : (b c : Bool) → b ≡ c → picks q′ (suc i) k ≡ picks q (suc i) k ++ (x ∷ []) → cond c (i ∷ picks q′ (suc i) k) (picks q′ (suc i) k) ≡ cond b (i ∷ picks q (suc i) k) (picks q (suc i) k) ++ (x ∷ [])
-      step-on true true e r = ap (λ l. i ∷ l) r
-      step-on true false e r = absurd (false≢true (sym e))
-      step-on false true e r = absurd (false≢true e)
-      step-on false false e r = r
-
-  pub picks-drop : (i k : ℕ) → i + k ≡ n → i ≤ x → x < n → So (q x) → q′ x ≡ false → ((j : ℕ) → j < n → So (q j) → x ≤ j) → picks q i k ≡ x ∷ picks q′ i k
-  unfolding picks
-  picks-drop i zero z a b s f h = absurd (omega arith)
-  picks-drop i (suc k) z a b s f h = elim (eq? i x) [
-    | inl e ↦
-        ap₂ (λ (b : Bool) (l : List ℕ). cond b (i ∷ l) l) (ap q e ∙ s) (picks-same q q′ (suc i) k (λ j c d. same j (omega arith) (omega arith)))
-        ∙ ap (λ (y : ℕ). y ∷ picks q′ (suc i) k) e
-        ∙ sym (ap (λ (b : Bool). x ∷ cond b (i ∷ picks q′ (suc i) k) (picks q′ (suc i) k)) (ap q′ e ∙ f))
-    | inr d ↦
-        let qi : q i ≡ false = off (λ u. omega (arith, h i (omega arith) u)) in
-        ap (λ (b : Bool). cond b (i ∷ picks q (suc i) k) (picks q (suc i) k)) qi
-        ∙ picks-drop (suc i) k (omega arith) (omega arith) b s f h
-        ∙ sym (ap (λ (b : Bool). x ∷ cond b (i ∷ picks q′ (suc i) k) (picks q′ (suc i) k)) (sym (same i (omega arith) d) ∙ qi))
-  ]
 
 module _ (t : Trace) (w : So (wellFormed t)) (m : ℕ) (k : So (machined m)) where
   form : Form t

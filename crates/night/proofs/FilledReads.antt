@@ -21,10 +21,11 @@ use lib.ListN.{length, getD, set, take, drop, length-set, drop-of-length-le, Lis
 use lib.Seq.{take-suc-set, take-all, drop-cons, drop-drop, getD-drop}
 use Rattle.trace.specs.Bounds.{RECORDS, ADDRESSES, VALUES}
 use Rattle.laws.specs.Tests.{any}
+use Rattle.laws.specs.Picks.{picks}
 use Rattle.trace.specs.Op.{thread, address, read, written, reads, writes, fence}
 use Rattle.trace.specs.Trace.{at, idle, first}
 use Rattle.trace.specs.Meaning.{frameOf}
-use Rattle.trace.specs.FormFacts.{Bounded, Writes, Fresh, Follows, Form}
+use Rattle.trace.specs.FormFacts.{Bounded, WritesThere, Fresh, Follows, Form}
 use Rattle.trace.specs.WellFormed.{wellFormed}
 use Rattle.trace.specs.declared.Op.{Op}
 use Rattle.trace.specs.declared.Op.the-variants.{Load, Store, Swap, Fence}
@@ -33,7 +34,7 @@ use Rattle.trace.specs.declared.Trace.{Trace}
 use Rattle.trace.proofs.Places.{at-past}
 use Rattle.trace.proofs.WellFormed.{form-iff}
 use Rattle.pairs.specs.Kept.{kindOf, modelled, keptBy, fenced, keptOf}
-use Rattle.signature.specs.Reads.{each, picks, other, values, valueOf, loads}
+use Rattle.signature.specs.Reads.{each, other, values, valueOf, loads}
 use Rattle.signature.specs.Unpack.{digitIn, readsOf}
 use Rattle.edges.specs.KeptRows.{KeptRows}
 use Rattle.night.specs.FilledReads.{readAs, fillReads, filledReads}
@@ -74,7 +75,7 @@ bounded-as (Store t a w) v h b = b
 bounded-as (Swap t a r w) v h b = record { thread-below = b .thread-below; address-below = b .address-below; read-below = h; written-below = b .written-below }
 bounded-as (Fence t) v h b = b
 
-writes-as : (o : Op) (v a w : ℕ) → Writes (readAs o v) a w → Writes o a w
+writes-as : (o : Op) (v a w : ℕ) → WritesThere (readAs o v) a w → WritesThere o a w
 writes-as (Load t b r) v a w h = record { does = h .does; there = h .there; value = h .value }
 writes-as (Store t b x) v a w h = h
 writes-as (Swap t b r x) v a w h = record { does = h .does; there = h .there; value = h .value }
@@ -82,8 +83,8 @@ writes-as (Fence t) v a w h = h
 
 module _ (t : Trace) (vs : List ℕ) (small : (j : ℕ) → getD vs j 0 < VALUES) where
   -- what is written with other reads was written before
-  written-as : (n : ℕ) → n ≤ length (t .records) → (j : ℕ) → j < n → (a w : ℕ) → Writes (at (filledReads t vs) j) a w → Writes (at t j) a w
-  written-as n l j h a w x = let (k, e) = seen-at t vs j (omega arith) in writes-as (at t j) (getD vs k 0) a w (subst (λ (o : Op). Writes o a w) e x)
+  written-as : (n : ℕ) → n ≤ length (t .records) → (j : ℕ) → j < n → (a w : ℕ) → WritesThere (at (filledReads t vs) j) a w → WritesThere (at t j) a w
+  written-as n l j h a w x = let (k, e) = seen-at t vs j (omega arith) in writes-as (at t j) (getD vs k 0) a w (subst (λ (o : Op). WritesThere o a w) e x)
 
   -- so what is fresh stays fresh
   fresh-as : (n : ℕ) → n ≤ length (t .records) → (o : Op) (v : ℕ) → (So (writes o) → Fresh t n o) → So (writes (readAs o v)) → Fresh (filledReads t vs) n (readAs o v)

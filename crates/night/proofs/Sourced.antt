@@ -14,6 +14,7 @@ use native.Mathlib.Omega.{arith}
 use lib.Dec.{eqb}
 use lib.ListN.{length, getD, drop}
 use Rattle.laws.specs.Places.{pos, count}
+use Rattle.laws.specs.Picks.{picks}
 use Rattle.laws.proofs.Tests.{and-iff, same-iff, so-eq, not-iff}
 use Rattle.laws.proofs.Places.{at-pos, count-here, count-le}
 use Rattle.trace.specs.Op.{address, read, written, reads, writes}
@@ -30,7 +31,7 @@ use Rattle.trace.proofs.WellFormed.{form-iff}
 use Rattle.rules.specs.Frame.{Source}
 use Rattle.rules.specs.Missing.{Missing, Sourced}
 use Rattle.rules.specs.Verdict as said
-use Rattle.signature.specs.Reads.{other, picks, each, values, rangeOf, digitOf, loads}
+use Rattle.signature.specs.Reads.{other, each, values, rangeOf, digitOf, loads}
 use Rattle.signature.specs.Unpack.{readOf, readsOf}
 use Rattle.signature.proofs.Lists.{pick-facts}
 use Rattle.signature.proofs.Unpack.{unpack-listed}

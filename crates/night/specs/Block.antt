@@ -12,8 +12,9 @@ use mathlib.Core.List.{List, [], _∷_, _++_}
 use Prim.Native.Nat.{ℕ, _+_, _*_}
 use lib.ListN.{length, replicate}
 use Rattle.trace.specs.Bounds.{RECORDS}
+use Rattle.trace.specs.Padded.{padded}
 use Rattle.rules.specs.Verdict as said
-use Rattle.verdict.specs.VerdictOf.{refusedBy, padded}
+use Rattle.verdict.specs.VerdictOf.{refusedBy}
 use Rattle.verdict.specs.declared.Outcome.{Outcome}
 use Rattle.verdict.specs.declared.Outcome.the-variants.{NoSource, Circle, Order, NoneLeft, NoModel, NotWellFormed}
 use Rattle.verdict.specs.declared.Verdict.{Verdict}

@@ -13,7 +13,7 @@ use Rattle.laws.specs.Places.{count}
 use Rattle.laws.specs.Sums.{sum}
 use Rattle.laws.specs.Lowest.{lowest}
 use Rattle.laws.specs.ListOf.{row}
-use Rattle.laws.specs.inner.Warshall.{memo, wars}
+use Rattle.laws.specs.Warshall.{memo, wars}
 use Rattle.trace.specs.Trace.{first}
 use Rattle.trace.specs.declared.Trace.{Trace}
 use Rattle.trace.specs.Meaning.{frameOf}
@@ -21,9 +21,9 @@ use Rattle.trace.specs.WellFormed.{bounded, writtenBefore, fresh, follows, isId
 use Rattle.trace.proofs.Good.{good}
 use Rattle.pairs.specs.Kept.{SC, MODELS, letOff, keptBy, fenced, keptOf}
 use Rattle.rules.specs.RuleTests.{writer?, source?, first?, rules, gives?}
-use Rattle.rules.specs.inner.ComputedRounds.{step?, chains?}
+use Rattle.rules.specs.ComputedRounds.{step?, chains?}
 use Rattle.rules.specs.Missing.{missing?}
-use Rattle.rules.specs.inner.ComputedWalks.{walk?, follow, shown?}
+use Rattle.rules.specs.ComputedWalks.{walk?, follow, shown?}
 use Rattle.rules.specs.ShownCircle.{rule?}
 use Rattle.rules.specs.inner.ComputedCircle.{rulesOf, rounds, circled?}
 use Rattle.pairs.proofs.KeptPairs.{kept-joins}

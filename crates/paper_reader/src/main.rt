@@ -20,7 +20,7 @@ const NUMBERS: usize = 65536;
 const BYTES: usize = 393216;
 
 // What a file has: how many numbers, and whether it has nothing else.
-struct Listed {
+struct NumbersRead {
     count: usize,
     good: bool,
 }
@@ -33,7 +33,7 @@ fn put(list: &mut [u16], i: usize, x: u16) {
 }
 
 // Takes the decimal numbers of a file into the list; spaces and line feeds stand between them.
-fn numbers(bytes: &[u8], list: &mut [u16]) -> Listed
+fn numbers(bytes: &[u8], list: &mut [u16]) -> NumbersRead
     ensures { λ r. ⌜ r .count ≤ length (now (list .exit)) ⌝ }
 {
     let mut count: usize = 0;
@@ -44,7 +44,7 @@ fn numbers(bytes: &[u8], list: &mut [u16]) -> Listed
         let value = run.value;
         if at < end {
             if 65535 < value {
-                return Listed {
+                return NumbersRead {
                     count: 0,
                     good: false,
                 };
@@ -55,7 +55,7 @@ fn numbers(bytes: &[u8], list: &mut [u16]) -> Listed
         } else {
             let b = bytes[at];
             if (b != b' ') & (b != b'\n') {
-                return Listed {
+                return NumbersRead {
                     count: 0,
                     good: false,
                 };
@@ -64,12 +64,12 @@ fn numbers(bytes: &[u8], list: &mut [u16]) -> Listed
         }
     }
     if list.len() < count {
-        return Listed {
+        return NumbersRead {
             count: 0,
             good: false,
         };
     }
-    Listed { count, good: true }
+    NumbersRead { count, good: true }
 }
 
 fn say_model(name: &[u8], t: Trace, model: u8, list: &[u16]) -> bool {

@@ -25,7 +25,7 @@ use Rattle.rules.specs.RuleTests.{gives?}
 use Rattle.rules.proofs.RuleTests.{gives-iff}
 use Rattle.rules.proofs.Orders.{either}
 use Rattle.rules.proofs.Sound.{gives-sound}
-use Rattle.papers.specs.Paper.{CIRCLE, SPLIT, Claim, Entry, edgeAt, named, leads, arrives, chained, branchRoom, mayRest, splits, fits, refutes, accepted}
+use Rattle.papers.specs.Paper.{CLOSE, SPLIT, Claim, Entry, edgeAt, named, leads, arrives, chained, branchRoom, mayRest, splits, fits, refutes, accepted}
 
 abbrev pub Kept : List Claim → List ℕ → Type 0
 Kept [] xs = Unit {0}
@@ -93,7 +93,7 @@ module _ (f : Frame) (g : Good f) (K : Table) (xs : List ℕ) (v : Valid f K xs)
   refutes-none [] [] t = tt
   refutes-none [] (E ∷ Es) t = absurd (false≢true t)
   refutes-none (e ∷ es) [] t = tt
-  refutes-none (e ∷ es) (E ∷ Es) t = go (refutes-none es) (eqb (e .rule) CIRCLE) (eqb (e .rule) SPLIT) t
+  refutes-none (e ∷ es) (E ∷ Es) t = go (refutes-none es) (eqb (e .rule) CLOSE) (eqb (e .rule) SPLIT) t
     where
       circle : Rest es → So (eqb (e .from) (e .to) && chained E (e .rests) (e .from) (e .to) && refutes f K Es es) → None (E ∷ Es)
       circle r t =

@@ -23,7 +23,7 @@ use Rattle.trace.specs.Meaning.{frameOf}
 use Rattle.trace.specs.declared.Trace.{Trace}
 use Rattle.rules.specs.Rules.{nothing}
 use Rattle.rules.specs.RuleTests.{writer?, source?, first?, rules, gives?}
-use Rattle.papers.specs.Paper.{CIRCLE, SPLIT, Claim, Entry, edgeAt, named, leads, arrives, chained, BRANCH, branchRoom, mayRest, splits, fits, refutes}
+use Rattle.papers.specs.Paper.{CLOSE, SPLIT, Claim, Entry, edgeAt, named, leads, arrives, chained, BRANCH, branchRoom, mayRest, splits, fits, refutes}
 use Rattle.papers.specs.inner.ReaderBranch.{branchOf, between, linkOf, linkJoins, linked, othersOf, stackOf, goalsOf, branchAfter, went, Taken}
 use Rattle.papers.specs.declared.reading.Link.{Link}
 use Rattle.papers.specs.declared.reading.Link.the-variants.{Between, Nowhere}

@@ -2,7 +2,7 @@
 --
 --   Claim               == x before y
 --   Entry               == a rule, two records and the entries that it rests on, by their numbers: an entry's number is how many entries of its branch
---                          stand before it. Rules 1 to 7 give an edge; SPLIT is two branches, "x before y" and then "y before x"; CIRCLE ends a branch
+--                          stand before it. Rules 1 to 7 give an edge; SPLIT is two branches, "x before y" and then "y before x"; CLOSE ends a branch
 --   BRANCH              == how many entries a branch has at the most: more than a branch that names no edge twice
 --   spell es            == the list as numbers: for each entry its rule, x, y, how many entries it rests on, and these
 --   edgeAt E i          == entry i of the branch E
@@ -28,8 +28,8 @@ use Rattle.rules.specs.Frame.{Frame}
 use Rattle.rules.specs.Rules.{nothing}
 use Rattle.rules.specs.RuleTests.{gives?}
 
-abbrev pub CIRCLE : ℕ
-CIRCLE = 0
+abbrev pub CLOSE : ℕ
+CLOSE = 0
 
 abbrev pub SPLIT : ℕ
 SPLIT = 8
@@ -91,7 +91,7 @@ refutes f K [] [] = true
 refutes f K [] (e ∷ es) = false
 refutes f K (E ∷ Es) [] = false
 refutes f K (E ∷ Es) (e ∷ es) =
-    elim (eqb (e .rule) CIRCLE) [
+    elim (eqb (e .rule) CLOSE) [
       | true ↦ eqb (e .from) (e .to) && chained E (e .rests) (e .from) (e .to) && refutes f K Es es
       | false ↦ elim (eqb (e .rule) SPLIT) [
         | true ↦ splits f E e && refutes f K (named E (e .from) (e .to) ∷ named E (e .to) (e .from) ∷ Es) es

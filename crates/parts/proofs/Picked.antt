@@ -21,7 +21,7 @@ use Rattle.rules.specs.Frame.{Source}
 use Rattle.rules.specs.Order.{Valid}
 use Rattle.trace.specs.Op.{address, read, written, reads}
 use Rattle.trace.specs.Trace.{at, pushed, upTo, first}
-use Rattle.trace.specs.FormFacts.{Follows, Form, Writes}
+use Rattle.trace.specs.FormFacts.{Follows, Form, WritesThere}
 use Rattle.trace.specs.WellFormed.{wellFormed}
 use Rattle.trace.specs.Meaning.{frameOf}
 use Rattle.trace.specs.declared.Op.{Op}
@@ -103,7 +103,7 @@ module _ (t : Trace) (w : So (wellFormed t)) (A : Set) where
         keeps = form .used k h .keeps;
         fresh = λ v. record {
           later = λ e. form .used k h .fresh v .later (e ∙ first-same u t (p .firsts) (address (at t k)));
-          once = λ j i x. let q : j < length l = omega (arith, p .long) in form .used k h .fresh v .once (getD l j 0) (p .below j q) (subst (λ (o : Op). Writes o (address (at t k)) (written (at t k))) (p .same j q) x);
+          once = λ j i x. let q : j < length l = omega (arith, p .long) in form .used k h .fresh v .once (getD l j 0) (p .below j q) (subst (λ (o : Op). WritesThere o (address (at t k)) (written (at t k))) (p .same j q) x);
         };
       }
 

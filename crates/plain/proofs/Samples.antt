@@ -16,11 +16,11 @@ use Rattle.rules.specs.Ready.{operations}
 use Rattle.pairs.specs.Starred.{places, traceOf}
 use Rattle.plain.specs.Plain.{waits, soFar, expected, next?, tries, plain}
 
-buffers-tso : let t = traceOf (Store 0 0 1 ∷ Load 0 1 0 ∷ Store 1 1 1 ∷ Load 1 0 0 ∷ []) in plain (frameOf t) (keptOf TSO t) (operations (frameOf t)) [] ≡ (11, some (1 ∷ 2 ∷ 3 ∷ 0 ∷ []))
+pub buffers-tso : let t = traceOf (Store 0 0 1 ∷ Load 0 1 0 ∷ Store 1 1 1 ∷ Load 1 0 0 ∷ []) in plain (frameOf t) (keptOf TSO t) (operations (frameOf t)) [] ≡ (11, some (1 ∷ 2 ∷ 3 ∷ 0 ∷ []))
 unfolding traceOf places frameOf first keptOf keptBy letOff fenced operations sum count all any plain tries next? expected soFar waits lastOf writer?
 buffers-tso = refl
 
-early-tso : let t = traceOf (Store 0 0 1 ∷ Load 0 0 1 ∷ Load 0 1 0 ∷ Store 1 1 1 ∷ Load 1 1 1 ∷ Load 1 0 0 ∷ []) in plain (frameOf t) (keptOf TSO t) (operations (frameOf t)) [] .1 ≡ some (1 ∷ 2 ∷ 3 ∷ 4 ∷ 5 ∷ 0 ∷ [])
+pub early-tso : let t = traceOf (Store 0 0 1 ∷ Load 0 0 1 ∷ Load 0 1 0 ∷ Store 1 1 1 ∷ Load 1 1 1 ∷ Load 1 0 0 ∷ []) in plain (frameOf t) (keptOf TSO t) (operations (frameOf t)) [] .1 ≡ some (1 ∷ 2 ∷ 3 ∷ 4 ∷ 5 ∷ 0 ∷ [])
 unfolding traceOf places frameOf first keptOf keptBy letOff fenced operations sum count all any plain tries next? expected soFar waits lastOf writer?
 early-tso = refl
 

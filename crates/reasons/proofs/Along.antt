@@ -12,8 +12,8 @@ use lib.ListN.{length, getD, take, drop, drop-of-length-le}
 use lib.Seq.{length-take-le}
 use Rattle.papers.specs.Paper.{BRANCH, Claim, Entry}
 use Rattle.papers.specs.inner.ReaderBranch.{branchOf}
-use Rattle.reasons.specs.inner.Telling.{edgesOf, along}
-use Rattle.reasons.specs.inner.Laid.{Done, ToldBy}
+use Rattle.reasons.specs.Telling.{edgesOf, along}
+use Rattle.reasons.specs.inner.Laid.{Done, EntriesTold}
 use Rattle.reasons.specs.declared.naming.Told.{Told}
 use Rattle.reasons.specs.declared.naming.Told.the-variants.{On, Over}
 use Rattle.reasons.proofs.Laying.{left}
@@ -21,7 +21,7 @@ use Rattle.reasons.proofs.Joining.{told-none, done-join, over-first, ov
 
 module _ (limit : ℕ) (from to out : List ℕ) (n at : ℕ) where
   pub told-join : (es fs : List Entry) (from₁ to₁ out₁ : List ℕ) (m p : ℕ) → Done limit from to out n at es from₁ to₁ out₁ m p → (from₂ to₂ out₂ : List ℕ) (r : Told)
-      → ToldBy limit from₁ to₁ out₁ m p fs from₂ to₂ out₂ r → ToldBy limit from to out n at (es ++ fs) from₂ to₂ out₂ r
+      → EntriesTold limit from₁ to₁ out₁ m p fs from₂ to₂ out₂ r → EntriesTold limit from to out n at (es ++ fs) from₂ to₂ out₂ r
   told-join es fs from₁ to₁ out₁ m p d from₂ to₂ out₂ (On k q) e = done-join limit from to out n at es fs from₁ to₁ out₁ m p d from₂ to₂ out₂ k q e
   told-join es fs from₁ to₁ out₁ m p d from₂ to₂ out₂ Over h = over-then limit from to out n at es fs from₁ to₁ out₁ m p d h
 
@@ -61,18 +61,18 @@ module _ (limit : ℕ) (from to out : List ℕ) (n at : ℕ) where
             ∙ split h;
       }
 
-      pub along-over : i < len → ToldBy limit from₁ to₁ out₁ m p (one (getD steps i 0)) from₂ to₂ out₂ Over → ToldBy limit from to out n at whole from₂ to₂ out₂ Over
+      pub along-over : i < len → EntriesTold limit from₁ to₁ out₁ m p (one (getD steps i 0)) from₂ to₂ out₂ Over → EntriesTold limit from to out n at whole from₂ to₂ out₂ Over
       along-over h e =
-          subst (λ (es : List Entry). ToldBy limit from to out n at es from₂ to₂ out₂ Over) (split h)
+          subst (λ (es : List Entry). EntriesTold limit from to out n at es from₂ to₂ out₂ Over) (split h)
           (told-join (w .told) (one (getD steps i 0) ++ more) from₁ to₁ out₁ m p (w .done) from₂ to₂ out₂ Over (over-first limit from₁ to₁ out₁ m p (one (getD steps i 0)) more e))
         where
           more : List Entry
           more = along tell (on (getD steps i 0)) (getD steps i 0) (drop (i + 1) (take len steps)) b
 
-      pub along-end : len ≤ i → (r : Told) → ToldBy limit from₁ to₁ out₁ m p (one b) from₂ to₂ out₂ r → ToldBy limit from to out n at whole from₂ to₂ out₂ r
+      pub along-end : len ≤ i → (r : Told) → EntriesTold limit from₁ to₁ out₁ m p (one b) from₂ to₂ out₂ r → EntriesTold limit from to out n at whole from₂ to₂ out₂ r
       unfolding along
       along-end h r e =
           let l : length (take len steps) ≤ i = omega (arith, length-take-le len steps fits) in
           let z : drop i (take len steps) ≡ [] = drop-of-length-le (take len steps) l in
-          subst (λ (es : List Entry). ToldBy limit from to out n at es from₂ to₂ out₂ r) (ap (λ zs. w .told ++ along tell (branchOf from₁ to₁ m) x zs b) (sym z) ∙ w .rest)
+          subst (λ (es : List Entry). EntriesTold limit from to out n at es from₂ to₂ out₂ r) (ap (λ zs. w .told ++ along tell (branchOf from₁ to₁ m) x zs b) (sym z) ∙ w .rest)
           (told-join (w .told) (one b) from₁ to₁ out₁ m p (w .done) from₂ to₂ out₂ r e)

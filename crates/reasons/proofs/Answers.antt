@@ -43,8 +43,8 @@ use Rattle.search.specs.declared.Order.{Order}
 use Rattle.papers.specs.Paper.{Claim, spell}
 use Rattle.papers.specs.inner.ReaderBranch.{branchOf}
 use Rattle.reasons.specs.Writes.{LaidInFront, ListedBy, Writes}
-use Rattle.reasons.specs.inner.Telling.{inside}
-use Rattle.reasons.specs.inner.Writing.{paperOf, paper}
+use Rattle.reasons.specs.Telling.{inside}
+use Rattle.reasons.specs.Writing.{paperOf, paper}
 use Rattle.reasons.specs.inner.Closable.{Closable}
 use Rattle.reasons.specs.inner.Laid.{PutAt}
 use Rattle.reasons.specs.inner.PutKept.{PutKept}

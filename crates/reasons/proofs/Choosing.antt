@@ -22,7 +22,7 @@ use Rattle.pairs.specs.SourceOf.{sourceOf}
 use Rattle.rules.proofs.RuleTests.{writer-iff}
 use Rattle.pairs.proofs.SourceOf.{source-of-has}
 use Rattle.papers.specs.Paper.{Claim}
-use Rattle.reasons.specs.inner.Writing.{readFrom, heldIn, open?, falls, falls₂, firstPair, orPair, choose}
+use Rattle.reasons.specs.Writing.{readFrom, heldIn, open?, falls, falls₂, firstPair, orPair, choose}
 
 -- what a search for a pair comes to
 abbrev pub Found : ℕ → Table → Option (ℕ × ℕ) → Type 0

@@ -33,8 +33,8 @@ use Rattle.edges.specs.ForcedPairs.{answered, Forces}
 use Rattle.edges.specs.declared.Forced.{Forced}
 use Rattle.edges.proofs.Supposed.{supposed-iff, supposed-joins}
 use Rattle.papers.specs.Paper.{Claim, named}
-use Rattle.reasons.specs.inner.Telling.{inside}
-use Rattle.reasons.specs.inner.Writing.{fallen, heldIn}
+use Rattle.reasons.specs.Telling.{inside}
+use Rattle.reasons.specs.Writing.{fallen, heldIn}
 use Rattle.reasons.specs.inner.Choice.{SupposedIn, HeldRows}
 use Rattle.reasons.proofs.Names.{inside-iff, named-grow, named-last, named-cases}
 use Rattle.reasons.proofs.Writing.{branch-closing}

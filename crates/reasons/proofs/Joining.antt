@@ -15,8 +15,8 @@ use lib.ListN.{length, length-append}
 use lib.Seq.{sets}
 use Rattle.papers.specs.Paper.{BRANCH, Entry, spell}
 use Rattle.papers.specs.inner.ReaderBranch.{branchOf}
-use Rattle.reasons.specs.inner.Telling.{edgesOf}
-use Rattle.reasons.specs.inner.Laid.{Done, ToldBy}
+use Rattle.reasons.specs.Telling.{edgesOf}
+use Rattle.reasons.specs.inner.Laid.{Done, EntriesTold}
 use Rattle.reasons.specs.declared.naming.Told.{Told}
 use Rattle.reasons.specs.declared.naming.Told.the-variants.{On, Over}
 use Rattle.reasons.proofs.Places.{sets-join}
@@ -32,7 +32,7 @@ pub spell-long : (es fs : List Entry) → length (spell (es ++ fs)) ≡ length (
 spell-long es fs = ap length (spell-append es fs) ∙ length-append (spell es) (spell fs)
 
 module _ (limit : ℕ) (from to out : List ℕ) (n at : ℕ) where
-  pub told-none : n ≤ BRANCH → at ≤ limit → ToldBy limit from to out n at [] from to out (On n at)
+  pub told-none : n ≤ BRANCH → at ≤ limit → EntriesTold limit from to out n at [] from to out (On n at)
   unfolding edgesOf spell
   told-none s l = record {
     counted = sym (add-zero n);
@@ -43,11 +43,11 @@ module _ (limit : ℕ) (from to out : List ℕ) (n at : ℕ) where
     laid = refl;
   }
 
-  pub told-on : (es : List Entry) (from′ to′ out′ : List ℕ) (r : Told) (m p : ℕ) → ToldBy limit from to out n at es from′ to′ out′ r → r ≡ On m p → Done limit from to out n at es from′ to′ out′ m p
-  told-on es from′ to′ out′ r m p h e = subst (ToldBy limit from to out n at es from′ to′ out′) e h
+  pub told-on : (es : List Entry) (from′ to′ out′ : List ℕ) (r : Told) (m p : ℕ) → EntriesTold limit from to out n at es from′ to′ out′ r → r ≡ On m p → Done limit from to out n at es from′ to′ out′ m p
+  told-on es from′ to′ out′ r m p h e = subst (EntriesTold limit from to out n at es from′ to′ out′) e h
 
-  pub told-over : (es : List Entry) (from′ to′ out′ : List ℕ) (r : Told) → ToldBy limit from to out n at es from′ to′ out′ r → r ≡ Over → (limit < at + length (spell es)) ⊎ (BRANCH < n + length es)
-  told-over es from′ to′ out′ r h e = subst (ToldBy limit from to out n at es from′ to′ out′) e h
+  pub told-over : (es : List Entry) (from′ to′ out′ : List ℕ) (r : Told) → EntriesTold limit from to out n at es from′ to′ out′ r → r ≡ Over → (limit < at + length (spell es)) ⊎ (BRANCH < n + length es)
+  told-over es from′ to′ out′ r h e = subst (EntriesTold limit from to out n at es from′ to′ out′) e h
 
   pub over-first : (es fs : List Entry) → (limit < at + length (spell es)) ⊎ (BRANCH < n + length es) → (limit < at + length (spell (es ++ fs))) ⊎ (BRANCH < n + length (es ++ fs))
   over-first es fs (inl h) = inl (omega (arith, h, spell-long es fs))

@@ -27,9 +27,9 @@ use Rattle.pairs.specs.SourceOf.{sourceOf}
 use Rattle.papers.specs.Paper.{BRANCH, Claim, Entry, named, spell}
 use Rattle.papers.specs.inner.ReaderBranch.{branchOf}
 use Rattle.papers.proofs.Branches.{branch-more, same-branch, set-same}
-use Rattle.reasons.specs.inner.Telling.{edgesOf, entryNumber, numbers}
-use Rattle.reasons.specs.inner.Ways.{stepOf, wayOf}
-use Rattle.reasons.specs.inner.Laid.{PutAt, Done, ToldBy}
+use Rattle.reasons.specs.Telling.{edgesOf, entryNumber, numbers}
+use Rattle.reasons.specs.Ways.{stepOf, wayOf}
+use Rattle.reasons.specs.inner.Laid.{PutAt, Done, EntriesTold}
 use Rattle.reasons.specs.declared.naming.Put.{Put}
 use Rattle.reasons.specs.declared.naming.Put.the-variants.{At, Full}
 use Rattle.reasons.specs.declared.naming.Told.the-variants.{On, Over}
@@ -162,14 +162,14 @@ module _ (rule x y k : ℕ) (rests : List ℕ) (fits : k ≤ length rests) where
   entry-laid limit out at out₁ p (a, b, s) out₂ Full h = omega (arith, a, h, spelt-long, length-take-le k rests fits)
 
   module _ (limit : ℕ) (from to out : List ℕ) (n at : ℕ) where
-    pub name-over : (from′ to′ out′ : List ℕ) → BRANCH ≤ n → ToldBy limit from to out n at (one ∷ []) from′ to′ out′ Over
+    pub name-over : (from′ to′ out′ : List ℕ) → BRANCH ≤ n → EntriesTold limit from to out n at (one ∷ []) from′ to′ out′ Over
     name-over from′ to′ out′ h = inr (let q : BRANCH < n + 1 = omega arith in q)
 
-    pub name-full : (from′ to′ out′ out″ : List ℕ) → PutAt limit out at (spell (one ∷ [])) out″ Full → ToldBy limit from to out n at (one ∷ []) from′ to′ out′ Over
+    pub name-full : (from′ to′ out′ out″ : List ℕ) → PutAt limit out at (spell (one ∷ [])) out″ Full → EntriesTold limit from to out n at (one ∷ []) from′ to′ out′ Over
     name-full from′ to′ out′ out″ h = inl h
 
     pub name-done : (out′ : List ℕ) (p : ℕ) → PutAt limit out at (spell (one ∷ [])) out′ (At p) → n < BRANCH → length from ≡ BRANCH → length to ≡ BRANCH
-        → ToldBy limit from to out n at (one ∷ []) (set from n x) (set to n y) out′ (On (n + 1) p)
+        → EntriesTold limit from to out n at (one ∷ []) (set from n x) (set to n y) out′ (On (n + 1) p)
     unfolding edgesOf
     name-done out′ p (a, b, s) h lf lt = record {
       counted = refl;

@@ -29,8 +29,8 @@ use Rattle.rows.specs.Rows.{Edges}
 use Rattle.rules.specs.Frame.{Frame, Good}
 use Rattle.rules.specs.Rules.{Joins, InRecords, Chains, Edge as Forced}
 use Rattle.rules.specs.Circle.{Run, Shown}
-use Rattle.rules.specs.inner.ComputedRounds.{chains?, edge?}
-use Rattle.rules.specs.inner.ComputedWalks.{shown?}
+use Rattle.rules.specs.ComputedRounds.{chains?, edge?}
+use Rattle.rules.specs.ComputedWalks.{shown?}
 use Rattle.rules.proofs.Ends.{joins-within, step-within, chains-within}
 use Rattle.rules.proofs.RuleTests.{chains-iff, edge-iff}
 use Rattle.rules.proofs.Circle.{shown-one}
@@ -50,9 +50,9 @@ use Rattle.papers.specs.Paper.{BRANCH, Claim, Entry, edgeAt, spell}
 use Rattle.papers.specs.inner.ReaderBranch.{branchOf}
 use Rattle.papers.proofs.Branches.{branch-long, branch-at}
 use Rattle.reasons.specs.inner.Fair.{Named, Fair}
-use Rattle.reasons.specs.inner.Telling.{edgesOf, inside, numbers, along, tell}
-use Rattle.reasons.specs.inner.Writing.{circleEntry, fallen, circleRound, closing, leafOf}
-use Rattle.reasons.specs.inner.Laid.{PutAt, Done, ToldBy}
+use Rattle.reasons.specs.Telling.{edgesOf, inside, numbers, along, tell}
+use Rattle.reasons.specs.Writing.{circleEntry, fallen, circleRound, closing, leafOf}
+use Rattle.reasons.specs.inner.Laid.{PutAt, Done, EntriesTold}
 use Rattle.reasons.specs.inner.PutKept.{PutKept}
 use Rattle.reasons.specs.declared.naming.Put.{Put}
 use Rattle.reasons.specs.declared.naming.Put.the-variants.{At, Full}
@@ -175,10 +175,10 @@ module _ (f : Frame) (K P : Table) (k limit : ℕ) (from to out : List ℕ) (n a
   rests = numbers (E ++ edgesOf (circling (inside E))) s zs s
 
   -- by the pairs that the branch names
-  by-branch : (from₁ to₁ out₁ : List ℕ) (r : Told) → ToldBy limit from to out n at (circling P) from₁ to₁ out₁ r → ToldBy limit from to out n at (circling (inside E)) from₁ to₁ out₁ r
-  by-branch from₁ to₁ out₁ r = subst (λ (P : Table). ToldBy limit from to out n at (circling P) from₁ to₁ out₁ r) q
+  by-branch : (from₁ to₁ out₁ : List ℕ) (r : Told) → EntriesTold limit from to out n at (circling P) from₁ to₁ out₁ r → EntriesTold limit from to out n at (circling (inside E)) from₁ to₁ out₁ r
+  by-branch from₁ to₁ out₁ r = subst (λ (P : Table). EntriesTold limit from to out n at (circling P) from₁ to₁ out₁ r) q
 
-  pub closed-full : (from₁ to₁ out₁ : List ℕ) (r : Told) → ToldBy limit from to out n at (circling P) from₁ to₁ out₁ r → r ≡ Over → n + length (circling (inside E)) ≤ BRANCH
+  pub closed-full : (from₁ to₁ out₁ : List ℕ) (r : Told) → EntriesTold limit from to out n at (circling P) from₁ to₁ out₁ r → r ≡ Over → n + length (circling (inside E)) ≤ BRANCH
       → limit < at + length (spell (closing f K k E s zs))
   unfolding closing
   closed-full from₁ to₁ out₁ r d o l = elim (told-over limit from to out n at (circling (inside E)) from₁ to₁ out₁ r (by-branch from₁ to₁ out₁ r d) o) [
@@ -186,7 +186,7 @@ module _ (f : Frame) (K P : Table) (k limit : ℕ) (from to out : List ℕ) (n a
     | inr h ↦ absurd (omega arith)
   ]
 
-  module _ (from₁ to₁ out₁ : List ℕ) (r : Told) (m p : ℕ) (told : ToldBy limit from to out n at (circling P) from₁ to₁ out₁ r) (o : r ≡ On m p) where
+  module _ (from₁ to₁ out₁ : List ℕ) (r : Told) (m p : ℕ) (told : EntriesTold limit from to out n at (circling P) from₁ to₁ out₁ r) (o : r ≡ On m p) where
     pub closed-told : Done limit from to out n at (circling (inside E)) from₁ to₁ out₁ m p
     closed-told = told-on limit from to out n at (circling (inside E)) from₁ to₁ out₁ r m p (by-branch from₁ to₁ out₁ r told) o
 

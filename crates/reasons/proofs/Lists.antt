@@ -47,8 +47,8 @@ use Rattle.edges.proofs.Supposed.{supposed-iff}
 use Rattle.papers.specs.Paper.{BRANCH, Claim, Entry, named, branchRoom, spell}
 use Rattle.papers.specs.inner.ReaderBranch.{branchOf}
 use Rattle.papers.proofs.Branches.{branch-long, branch-more}
-use Rattle.reasons.specs.inner.Telling.{inside}
-use Rattle.reasons.specs.inner.Writing.{splitEntry, fallen, choose, leafOf, paperOf}
+use Rattle.reasons.specs.Telling.{inside}
+use Rattle.reasons.specs.Writing.{splitEntry, fallen, choose, leafOf, paperOf}
 use Rattle.reasons.specs.inner.Fair.{Fair}
 use Rattle.reasons.specs.inner.Closable.{Closable, closes, parts}
 use Rattle.reasons.specs.inner.Choice.{ReadRow, SupposedIn, NamedRows, Known, ChosenPair, NextIn}

@@ -17,7 +17,7 @@ use lib.ListN.{length, getD, length-append, List·getD-append}
 use Rattle.laws.proofs.Tests.{and-iff, any-iff, so-eq, so-lt}
 use Rattle.papers.specs.Paper.{Claim, edgeAt, named, leads, arrives, chained}
 use Rattle.reasons.specs.inner.Fair.{Named}
-use Rattle.reasons.specs.inner.Telling.{inside}
+use Rattle.reasons.specs.Telling.{inside}
 
 pub inside-iff : (E : List Claim) (x y : ℕ) → So (inside E x y) ↔ Named E x y
 unfolding inside

@@ -23,7 +23,7 @@ use Rattle.rows.proofs.Pair.{put-right}
 use Rattle.rows.proofs.Sets.{put-more}
 use Rattle.rows.proofs.Whole.{empty-bit}
 use Rattle.pairs.specs.SourceOf.{sourceOf}
-use Rattle.reasons.specs.inner.Writing.{readFrom}
+use Rattle.reasons.specs.Writing.{readFrom}
 use Rattle.reasons.specs.inner.Choice.{ReadRow}
 
 module _ (f : Frame) where

@@ -25,7 +25,7 @@ use Rattle.pairs.specs.SourceOf.{sourceOf}
 use Rattle.papers.specs.Paper.{edgeAt}
 use Rattle.papers.specs.inner.ReaderBranch.{branchOf}
 use Rattle.papers.proofs.Branches.{branch-long, branch-at}
-use Rattle.reasons.specs.inner.Telling.{entryPlace, entryNumber, restLoad}
+use Rattle.reasons.specs.Telling.{entryPlace, entryNumber, restLoad}
 
 module _ (from to : List ℕ) (n x y : ℕ) where
   abbrev pub Here : ℕ → Bool

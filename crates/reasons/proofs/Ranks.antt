@@ -33,7 +33,7 @@ use Rattle.rules.specs.Frame.{Frame}
 use Rattle.rules.specs.RuleTests.{writer?}
 use Rattle.rules.proofs.RuleTests.{writer-iff}
 use Rattle.papers.specs.Paper.{Claim, named}
-use Rattle.reasons.specs.inner.Writing.{fallen, open?, falls, falls₂, firstPair, orPair, choose}
+use Rattle.reasons.specs.Writing.{fallen, open?, falls, falls₂, firstPair, orPair, choose}
 use Rattle.reasons.specs.inner.Choice.{BOTH, oneMore, rankOf, Known, Higher, PairBefore, FirstOf, Best, ChosenPair}
 use Rattle.reasons.specs.declared.choice.Choice.{Choice}
 use Rattle.reasons.proofs.Choosing.{Open, open-iff}

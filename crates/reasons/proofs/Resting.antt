@@ -25,7 +25,7 @@ use Rattle.laws.proofs.Lowest.{lowest-iff}
 use Rattle.trace.specs.Bounds.{RECORDS}
 use Rattle.rules.specs.Frame.{Frame, Good}
 use Rattle.rules.specs.Rules.{Chains, Edge as Forced, InRecords, nothing}
-use Rattle.rules.specs.inner.ComputedRounds.{chains?, edge?}
+use Rattle.rules.specs.ComputedRounds.{chains?, edge?}
 use Rattle.rules.specs.ShownCircle.{rule?}
 use Rattle.rules.specs.RuleTests.{source?}
 use Rattle.rules.proofs.RuleTests.{chains-iff, edge-iff}
@@ -37,10 +37,10 @@ use Rattle.pairs.specs.SourceOf.{sourceOf}
 use Rattle.edges.specs.RoundBefore.{PriorTo}
 use Rattle.papers.specs.Paper.{Claim, Entry, edgeAt}
 use Rattle.papers.specs.inner.ReaderBranch.{branchOf}
-use Rattle.reasons.specs.inner.Telling.{edgesOf, inside, entryPlace, numbers, along, ruleBy, restLoad, bareEntry, restsFrom, restsTo, wayAt, resting, tell}
-use Rattle.reasons.specs.inner.Ways.{wayOf}
+use Rattle.reasons.specs.Telling.{edgesOf, inside, entryPlace, numbers, along, ruleBy, restLoad, bareEntry, restsFrom, restsTo, wayAt, resting, tell}
+use Rattle.reasons.specs.Ways.{wayOf}
 use Rattle.reasons.specs.inner.Rests.{restingOn, RestsOn}
-use Rattle.reasons.specs.inner.Laid.{Done, ToldBy}
+use Rattle.reasons.specs.inner.Laid.{Done, EntriesTold}
 use Rattle.reasons.specs.declared.story.Rest.{Rest}
 use Rattle.reasons.specs.declared.naming.Told.{Told}
 use Rattle.reasons.specs.declared.naming.Told.the-variants.{Over}
@@ -233,9 +233,9 @@ module _ (f : Frame) (K P : Table) (k x y : ℕ) (steps : List ℕ) (r : Rest) w
 
   -- the edge is told in the branch of the arrays, which does not name it
   module _ (rest : RestsOn f K P k x y steps r) (limit : ℕ) (from to out : List ℕ) (n at : ℕ) (new : inside (branchOf from to n) x y ≡ false) (from′ to′ out′ : List ℕ) (a : Told) where
-    pub told-alone : So (r .bare) → ToldBy limit from to out n at (record { rule = r .rule; from = x; to = y; rests = [] } ∷ []) from′ to′ out′ a
-        → ToldBy limit from to out n at (tell f K P k (branchOf from to n) x y) from′ to′ out′ a
-    told-alone s h = subst (λ (es : List Entry). ToldBy limit from to out n at es from′ to′ out′ a) (sym (rest .alone s (branchOf from to n) new)) h
+    pub told-alone : So (r .bare) → EntriesTold limit from to out n at (record { rule = r .rule; from = x; to = y; rests = [] } ∷ []) from′ to′ out′ a
+        → EntriesTold limit from to out n at (tell f K P k (branchOf from to n) x y) from′ to′ out′ a
+    told-alone s h = subst (λ (es : List Entry). EntriesTold limit from to out n at es from′ to′ out′ a) (sym (rest .alone s (branchOf from to n) new)) h
 
     module _ (s : r .bare ≡ false) where
       abbrev whole : List Entry
@@ -244,14 +244,14 @@ module _ (f : Frame) (K P : Table) (k x y : ℕ) (steps : List ℕ) (r : Rest) w
       abbrev entryBy : List Claim → Entry
       entryBy B = record { rule = r .rule; from = x; to = y; rests = numbers B (r .from) (take (r .len) steps) (r .to) }
 
-      pub told-short : ToldBy limit from to out n at whole from′ to′ out′ Over → ToldBy limit from to out n at (tell f K P k (branchOf from to n) x y) from′ to′ out′ Over
+      pub told-short : EntriesTold limit from to out n at whole from′ to′ out′ Over → EntriesTold limit from to out n at (tell f K P k (branchOf from to n) x y) from′ to′ out′ Over
       told-short h =
-          subst (λ (es : List Entry). ToldBy limit from to out n at es from′ to′ out′ Over) (sym (rest .rests s (branchOf from to n) new))
+          subst (λ (es : List Entry). EntriesTold limit from to out n at es from′ to′ out′ Over) (sym (rest .rests s (branchOf from to n) new))
           (over-first limit from to out n at whole (entryBy (branchOf from to n ++ edgesOf whole) ∷ []) h)
 
       pub told-resting : (from₁ to₁ out₁ : List ℕ) (m p : ℕ) → Done limit from to out n at whole from₁ to₁ out₁ m p
-          → ToldBy limit from₁ to₁ out₁ m p (entryBy (branchOf from₁ to₁ m) ∷ []) from′ to′ out′ a → ToldBy limit from to out n at (tell f K P k (branchOf from to n) x y) from′ to′ out′ a
+          → EntriesTold limit from₁ to₁ out₁ m p (entryBy (branchOf from₁ to₁ m) ∷ []) from′ to′ out′ a → EntriesTold limit from to out n at (tell f K P k (branchOf from to n) x y) from′ to′ out′ a
       told-resting from₁ to₁ out₁ m p d h =
-          subst (λ (es : List Entry). ToldBy limit from to out n at es from′ to′ out′ a) (sym (rest .rests s (branchOf from to n) new))
+          subst (λ (es : List Entry). EntriesTold limit from to out n at es from′ to′ out′ a) (sym (rest .rests s (branchOf from to n) new))
           (told-join limit from to out n at whole (entryBy (branchOf from to n ++ edgesOf whole) ∷ []) from₁ to₁ out₁ m p d from′ to′ out′ a
-          (subst (λ (B : List Claim). ToldBy limit from₁ to₁ out₁ m p (entryBy B ∷ []) from′ to′ out′ a) (d .branch) h))
+          (subst (λ (B : List Claim). EntriesTold limit from₁ to₁ out₁ m p (entryBy B ∷ []) from′ to′ out′ a) (d .branch) h))

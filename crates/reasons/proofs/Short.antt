@@ -17,7 +17,7 @@ use Rattle.laws.proofs.Tests.{so-lt}
 use Rattle.trace.specs.Bounds.{RECORDS}
 use Rattle.papers.specs.Paper.{BRANCH, Claim, named, branchRoom}
 use Rattle.reasons.specs.inner.Fair.{Named, Distinct, none-yet, further, Fair}
-use Rattle.reasons.specs.inner.Telling.{inside}
+use Rattle.reasons.specs.Telling.{inside}
 use Rattle.reasons.proofs.Names.{inside-iff, named-grow, named-last, named-cases}
 
 module _ (n : ℕ) where

@@ -24,16 +24,16 @@ use Rattle.rules.specs.Frame.{Frame, Good, Source, Writer}
 use Rattle.rules.specs.Rules.{Gives, rule1, rule2, rule3, rule4, rule5, rule6, rule7, rule8, Chains, Edge as Forced, InRecords, nothing}
 use Rattle.rules.specs.Circle.{Run}
 use Rattle.rules.specs.RuleTests.{gives?}
-use Rattle.rules.specs.inner.ComputedRounds.{chains?, edge?}
+use Rattle.rules.specs.ComputedRounds.{chains?, edge?}
 use Rattle.rules.specs.ShownCircle.{rule?}
 use Rattle.pairs.specs.SourceOf.{sourceOf}
 use Rattle.rules.proofs.RuleTests.{gives-iff, gives-small, chains-iff, edge-iff}
 use Rattle.pairs.proofs.SourceOf.{source-of-is, source-of-has}
 use Rattle.rules.proofs.Rounds.{edge-grow}
 use Rattle.rules.proofs.Ends.{step-within, chains-within}
-use Rattle.papers.specs.Paper.{CIRCLE, SPLIT, CHAINED, Claim, Entry, edgeAt, named, chained, branchRoom, mayRest, fits, refutes}
+use Rattle.papers.specs.Paper.{CLOSE, SPLIT, CHAINED, Claim, Entry, edgeAt, named, chained, branchRoom, mayRest, fits, refutes}
 use Rattle.reasons.specs.inner.Fair.{Named, Distinct, further, Fair}
-use Rattle.reasons.specs.inner.Telling.{edgesOf, inside, entryPlace, entryNumber, numbers, along, ruleBy, restLoad, bareEntry, restsFrom, restsTo, wayAt, resting, tell}
+use Rattle.reasons.specs.Telling.{edgesOf, inside, entryPlace, entryNumber, numbers, along, ruleBy, restLoad, bareEntry, restsFrom, restsTo, wayAt, resting, tell}
 use Rattle.reasons.proofs.Names.{inside-iff, named-grow, named-last, named-cases, chained-one, chained-more}
 use Rattle.reasons.proofs.Short.{roomy-new}
 use Rattle.reasons.proofs.Written.{Runs, runs-edge}
@@ -98,7 +98,7 @@ module _ (f : Frame) (K : Table) (D : Rel) where
         told = subst Q e q;
       }
 
-  one-said : (E : List Claim) (e : Entry) → Distinct E → e .rule ≢ CIRCLE → e .rule ≢ SPLIT → So (fits f K E e) → (Named E (e .from) (e .to) → ⊥) → D (e .from) (e .to)
+  one-said : (E : List Claim) (e : Entry) → Distinct E → e .rule ≢ CLOSE → e .rule ≢ SPLIT → So (fits f K E e) → (Named E (e .from) (e .to) → ⊥) → D (e .from) (e .to)
       → Says f K D E (e ∷ []) (λ B. Named B (e .from) (e .to))
   unfolding edgesOf
   one-said E e u n₀ n₈ t n d = record {
@@ -146,7 +146,7 @@ wider f K D D′ h E es Q s = record { runs = s .runs; once = s .once; only = λ
 -- rules 1 to 5 look at no chains; an edge by rule 6 or 7 rests on one chain
 module _ (f : Frame) (K P : Table) (C : Rel) (x y : ℕ) where
   data Kind : ℕ → Type 1 where
-    plain : {r : ℕ} → r ≢ CIRCLE → r ≢ SPLIT → ((D : Rel) (Q : Table) → Gives f K Q D x y r) → Kind r
+    plain : {r : ℕ} → r ≢ CLOSE → r ≢ SPLIT → ((D : Rel) (Q : Table) → Gives f K Q D x y r) → Kind r
     given : So (P x y) → Kind 8
     load : (L : ℕ) → Source f y L → Writer f x L → x ≢ y → C x L → Kind 6
     source : (S : ℕ) → Source f S x → Writer f y x → y ≢ S → C S y → Kind 7

@@ -31,7 +31,7 @@ use Rattle.rules.specs.Missing.{Sourced}
 use Rattle.papers.specs.Paper.{spell, accepted}
 use Rattle.papers.specs.Accepts.{Paper}
 use Rattle.reasons.specs.Writes.{LaidInFront, ListedBy, Writes}
-use Rattle.reasons.specs.inner.Writing.{paper}
+use Rattle.reasons.specs.Writing.{paper}
 use Rattle.reasons.specs.declared.listing.Listed.{Listed}
 use Rattle.reasons.specs.declared.listing.Listed.the-variants.{NoModel, NotWellFormed, Nothing, TooLong, Shown}
 use Rattle.reasons.proofs.Writing.{paper-right}

@@ -18,7 +18,7 @@ use Rattle.laws.proofs.Tests.{and-iff}
 use Rattle.laws.proofs.Latest.{latest-of}
 use Rattle.trace.specs.Bounds.{RECORDS}
 use Rattle.rules.specs.Circle.{Run}
-use Rattle.reasons.specs.inner.Ways.{stepOf, wayOf}
+use Rattle.reasons.specs.Ways.{stepOf, wayOf}
 
 module _ (E : Rel) (rows : (x y : ℕ) → E x y → (x < RECORDS) × (y < RECORDS)) (e c : Table) (q : (x y : ℕ) → So (e x y) ↔ E x y) (r : (x y : ℕ) → So (c x y) ↔ Chain E x y)
     (clear : (x : ℕ) → Chain E x x → ⊥) where

@@ -34,8 +34,8 @@ use Rattle.rules.specs.Circle.{Shown}
 use Rattle.rules.proofs.ClearOrders.{SettlesLoads}
 use Rattle.rules.specs.Missing.{Sourced}
 use Rattle.rules.specs.Closing.{Closing}
-use Rattle.rules.specs.inner.ComputedRounds.{chains?, edge?}
-use Rattle.rules.specs.inner.ComputedWalks.{shown?}
+use Rattle.rules.specs.ComputedRounds.{chains?, edge?}
+use Rattle.rules.specs.ComputedWalks.{shown?}
 use Rattle.rules.proofs.Rounds.{more-pairs, held-closed}
 use Rattle.rules.proofs.Ends.{joins-within, step-within, chains-within}
 use Rattle.rules.proofs.RuleTests.{chains-iff, edge-iff}
@@ -46,9 +46,9 @@ use Rattle.rules.proofs.Sorted.{held-valid, held-step}
 use Rattle.papers.specs.Paper.{Claim, Entry, named, branchRoom, accepted}
 use Rattle.papers.proofs.Sound.{accepted-sound}
 use Rattle.reasons.specs.inner.Fair.{Named, none-yet, Fair}
-use Rattle.reasons.specs.inner.Telling.{edgesOf, inside, numbers, along, tell}
+use Rattle.reasons.specs.Telling.{edgesOf, inside, numbers, along, tell}
 use Rattle.reasons.specs.inner.Closable.{Closable, closes, parts}
-use Rattle.reasons.specs.inner.Writing.{splitEntry, fallen, heldIn, open?, choose, circleRound, closing, leafOf, paperOf, paper}
+use Rattle.reasons.specs.Writing.{splitEntry, fallen, heldIn, open?, choose, circleRound, closing, leafOf, paperOf, paper}
 use Rattle.reasons.proofs.Names.{inside-iff, named-grow, named-last, named-cases}
 use Rattle.reasons.proofs.Short.{fair-one, roomy-new}
 use Rattle.reasons.proofs.Written.{Written, circle, split, written-accepted}

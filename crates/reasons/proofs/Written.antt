@@ -15,10 +15,10 @@ use Rattle.laws.specs.Relation.{Table}
 use Rattle.laws.proofs.Tests.{and-iff, not-iff, same-iff, so-eq}
 use Rattle.rules.specs.Frame.{Frame}
 use Rattle.rules.specs.Rules.{Held, Contradicted}
-use Rattle.papers.specs.Paper.{CIRCLE, SPLIT, Claim, Entry, named, chained, branchRoom, splits, fits, refutes, accepted}
+use Rattle.papers.specs.Paper.{CLOSE, SPLIT, Claim, Entry, named, chained, branchRoom, splits, fits, refutes, accepted}
 use Rattle.reasons.specs.inner.Fair.{Distinct}
-use Rattle.reasons.specs.inner.Telling.{inside}
-use Rattle.reasons.specs.inner.Writing.{circleEntry, splitEntry}
+use Rattle.reasons.specs.Telling.{inside}
+use Rattle.reasons.specs.Writing.{circleEntry, splitEntry}
 
 abbrev pub Runs : Frame → Table → List Claim → List Entry → List Claim → Type 0
 Runs f K E es E′ = (Es : List (List Claim)) (rest : List Entry) → So (refutes f K (E′ ∷ Es) rest) → So (refutes f K (E ∷ Es) (es ++ rest))
@@ -30,11 +30,11 @@ pub data Written (f : Frame) (K : Table) : List Claim → List Entry → Type 0 
       → Written f K (named E x y) es → Written f K (named E y x) fs → Written f K E (splitEntry x y ∷ es ++ fs)
 
 module _ (f : Frame) (K : Table) where
-  pub runs-edge : (E : List Claim) (e : Entry) → e .rule ≢ CIRCLE → e .rule ≢ SPLIT → So (fits f K E e) → Runs f K E (e ∷ []) (named E (e .from) (e .to))
+  pub runs-edge : (E : List Claim) (e : Entry) → e .rule ≢ CLOSE → e .rule ≢ SPLIT → So (fits f K E e) → Runs f K E (e ∷ []) (named E (e .from) (e .to))
   unfolding refutes
-  runs-edge E e n₀ n₈ t Es rest s = go (eqb (e .rule) CIRCLE) (eqb (e .rule) SPLIT) refl refl
+  runs-edge E e n₀ n₈ t Es rest s = go (eqb (e .rule) CLOSE) (eqb (e .rule) SPLIT) refl refl
     where
-      go : (b c : Bool) → eqb (e .rule) CIRCLE ≡ b → eqb (e .rule) SPLIT ≡ c → So (elim b [
+      go : (b c : Bool) → eqb (e .rule) CLOSE ≡ b → eqb (e .rule) SPLIT ≡ c → So (elim b [
         | true ↦ eqb (e .from) (e .to) && chained E (e .rests) (e .from) (e .to) && refutes f K Es rest
         | false ↦ elim c [
           | true ↦ splits f E e && refutes f K (named E (e .from) (e .to) ∷ named E (e .to) (e .from) ∷ Es) rest

@@ -17,7 +17,7 @@ use Rattle.pairs.specs.Kept.{modelled, keptOf}
 use Rattle.rules.specs.Frame.{Frame}
 use Rattle.rules.specs.Verdict.{Verdict, noSource, circle, order, noneLeft, Says}
 use Rattle.papers.specs.Paper.{spell}
-use Rattle.reasons.specs.inner.Writing.{paper}
+use Rattle.reasons.specs.Writing.{paper}
 use Rattle.reasons.specs.declared.listing.Listed.{Listed}
 use Rattle.reasons.specs.declared.listing.Listed.the-variants.{NoModel, NotWellFormed, Nothing, TooLong, Shown}
 

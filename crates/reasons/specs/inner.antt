@@ -5,6 +5,3 @@ pub mod Fair
 pub mod Laid
 pub mod PutKept
 pub mod Rests
-pub mod Telling
-pub mod Ways
-pub mod Writing

@@ -21,7 +21,7 @@ use Rattle.laws.proofs.Lowest.{test-one}
 use Rattle.rules.specs.Frame.{Frame, Good}
 use Rattle.rules.specs.Order.{Keeps, Valid}
 use Rattle.rules.specs.Rules.{Gives, Chains, Edge, Last, Held, Contradicted, InRecords}
-use Rattle.rules.specs.inner.ComputedRounds.{chains?}
+use Rattle.rules.specs.ComputedRounds.{chains?}
 use Rattle.rules.specs.Closing.{Closing}
 use Rattle.rules.proofs.Rounds.{chains-later, last-held, edge-next}
 use Rattle.rules.proofs.Ends.{step-within, chains-within}

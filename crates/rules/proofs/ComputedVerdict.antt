@@ -21,7 +21,7 @@ use Rattle.laws.specs.Lowest.{lowest}
 use Rattle.rules.specs.Frame.{Frame}
 use Rattle.rules.specs.Rules.{nothing}
 use Rattle.rules.specs.RuleTests.{writer?, source?}
-use Rattle.rules.specs.inner.ComputedRounds.{chains?}
+use Rattle.rules.specs.ComputedRounds.{chains?}
 use Rattle.rules.specs.Missing.{missing?}
 use Rattle.rules.specs.inner.ComputedCircle.{circled?}
 use Rattle.rules.specs.Verdict.{Verdict, noSource, circle, order, noneLeft}

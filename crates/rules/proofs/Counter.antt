@@ -19,7 +19,7 @@ use Rattle.rules.specs.Missing.{Sourced}
 use Rattle.rules.proofs.ClearOrders.{Total}
 use Rattle.rules.proofs.Rounds.{held-least}
 
-abbrev fences : Frame
+abbrev pub fences : Frame
 fences = record {
   records = 2;
   operation = λ x. false;
@@ -32,8 +32,8 @@ fences = record {
   earlier = λ x y. false;
 }
 
-abbrev kept : Table
-kept x y = eqb x 0 && eqb y 1
+abbrev pub fencesKept : Table
+fencesKept x y = eqb x 0 && eqb y 1
 
 fences-good : Good fences
 fences-good = record {
@@ -44,14 +44,14 @@ fences-good = record {
   once = λ x y t. absurd (false≢true t);
 }
 
-fences-held : Held fences kept nothing ⊆ (λ x y. (x ≡ 0) × (y ≡ 1))
+fences-held : Held fences fencesKept nothing ⊆ (λ x y. (x ≡ 0) × (y ≡ 1))
 unfolding Transitive
-fences-held = held-least fences kept nothing (λ x y. (x ≡ 0) × (y ≡ 1)) (λ x y z a b. (a .0, b .1)) closed
+fences-held = held-least fences fencesKept nothing (λ x y. (x ≡ 0) × (y ≡ 1)) (λ x y z a b. (a .0, b .1)) closed
   where
-    closed : Step fences kept nothing (λ x y. (x ≡ 0) × (y ≡ 1)) ⊆ (λ x y. (x ≡ 0) × (y ≡ 1))
+    closed : Step fences fencesKept nothing (λ x y. (x ≡ 0) × (y ≡ 1)) ⊆ (λ x y. (x ≡ 0) × (y ≡ 1))
     closed x y s = go (s .1)
       where
-        go : {r : ℕ} → Gives fences kept nothing (λ x y. (x ≡ 0) × (y ≡ 1)) x y r → (x ≡ 0) × (y ≡ 1)
+        go : {r : ℕ} → Gives fences fencesKept nothing (λ x y. (x ≡ 0) × (y ≡ 1)) x y r → (x ≡ 0) × (y ≡ 1)
         go (rule1 k) = and-iff so-eq so-eq .0 k
         go (rule2 s n) = absurd (false≢true (s .reads))
         go (rule3 L s w d o) = absurd (false≢true (w .writes))
@@ -61,8 +61,8 @@ fences-held = held-least fences kept nothing (λ x y. (x ≡ 0) × (y ≡ 1)) (�
         go (rule7 S s w d h) = absurd (false≢true (w .writes))
         go (rule8 k) = absurd (false≢true k)
 
-pub counter : Good fences × (Contradicted fences kept nothing → ⊥) × Sourced fences × Total fences (Held fences kept nothing) × Once fences []
-    × ((xs : List ℕ) → Valid fences kept xs → ⊥)
+pub counter : Good fences × (Contradicted fences fencesKept nothing → ⊥) × Sourced fences × Total fences (Held fences fencesKept nothing) × Once fences []
+    × ((xs : List ℕ) → Valid fences fencesKept xs → ⊥)
 unfolding count
 counter = (
   fences-good,

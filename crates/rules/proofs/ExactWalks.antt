@@ -23,7 +23,7 @@ use Rattle.laws.proofs.Tests.{and-iff, any-iff, so-eq, eq?}
 use Rattle.laws.proofs.Warshall.{memo-iff}
 use Rattle.rules.specs.Circle.{Run, Circle, Shown}
 use Rattle.rules.specs.inner.ExactWalks.{Walk, NoShorter}
-use Rattle.rules.specs.inner.ComputedWalks.{walk?}
+use Rattle.rules.specs.ComputedWalks.{walk?}
 use Rattle.rules.proofs.Circle.{circle-shorten, circle-iff}
 
 module _ (E : Rel) where

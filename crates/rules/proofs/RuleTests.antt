@@ -19,7 +19,7 @@ use Rattle.laws.proofs.Warshall.{chains-iff as warshall}
 use Rattle.rules.specs.Frame.{Frame, Good, Writer, Source, First}
 use Rattle.rules.specs.Rules.{Gives, rule1, rule2, rule3, rule4, rule5, rule6, rule7, rule8, Step, Chains, Edge, Last, InRecords}
 use Rattle.rules.specs.RuleTests.{writer?, source?, first?, rules, gives?}
-use Rattle.rules.specs.inner.ComputedRounds.{step?, chains?, edge?}
+use Rattle.rules.specs.ComputedRounds.{step?, chains?, edge?}
 use Rattle.rules.proofs.Rounds.{edge-grow}
 use Rattle.rules.proofs.Ends.{step-within}
 

@@ -21,7 +21,7 @@ use Rattle.laws.proofs.Tests.{and-iff, so-any, three, eq?}
 use Rattle.laws.proofs.Lowest.{lowest-iff}
 use Rattle.rules.specs.Circle.{Run, Circle, _⊑_, Shown}
 use Rattle.rules.specs.inner.ExactWalks.{Walk, NoShorter, Way, Traced}
-use Rattle.rules.specs.inner.ComputedWalks.{walk?, follow, shown?}
+use Rattle.rules.specs.ComputedWalks.{walk?, follow, shown?}
 use Rattle.rules.proofs.ExactWalks.{run-walk, walk-within, walk-iff, no-shorter-none}
 
 module _ (E : Rel) where

@@ -18,7 +18,7 @@ use lib.ListN.{length, getD}
 use lib.Seq.{ext-getD}
 use Rattle.laws.specs.Tests.{_⇒_, all, any}
 use Rattle.laws.specs.Relation.{Table}
-use Rattle.laws.specs.inner.Warshall.{memo, chains}
+use Rattle.laws.specs.Warshall.{memo, chains}
 use Rattle.laws.specs.Lowest.{Lowest, lowest}
 use Rattle.laws.proofs.Tests.{all-iff, any-iff, imp-iff, three, last?}
 use Rattle.laws.proofs.Relation.{chain-mono}
@@ -27,9 +27,9 @@ use Rattle.laws.proofs.Lowest.{lowest-one, lowest-iff}
 use Rattle.rules.specs.Frame.{Frame, Good}
 use Rattle.rules.specs.Rules.{Gives, Chains, Edge, Last, Contradicted, nothing, InRecords}
 use Rattle.rules.specs.RuleTests.{gives?}
-use Rattle.rules.specs.inner.ComputedRounds.{step?}
+use Rattle.rules.specs.ComputedRounds.{step?}
 use Rattle.rules.specs.Circle.{Circle, Shown, after}
-use Rattle.rules.specs.inner.ComputedWalks.{shown?}
+use Rattle.rules.specs.ComputedWalks.{shown?}
 use Rattle.rules.specs.ShownCircle.{LowestRule, Ruled, ShownCircle, Circled, rule?}
 use Rattle.rules.specs.inner.ComputedCircle.{rulesOf, rounds, circled?}
 use Rattle.rules.proofs.Rounds.{edge-later}

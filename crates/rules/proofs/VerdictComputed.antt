@@ -27,7 +27,7 @@ use Rattle.rules.specs.Frame.{Frame, Good, Writer, Source}
 use Rattle.rules.specs.Order.{Valid}
 use Rattle.rules.specs.Rules.{Chains, nothing, InRecords, Joins}
 use Rattle.rules.specs.RuleTests.{source?}
-use Rattle.rules.specs.inner.ComputedRounds.{chains?}
+use Rattle.rules.specs.ComputedRounds.{chains?}
 use Rattle.rules.specs.Missing.{Missing, Sourced, missing?}
 use Rattle.rules.specs.ShownCircle.{Circled}
 use Rattle.rules.specs.inner.ComputedCircle.{circled?}

@@ -1,7 +1,5 @@
 -- What only contracts of private functions cite.
 pub mod ExactWalks
-pub mod ComputedRounds
-pub mod ComputedWalks
 pub mod ComputedCircle
 pub mod Discipline
 pub mod EarlyStop

@@ -33,7 +33,7 @@ use Rattle.rules.specs.inner.EarlyStop.{Stop, unread, covered}
 use Rattle.search.specs.inner.Rest.{Rest}
 use Rattle.search.specs.inner.SearchTables.{Tables, Led, Laid}
 use Rattle.rows.specs.inner.Sets.{Holds}
-use Rattle.search.specs.inner.Candidates.{Free, Readied, Unread, Covered, Enough}
+use Rattle.search.specs.inner.Candidates.{MayCome, Readied, Unread, Covered, Enough}
 use Rattle.search.proofs.Rowing.{rowed, rest-out}
 
 pub rest-of : (from : List ℕ) → Words from → (x : ℕ) (out : List ℕ) (y : ℕ) (one two : List ℕ) → one ≡ addRowOf from x (emptyOf WORDS) 0 → two ≡ dropRowOf out y one 0 → Rest from x out y two
@@ -66,7 +66,7 @@ module _ {n : ℕ} {operations before readers sources placed : List ℕ} where
   pub in-left : {left : List ℕ} → Rest operations 0 placed 0 left → (x : ℕ) → Readied n operations before readers sources placed x → So (bit left 0 x)
   in-left p x r = p .has x .1 (r .operation, r .unplaced)
 
-  pub readied : {left : List ℕ} (y : ℕ) → y < RECORDS → Rest operations 0 placed 0 left → Free n before readers sources placed y → So (bit left 0 y) ⊎ (y ≡ RECORDS) → Readied n operations before readers sources placed y
+  pub readied : {left : List ℕ} (y : ℕ) → y < RECORDS → Rest operations 0 placed 0 left → MayCome n before readers sources placed y → So (bit left 0 y) ⊎ (y ≡ RECORDS) → Readied n operations before readers sources placed y
   readied y h p free (inl t) = let (o, u) = p .has y .0 t in record { operation = o; unplaced = u; free = free }
   readied y h p free (inr e) = absurd (omega arith)
 

@@ -11,7 +11,10 @@
 --   both                             == what is left of a row when what is left of it is taken out
 --   Follows O before led             == in rankings with O, led ranks no more than before
 --   partly-none, partly-then, partly-row     == nothing; one thing after another; a row without what is placed
---   follows-part, follows-more, follows-none == at the first round; after one round more; with a circle there is no such ranking
+--   follows-part, follows-more       == at the first round; after one round more
+--   unranked                         == rows with a circle have no ranking
+--   falls-of, both-fall              == a side that closes a circle; a pair of which both sides do
+--   refuted-circle, refuted-through  == what is drawn has no ranking, so what it follows has none
 --   refuted-none                     == where there is no ranking, no valid order goes on
 use mathlib.Core.Path.{_≡_, refl, sym, ap, _∙_, subst}
 use mathlib.Core.Logic.{_⊎_, inl, inr}
@@ -48,10 +51,11 @@ use Rattle.rows.proofs.Pair.{put-right, put-words}
 use Rattle.rows.proofs.Sets.{put-more}
 use Rattle.rules.specs.Rules.{nothing, rule6, rule7}
 use Rattle.rules.proofs.Sound.{gives-sound}
+use Rattle.rules.proofs.Orders.{apart}
 use Rattle.pairs.proofs.SourceOf.{source-of-is}
 use Rattle.search.specs.inner.SearchTables.{Tables, Laid}
 use Rattle.rows.specs.inner.Sets.{Holds}
-use Rattle.search.specs.inner.Refutation.{RankedRows, Below, Parted, Leads, Sixth, Settling, Ranking, Grown, Partly, Refuted}
+use Rattle.search.specs.inner.Refutation.{RankedRows, Below, Parted, Leads, Sixth, Settling, Ranking, Grown, Partly, Unranked, Falls, Refuted}
 use Rattle.search.specs.inner.Rest.{Rest}
 use Rattle.search.proofs.Rowing.{own-out}
 use Rattle.search.proofs.Candidates.{lacks, in-rest}
@@ -195,13 +199,33 @@ module _ (O : (ℕ → ℕ) → Type 0) (before : List ℕ) where
   pub follows-more : {a b : List ℕ} → Follows O before a → Grown O a b → Follows O before b
   follows-more p q = record { long = q .long ∙ p .long; ranks = λ pos o r. q .ranks pos o (p .ranks pos o r) }
 
-  -- a number cannot be ranked below itself
-  pub follows-none : {led : List ℕ} → Follows O before led → So (any RECORDS (λ x. bit led x x)) → (pos : ℕ → ℕ) → O pos → RankedRows before pos → ⊥
-  follows-none {led} p t pos o r = let (x, e) = self-iff led .0 t in omega (arith, p .ranks pos o r x x e)
+-- a number cannot be ranked below itself
+pub unranked : (led : List ℕ) → So (any RECORDS (λ x. bit led x x)) → Unranked led
+unranked led t pos r = let (x, e) = self-iff led .0 t in omega (arith, r x x e)
+
+module _ (n : ℕ) (writers sources placed : List ℕ) where
+  abbrev O : (ℕ → ℕ) → Type 0
+  O = Ranking n writers sources placed
+
+  pub falls-of : (x y : ℕ) → y < RECORDS → (led own a b : List ℕ) → own ≡ putOf (emptyOf WORDS) 0 y → Grown (Leads x own) led a → Grown O a b → Unranked b → Falls n led writers sources placed x y
+  falls-of x y h led own a b e p q u pos o r l = u pos (q .ranks pos o (p .ranks pos (own-only y h own e pos x l) r))
+
+  -- of two that are not ranked alike one is below the other
+  pub both-fall : (x y : ℕ) → x < n → So (bit writers x y) → (led : List ℕ) → Falls n led writers sources placed x y → Falls n led writers sources placed y x → Refuted n led writers sources placed
+  both-fall x y h w led p q pos a o r = elim (decLt (pos x) (pos y)) [
+    | yes l ↦ p pos o r l
+    | no l ↦ elim (decLt (pos y) (pos x)) [ yes k ↦ q pos o r k | no k ↦ a y x h w (omega (arith, l, k)) ]
+  ]
+
+  pub refuted-circle : (before led : List ℕ) → Follows O before led → Unranked led → Refuted n before writers sources placed
+  refuted-circle before led p u pos a o r = u pos (p .ranks pos o r)
+
+  pub refuted-through : (before led : List ℕ) → Follows O before led → Refuted n led writers sources placed → Refuted n before writers sources placed
+  refuted-through before led p u pos a o r = u pos a o (p .ranks pos o r)
 
 module _ (f : Frame) (K : Table) (T : Tables) (laid : Laid f K T) (placed p : List ℕ) (h : Holds placed p) where
   pub refuted-none : Refuted (T .n) (T .before) (T .writers) (T .sources) placed → Answer (Valid f K) p none
-  refuted-none r s v = r (pos (p ++ s)) ranking (λ x y t. laid .guide .sound (p ++ s) v x y t)
+  refuted-none r s v = r (pos (p ++ s)) (λ x y l w. let d = laid .writer x y l .0 w in apart f (p ++ s) (v .all) x y (laid .good .writes x (d .writes)) (d .other)) ranking (λ x y t. laid .guide .sound (p ++ s) v x y t)
     where
       ranking : Ranking (T .n) (T .writers) (T .sources) placed (pos (p ++ s))
       ranking L l q z w d =

@@ -3,6 +3,7 @@ pub mod first;
 mod refute;
 mod seek;
 mod sets;
+mod split;
 mod tables;
 
 // The first valid order, where one is found: its first len places; unused places 0.

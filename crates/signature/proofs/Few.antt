@@ -1,7 +1,7 @@
 -- A program has no more words than loads, and no more loads than records.
 --
 --   pick-short  == no more pass than there are
---   pick-none   == none pass
+--   split-few   == two tests that exclude each other pass no more than one that has both
 --   range-small == a load's list is at most one longer than the trace
 --   words-few, words-loads == no more words than records, and no more than loads
 use mathlib.Core.Path.{_≡_, refl, sym, ap, _∙_}
@@ -12,13 +12,14 @@ use Prim.Native.Nat.{ℕ, zero, suc, _+_, _*_, _<_, _≤_}
 use native.Mathlib.Omega.{arith}
 use lib.Dec.{eqb, leb}
 use lib.ListN.{length, length-append}
+use Rattle.laws.specs.Picks.{picks}
 use Rattle.laws.proofs.Tests.{and-iff, same-iff, so-le, off}
 use Rattle.trace.specs.Bounds.{THREADS}
 use Rattle.trace.specs.Op.{thread, reads, written}
 use Rattle.trace.specs.Trace.{at}
 use Rattle.trace.specs.declared.Trace.{Trace}
 use Rattle.signature.specs.DigitWords.{LIMIT, wordsFrom, wordsOf, packed}
-use Rattle.signature.specs.Reads.{other, picks, each, values, rangeOf, reader, readers, loads}
+use Rattle.signature.specs.Reads.{other, each, values, rangeOf, reader, readers, loads}
 use Rattle.signature.specs.Signature.{threadWords, wordsUpTo, wordsBy}
 use Rattle.signature.proofs.Lists.{each-long}
 use Rattle.signature.proofs.Signature.{Chosen, thread-long, reader-iff}
@@ -32,17 +33,11 @@ pick-short q i (suc k) = go (q i) (pick-short q (suc i) k)
     go true h = omega arith
     go false h = omega arith
 
-pub pick-none : (q : ℕ → Bool) (i k : ℕ) → ((j : ℕ) → j < i + k → q j ≡ false) → picks q i k ≡ []
-unfolding picks
-pick-none q i zero h = refl
-pick-none q i (suc k) h = ap (λ (b : Bool). cond b (i ∷ picks q (suc i) k) (picks q (suc i) k)) (h i (omega arith)) ∙ pick-none q (suc i) k (λ j b. h j (omega arith))
-
 pub range-small : (t : Trace) (L : ℕ) → rangeOf t L ≤ suc (t .len)
 unfolding values
 range-small t L = omega (arith, each-long (λ i. written (at t i)) (picks (other t L) 0 (t .len)), pick-short (other t L) 0 (t .len))
 
--- two tests that exclude each other pass no more than one that has both
-split-few : (q v u : ℕ → Bool) → ((j : ℕ) → So (q j) → So (u j) × (v j ≡ false)) → ((j : ℕ) → So (v j) → So (u j)) → (i k : ℕ) → length (picks q i k) + length (picks v i k) ≤ length (picks u i k)
+pub split-few : (q v u : ℕ → Bool) → ((j : ℕ) → So (q j) → So (u j) × (v j ≡ false)) → ((j : ℕ) → So (v j) → So (u j)) → (i k : ℕ) → length (picks q i k) + length (picks v i k) ≤ length (picks u i k)
 unfolding picks
 split-few q v u f g i zero = omega arith
 split-few q v u f g i (suc k) = go (q i) (v i) (u i) refl refl refl (split-few q v u f g (suc i) k)

@@ -21,14 +21,16 @@ use lib.Seq.{length-take-le, take-suc-set}
 use borrow.Author.Tests.{lt-ltb, le-ltb, ltb-true}
 use Rattle.laws.specs.Tests.{any}
 use Rattle.laws.specs.Places.{count}
+use Rattle.laws.specs.Picks.{picks}
 use Rattle.laws.proofs.Tests.{so-any, off, so-le}
 use Rattle.laws.proofs.Loops.{any-stops}
+use Rattle.laws.proofs.Picks.{picks-none}
 use Rattle.trace.specs.Bounds.{RECORDS, THREADS}
 use Rattle.trace.specs.Op.{reads, read}
 use Rattle.trace.specs.Trace.{at}
 use Rattle.trace.specs.declared.Trace.{Trace}
 use Rattle.signature.specs.DigitWords.{LIMIT, onto, packFrom, packed}
-use Rattle.signature.specs.Reads.{picks, each, values, rangeOf, digitOf, reader, readers}
+use Rattle.signature.specs.Reads.{each, values, rangeOf, digitOf, reader, readers}
 use Rattle.signature.specs.Signature.{threadWords, wordsUpTo, wordsBy, signature, tops}
 use Rattle.signature.specs.Unpack.{wordCount}
 use Rattle.signature.specs.SignatureAnswers.{readIn}
@@ -38,7 +40,7 @@ use Rattle.signature.specs.declared.Open.{Open}
 use Rattle.signature.proofs.DigitWords.{Digits, none, one, pack-some}
 use Rattle.signature.proofs.Lists.{pick-all, pick-in, each-long}
 use Rattle.signature.proofs.Signature.{Chosen, digits, reader-iff, up-like, top-chosen, thread-long}
-use Rattle.signature.proofs.Few.{pick-short, pick-none, of-few, range-small, words-few}
+use Rattle.signature.proofs.Few.{pick-short, of-few, range-small, words-few}
 use Rattle.signature.proofs.Loop.{lift, lift-same, lift-new, lift-end, product-less, digit-fits}
 
 pub record Sound (o : Open) : Type 0 where
@@ -203,7 +205,7 @@ module _ (t : Trace) (last : Bool) (ch : DigitsBelow t last) where
             finish : (R : Open) → goal R [] [] ≡ laidWords R ++ (R .word ∷ [])
             finish R = ap (λ (ws : List ℕ). laidWords R ++ ws) (lift-end (R .word) (suc (R .q)))
         go false e =
-            let n : picks (reader t τ) 0 (t .len) ≡ [] = pick-none (reader t τ) 0 (t .len) (λ j b. off (λ u. false≢true (sym e ∙ any-stops (reader t τ) (t .len) j (omega arith) u))) in
+            let n : picks (reader t τ) 0 (t .len) ≡ [] = picks-none (reader t τ) 0 (t .len) (λ j a b. off (λ u. false≢true (sym e ∙ any-stops (reader t τ) (t .len) j (omega arith) u))) in
             (nil (picks (reader t τ) 0 (t .len)) n, s, q0, w0)
           where
             nil : (xs : List ℕ) → xs ≡ [] → laidWords o ≡ laidWords o ++ packed (each (rangeOf t) xs) (each (choice t last) xs)

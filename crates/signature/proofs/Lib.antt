@@ -12,6 +12,7 @@ pub mod Putting
 pub mod SignatureAnswers
 pub mod Taken
 pub mod Placed
+pub mod ValuesLaid
 pub mod SignatureCases
 pub mod ManyRuns
 pub mod Unique

@@ -5,6 +5,7 @@
 --   pick-same, pick-like  == two functions are alike on those that pass exactly when the lists are
 --   pick-in, pick-low, pick-facts == what stands in the list
 --   pick-step, pick-snoc  == one number less to look at, one more that was
+--   pick-parts, pick-test == numbers looked at in two parts, and by a test that says the same
 --   each-at, each-on, each-long, each-append == what a function makes of each
 --   by-place, by-bound    == numbers taken by their place
 --   append-parts          == two lists of equal beginnings, as long, are joined to equal ones only where both parts are equal
@@ -18,9 +19,10 @@ use native.Mathlib.Numerals.{add-one}
 use native.Mathlib.Omega.{arith}
 use lib.ListN.{length, getD}
 use Rattle.laws.specs.Places.{pos, count}
+use Rattle.laws.specs.Picks.{picks}
 use Rattle.laws.proofs.Tests.{eq?}
 use Rattle.laws.proofs.Places.{pos-here, pos-later, count-here, count-later, count-le}
-use Rattle.signature.specs.Reads.{picks, each}
+use Rattle.signature.specs.Reads.{each}
 use Rattle.signature.proofs.DigitWords.{Digits, none, one}
 
 module _ (q : ℕ → Bool) (g : ℕ → ℕ) where
@@ -200,3 +202,23 @@ module _ (q : ℕ → Bool) where
           → cond b (i ∷ picks q (suc i) (suc k)) (picks q (suc i) (suc k)) ≡ cond b (i ∷ picks q (suc i) k) (picks q (suc i) k) ++ cond (q (i + suc k)) ((i + suc k) ∷ []) []
       go true e = ap (λ l. i ∷ l) e
       go false e = e
+
+  -- some numbers, and then the others
+  pub pick-parts : (i j k : ℕ) → picks q i (j + k) ≡ picks q i j ++ picks q (i + j) k
+  unfolding picks
+  pick-parts i zero k = let e : 0 + k ≡ k = omega arith in let f : i ≡ i + 0 = omega arith in ap₂ (λ (i k : ℕ). picks q i k) f e
+  pick-parts i (suc j) k =
+      let e : suc j + k ≡ suc (j + k) = omega arith in
+      let f : suc i + j ≡ i + suc j = omega arith in
+      ap (picks q i) e ∙ go (q i) (pick-parts (suc i) j k ∙ ap (λ (n : ℕ). picks q (suc i) j ++ picks q n k) f)
+    where
+      go : (b : Bool) → picks q (suc i) (j + k) ≡ picks q (suc i) j ++ picks q (i + suc j) k
+          → cond b (i ∷ picks q (suc i) (j + k)) (picks q (suc i) (j + k)) ≡ cond b (i ∷ picks q (suc i) j) (picks q (suc i) j) ++ picks q (i + suc j) k
+      go true e = ap (λ l. i ∷ l) e
+      go false e = e
+
+  -- by a test that says the same
+  pub pick-test : (r : ℕ → Bool) (i k : ℕ) → ((j : ℕ) → i ≤ j → j < i + k → q j ≡ r j) → picks q i k ≡ picks r i k
+  unfolding picks
+  pick-test r i zero n = refl
+  pick-test r i (suc k) n = ap₂ (λ (b : Bool) (l : List ℕ). cond b (i ∷ l) l) (n i (omega arith) (omega arith)) (pick-test r (suc i) k (λ j a b. n j (omega arith) (omega arith)))

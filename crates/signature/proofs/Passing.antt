@@ -3,24 +3,24 @@
 --   other-at               == the code's test is the definition's
 --   range-whole, range-on  == how many there are
 --   digit-whole, digit-hit, digit-on == the place of a value
---   value-whole, value-hit, value-on, value-none == the value at a place
 --   loads-whole, loads-one, loads-none, loads-end == how many loads there are
 --   and-off                == the second of two tests fails
-use mathlib.Core.Path.{_≡_, refl, sym, ap, ap₂, _∙_}
+use mathlib.Core.Path.{_≡_, sym, ap, _∙_}
 use mathlib.Core.Logic.{_≢_}
 use mathlib.Core.Bool.{Bool, true, false, cond, So, not, _&&_, false≢true}
 use mathlib.Core.List.{List, [], _∷_}
 use Prim.Native.Nat.{ℕ, zero, suc, _+_, _-_, _<_, _≤_}
 use native.Mathlib.Omega.{arith}
 use lib.Dec.{eqb}
-use lib.ListN.{length, getD}
+use lib.ListN.{length}
 use borrow.Author.Tests.{eq-eqb, ne-eqb}
 use Rattle.laws.specs.Places.{pos}
+use Rattle.laws.specs.Picks.{picks}
 use Rattle.laws.proofs.Places.{pos-here, pos-later}
 use Rattle.trace.specs.Op.{address, written, reads, writes}
 use Rattle.trace.specs.Trace.{at, first}
 use Rattle.trace.specs.declared.Trace.{Trace}
-use Rattle.signature.specs.Reads.{other, picks, each, values, rangeOf, digitOf, valueOf, loads}
+use Rattle.signature.specs.Reads.{other, each, values, rangeOf, digitOf, loads}
 use Rattle.signature.proofs.Lists.{pick-step, pick-end, each-long}
 
 -- what is still to come from record i on
@@ -87,34 +87,6 @@ module _ (t : Trace) (L : ℕ) where
     pub digit-end : (i : ℕ) → t .len ≤ i → (d : ℕ) → d + pos (wrote t L i) v ≡ digitOf t L v → d ≡ digitOf t L v
     unfolding each pos
     digit-end i h d e = omega (arith, e, ap (λ (l : List ℕ). pos (each (λ x. written (at t x)) l) v) (over-end i h))
-
-  -- the value of a digit
-  module _ (d : ℕ) where
-    pub value-first : d ≡ 0 → first t (address (at t L)) ≡ valueOf t L d
-    value-first e = sym (ap₂ (λ (l : List ℕ) (k : ℕ). getD l k 0) values-whole e)
-
-    pub value-whole : 0 < d → getD (wrote t L 0) (d - 1) 0 ≡ valueOf t L d
-    value-whole h =
-        let e : d ≡ suc (d - 1) = omega arith in
-        sym (ap₂ (λ (l : List ℕ) (k : ℕ). getD l k 0) values-whole e)
-
-    module _ (i : ℕ) (h : i < t .len) (left : ℕ) (e : getD (wrote t L i) (left - 1) 0 ≡ valueOf t L d) where
-      open-one : So (other t L i) → wrote t L i ≡ written (at t i) ∷ wrote t L (i + 1)
-      unfolding each
-      open-one s = ap (each (λ x. written (at t x))) (comes-one t L i h s)
-
-      pub value-hit : So (other t L i) → left ≡ 1 → written (at t i) ≡ valueOf t L d
-      value-hit s w = let z : left - 1 ≡ 0 = omega arith in sym (ap₂ (λ (l : List ℕ) (k : ℕ). getD l k 0) (open-one s) z) ∙ e
-
-      pub value-one : So (other t L i) → 0 < left → left ≢ 1 → getD (wrote t L (i + 1)) (left - 1 - 1) 0 ≡ valueOf t L d
-      value-one s p w = let z : left - 1 ≡ suc (left - 1 - 1) = omega arith in sym (ap₂ (λ (l : List ℕ) (k : ℕ). getD l k 0) (open-one s) z) ∙ e
-
-      pub value-none : other t L i ≡ false → getD (wrote t L (i + 1)) (left - 1) 0 ≡ valueOf t L d
-      value-none s = ap (λ (l : List ℕ). getD (each (λ x. written (at t x)) l) (left - 1) 0) (sym (comes-none t L i h s)) ∙ e
-
-    pub value-end : (i : ℕ) → t .len ≤ i → (left : ℕ) → getD (wrote t L i) (left - 1) 0 ≡ valueOf t L d → 0 ≡ valueOf t L d
-    unfolding each
-    value-end i h left e = sym (ap (λ (l : List ℕ). getD (each (λ x. written (at t x)) l) (left - 1) 0) (over-end i h)) ∙ e
 
 -- how many loads there are
 module _ (t : Trace) where

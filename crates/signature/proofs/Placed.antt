@@ -4,6 +4,7 @@
 --   Along x y      == so it is within a thread, with as much of the word left
 --   along-placed, along-looked, along-from == it stays so for one digit more, one record, all records
 --   same-thread, same-all                  == and for a thread, and all of them
+--   digits-small   == each load has one of its own digits
 --   reads-placed   == so the reads by place are those that the words stand for
 --   placed-in .. all-over == what each function of the code comes to
 use mathlib.Core.Path.{_≡_, refl, sym, ap, ap₂, _∙_, subst}
@@ -18,6 +19,7 @@ use lib.Dec.{leb}
 use lib.ListN.{length, getD, set, replicate, length-set, length-replicate, getD-replicate}
 use lib.Seq.{getD-set-same, getD-set-other}
 use Rattle.laws.specs.Tests.{any}
+use Rattle.laws.specs.Picks.{picks}
 use Rattle.laws.proofs.Tests.{eq?}
 use Rattle.trace.specs.Bounds.{RECORDS, THREADS}
 use Rattle.trace.specs.Op.{reads}
@@ -25,9 +27,10 @@ use Rattle.trace.specs.Trace.{at}
 use Rattle.trace.specs.FormFacts.{Form}
 use Rattle.trace.specs.declared.Trace.{Trace}
 use Rattle.signature.specs.DigitWords.{LIMIT}
-use Rattle.signature.specs.Reads.{picks, each, rangeOf, valueOf, reader, loads}
+use Rattle.signature.specs.Reads.{each, rangeOf, valueOf, reader, loads}
 use Rattle.signature.specs.Signature.{tops}
-use Rattle.signature.specs.Unpack.{readsOf}
+use Rattle.signature.specs.Unpack.{digitIn, readOf, readsOf}
+use Rattle.signature.specs.inner.LoadLists.{DigitsSmall}
 use Rattle.signature.specs.inner.WordsLaid.{
   Taking,
   stepOn,
@@ -42,7 +45,7 @@ use Rattle.signature.specs.inner.WordsLaid.{
   placedOf,
   placedAt,
   placedFrom,
-  leftOf,
+  pastThread,
   placedThread,
   placedAll,
   nonePlaced,
@@ -52,7 +55,8 @@ use Rattle.signature.specs.inner.WordsLaid.{
 use Rattle.signature.specs.declared.Places.{Places}
 use Rattle.signature.proofs.Lists.{each-on, pick-facts}
 use Rattle.signature.proofs.Laid.{range-some}
-use Rattle.signature.proofs.Taken.{reads-taken}
+use Rattle.signature.proofs.Taken.{digit-taken}
+use Rattle.signature.proofs.Unpack.{digit-small}
 
 module _ (ws : List ℕ) where
   pub record Same (x : Taking) (y : Places) : Type 0 where
@@ -168,15 +172,15 @@ module _ (ws : List ℕ) where
       }
 
       -- and its last one done with
-      shuts : (x : Taking) (y : Places) → Along x y → Same (shutOf x) (leftOf y)
-      unfolding shutOf leftOf digitBy
+      shuts : (x : Taking) (y : Places) → Along x y → Same (shutOf x) (pastThread y)
+      unfolding shutOf pastThread digitBy
       shuts x y a = record { at = ap stepOn (a .same .at); digits = a .same .digits; full = a .same .full; full-word = a .same .full-word; full-below = a .same .full-below; full-range = a .same .full-range }
 
       pub same-thread : (x : Taking) (y : Places) → Same x y → y .q ≡ 0 → Same (tookThread t τ ws x) (placedThread t τ y) × (placedThread t τ y .q ≡ 0)
-      unfolding tookThread placedThread leftOf
+      unfolding tookThread placedThread pastThread
       same-thread x y s z = go (any (t .len) (reader t τ))
         where
-          go : (c : Bool) → Same (cond c (shutOf (tookFrom t τ ws (openedOf ws x) 0 (t .len))) x) (cond c (leftOf (placedFrom t τ y 0 (t .len))) y) × (cond c (leftOf (placedFrom t τ y 0 (t .len))) y .q ≡ 0)
+          go : (c : Bool) → Same (cond c (shutOf (tookFrom t τ ws (openedOf ws x) 0 (t .len))) x) (cond c (pastThread (placedFrom t τ y 0 (t .len))) y) × (cond c (pastThread (placedFrom t τ y 0 (t .len))) y .q ≡ 0)
           go true = (shuts (tookFrom t τ ws (openedOf ws x) 0 (t .len)) (placedFrom t τ y 0 (t .len)) (along-from (t .len) 0 (openedOf ws x) y (omega arith) (opens x y s z)), refl)
           go false = (s, z)
 
@@ -197,12 +201,18 @@ module _ (ws : List ℕ) where
       full-range = length-replicate {A = ℕ} RECORDS 1;
     }
 
+    -- the digit of a load is the one that the words have for it, and so one of its own
+    digit-placed : Form t → length ws ≤ RECORDS → length ws ≡ length (tops t) → (L : ℕ) → L < t .len → So (reads (at t L)) → digitBy (placesOf t) ws L ≡ digitIn t ws L
+    digit-placed form short l L h s = sym (same-all THREADS 0 noneTaken nonePlaced begins refl .digits L (omega (arith, h, few))) ∙ digit-taken t ws few short form l L h s
+
+    pub digits-small : Form t → length ws ≤ RECORDS → length ws ≡ length (tops t) → DigitsSmall t (placesOf t) ws
+    digits-small form short l L h s = subst (λ (d : ℕ). d < rangeOf t L) (sym (digit-placed form short l L h s)) (digit-small t form ws L h s)
+
     pub reads-placed : Form t → length ws ≤ RECORDS → length ws ≡ length (tops t) → each (λ L. valueOf t L (digitBy (placesOf t) ws L)) (loads t) ≡ readsOf t ws
     unfolding loads
     reads-placed form short l =
-        each-on (λ L. valueOf t L (digitBy (placesOf t) ws L)) (λ L. valueOf t L (getD (tookAll t ws noneTaken 0 THREADS .of) L 0)) (picks (λ L. reads (at t L)) 0 (t .len))
-        (λ L h. let u = pick-facts (λ L. reads (at t L)) 0 (t .len) L h in ap (valueOf t L) (sym (same-all THREADS 0 noneTaken nonePlaced begins refl .digits L (omega (arith, u .0, few)))))
-        ∙ reads-taken t ws few short form l
+        each-on (λ L. valueOf t L (digitBy (placesOf t) ws L)) (readOf t ws) (picks (λ L. reads (at t L)) 0 (t .len))
+        (λ L h. let u = pick-facts (λ L. reads (at t L)) 0 (t .len) L h in ap (valueOf t L) (digit-placed form short l L (omega (arith, u .0)) (u .1)))
 
 -- ---- what each function of the code comes to, by the tests that lead there
 module _ (x : Places) where
@@ -239,15 +249,15 @@ module _ (x : Places) where
     from-over n i h = let e : n - i ≡ 0 = omega arith in ap (placedFrom t τ x i) e
 
     pub thread-placed : So (any (t .len) (reader t τ)) → (y : Places) (n : ℕ) → y ≡ placedFrom t τ x 0 (t .len) → n ≡ stepOn (y .at) → record { word = y .word; below = y .below; range = y .range; at = n; q = 0 } ≡ placedThread t τ x
-    unfolding placedThread leftOf
+    unfolding placedThread pastThread
     thread-placed s y n e f =
         ap (λ (n : ℕ). record { word = y .word; below = y .below; range = y .range; at = n; q = 0 }) f
         ∙ ap (λ (y : Places). record { word = y .word; below = y .below; range = y .range; at = stepOn (y .at); q = 0 }) e
-        ∙ ap (λ (b : Bool). cond b (leftOf (placedFrom t τ x 0 (t .len))) x) (sym s)
+        ∙ ap (λ (b : Bool). cond b (pastThread (placedFrom t τ x 0 (t .len))) x) (sym s)
 
     pub thread-left : any (t .len) (reader t τ) ≡ false → x ≡ placedThread t τ x
     unfolding placedThread
-    thread-left s = ap (λ (b : Bool). cond b (leftOf (placedFrom t τ x 0 (t .len))) x) (sym s)
+    thread-left s = ap (λ (b : Bool). cond b (pastThread (placedFrom t τ x 0 (t .len))) x) (sym s)
 
   module _ (t : Trace) where
     pub all-on : (n τ : ℕ) → τ < n → placedAll t (placedThread t τ x) (τ + 1) (n - (τ + 1)) ≡ placedAll t x τ (n - τ)

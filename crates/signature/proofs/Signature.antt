@@ -15,6 +15,7 @@ use native.Mathlib.Omega.{arith}
 use lib.Dec.{eqb}
 use lib.ListN.{length, getD, length-append}
 use Rattle.laws.specs.Places.{pos, count}
+use Rattle.laws.specs.Picks.{picks}
 use Rattle.laws.proofs.Tests.{and-iff, same-iff, so-eq, eq?, not-iff}
 use Rattle.laws.proofs.Places.{at-pos, pos-at, count-here, count-later, pos-inj}
 use Rattle.trace.specs.Bounds.{THREADS}
@@ -26,7 +27,7 @@ use Rattle.trace.specs.declared.Trace.{Trace}
 use Rattle.trace.proofs.Meaning.{writes-iff}
 use Rattle.trace.proofs.Good.{form-good}
 use Rattle.signature.specs.DigitWords.{packed, wordsOf}
-use Rattle.signature.specs.Reads.{other, picks, each, values, rangeOf, digitOf, valueOf, reader, readers, Listed}
+use Rattle.signature.specs.Reads.{other, each, values, rangeOf, digitOf, valueOf, reader, readers, AllListed}
 use Rattle.signature.specs.Signature.{threadWords, wordsUpTo, wordsBy, signature, tops}
 use Rattle.signature.proofs.DigitWords.{Digits, packed-one, packed-long}
 use Rattle.signature.proofs.Lists.{each-none, each-once, pick-all, pick-same, pick-like, append-parts}
@@ -124,7 +125,7 @@ module _ (t : Trace) where
     words-one g h c d = (λ e L b s. up-same g h c d THREADS 0 e L b s (omega arith) (omega (arith, form .used L b .keeps .thread-below)), λ e. up-like g h e THREADS 0)
 
     -- two sets of reads, each in its list, have equal words exactly when they are equal
-    pub signature-one : (v w : ℕ → ℕ) → Listed t v → Listed t w → (signature t v ≡ signature t w) ↔ ((L : ℕ) → L < t .len → So (reads (at t L)) → v L ≡ w L)
+    pub signature-one : (v w : ℕ → ℕ) → AllListed t v → AllListed t w → (signature t v ≡ signature t w) ↔ ((L : ℕ) → L < t .len → So (reads (at t L)) → v L ≡ w L)
     signature-one v w h k =
         let o = words-one (λ L. digitOf t L (v L)) (λ L. digitOf t L (w L)) h k in
         (λ e L b s. pos-inj (values t L) (v L) (w L) (h L b s) (o .0 e L b s), λ e. o .1 (λ L b s. ap (digitOf t L) (e L b s)))

@@ -28,7 +28,7 @@ use Rattle.trace.specs.Trace.{at}
 use Rattle.trace.specs.WellFormed.{wellFormed}
 use Rattle.trace.specs.declared.Trace.{Trace}
 use Rattle.trace.proofs.WellFormed.{form-iff}
-use Rattle.signature.specs.Reads.{values, rangeOf, digitOf, loads, unlisted, Listed}
+use Rattle.signature.specs.Reads.{values, rangeOf, digitOf, loads, unlisted, AllListed}
 use Rattle.signature.specs.Signature.{signature, tops, tooLarge}
 use Rattle.signature.specs.Unpack.{wordCount, readsOf}
 use Rattle.signature.specs.SignatureAnswers.{wordsIn, sizeIn, loadsIn, readIn, packNext, packThen, packOf, packLeft, unpackNext, unpackThen, unpackOf, unpackLeft}
@@ -60,18 +60,18 @@ found-none (some j) e = let z : _≡_ {A = ℕ} 0 1 = cc in absurd (omega arith)
 found-none none e = refl
 
 module _ (t : Trace) where
-  pub none-unlisted : (v : ℕ → ℕ) → lowest (unlisted t v) (t .len) 0 ≡ none → Listed t v
+  pub none-unlisted : (v : ℕ → ℕ) → lowest (unlisted t v) (t .len) 0 ≡ none → AllListed t v
   unfolding unlisted
   none-unlisted v e L b s =
       let f = none-fails (unlisted t v) (t .len) e L b in
       let d : digitOf t L (v L) ≢ rangeOf t L = λ z. false≢true (sym f ∙ and-iff (same-iff {a = reads (at t L)}) (so-eq {m = digitOf t L (v L)} {n = rangeOf t L}) .1 (s, z)) in
       omega (arith, pos-le (values t L) (v L))
 
-  pub listed-below : Listed t (readIn t) → DigitsBelow t false
+  pub listed-below : AllListed t (readIn t) → DigitsBelow t false
   unfolding choice
   listed-below h L b s = h L b s
 
-  pub signature-long : Listed t (readIn t) → length (signature t (readIn t)) ≡ length (tops t)
+  pub signature-long : AllListed t (readIn t) → length (signature t (readIn t)) ≡ length (tops t)
   signature-long h = up-long t (λ L. digitOf t L (readIn t L)) (λ L. rangeOf t L - 1) h (top-chosen t) THREADS 0
 
   pub words-none : wellFormed t ≡ false → 0 ≡ wordsIn t

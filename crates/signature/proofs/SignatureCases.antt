@@ -23,7 +23,7 @@ use Rattle.trace.specs.FormFacts.{Form}
 use Rattle.trace.specs.WellFormed.{wellFormed}
 use Rattle.trace.specs.declared.Trace.{Trace}
 use Rattle.trace.proofs.WellFormed.{form-iff}
-use Rattle.signature.specs.Reads.{values, rangeOf, digitOf, loads, unlisted, Listed}
+use Rattle.signature.specs.Reads.{values, rangeOf, digitOf, loads, unlisted, AllListed}
 use Rattle.signature.specs.Signature.{signature, tops, tooLarge}
 use Rattle.signature.specs.Unpack.{readsOf}
 use Rattle.signature.specs.SignatureAnswers.{readIn, packOf, unpackOf}

@@ -6,7 +6,7 @@
 --   took-ran      == so for all records, as a thread sees them (Took)
 --   took-thread   == the digits of a thread stand at its loads, and the place is behind its words (Had)
 --   took-all      == so for all threads (Have)
---   digit-taken, reads-taken == each load has its digit, and so its value
+--   digit-taken   == each load has its digit
 use mathlib.Core.Path.{_≡_, refl, sym, ap, ap₂, _∙_, subst}
 use mathlib.Core.Logic.{_≢_, _⊎_, inl, inr}
 use mathlib.Core.Bool.{Bool, true, false, cond, So, _&&_, false≢true}
@@ -20,23 +20,25 @@ use lib.ListN.{length, getD, set, take, drop, replicate, length-set, length-appe
 use lib.Seq.{drop-cons, drop-drop, getD-set-same, getD-set-other, length-take-le, getD-drop, drop-nil}
 use Rattle.laws.specs.Tests.{any}
 use Rattle.laws.specs.Places.{pos, count}
+use Rattle.laws.specs.Picks.{picks}
 use Rattle.laws.proofs.Tests.{eq?, so-any, so-eq, so-le, off, test}
 use Rattle.laws.proofs.Loops.{any-stops}
+use Rattle.laws.proofs.Picks.{picks-none}
 use Rattle.trace.specs.Bounds.{RECORDS, THREADS}
 use Rattle.trace.specs.Op.{thread, reads}
 use Rattle.trace.specs.Trace.{at}
 use Rattle.trace.specs.FormFacts.{Form}
 use Rattle.trace.specs.declared.Trace.{Trace}
 use Rattle.signature.specs.DigitWords.{LIMIT, least, rest, nextWords, wordsFrom, takeFrom, wordsOf, taken}
-use Rattle.signature.specs.Reads.{picks, each, values, rangeOf, valueOf, reader, readers, loads}
+use Rattle.signature.specs.Reads.{each, values, rangeOf, reader, readers, loads}
 use Rattle.signature.specs.Signature.{wordsUpTo, tops, threadWords}
-use Rattle.signature.specs.Unpack.{wordCount, partFrom, partOf, digitIn, readOf, readsOf}
+use Rattle.signature.specs.Unpack.{wordCount, partFrom, partOf, digitIn}
 use Rattle.signature.specs.inner.WordsLaid.{Taking, stepOn, tookOf, lookedOf, tookFrom, openedOf, shutOf, tookThread, tookAll, noneTaken}
 use Rattle.signature.proofs.DigitWords.{take-more, words-some}
 use Rattle.signature.proofs.Lists.{each-at, each-on, each-append, pick-snoc, pick-facts, pick-low, pick-in}
 use Rattle.signature.proofs.Signature.{Chosen, reader-iff, thread-long, top-chosen}
 use Rattle.signature.proofs.Unpack.{is-reader}
-use Rattle.signature.proofs.Few.{pick-none, range-small}
+use Rattle.signature.proofs.Few.{range-small}
 use Rattle.signature.proofs.Laid.{after-in, range-some}
 
 -- the words that are left: the open one first
@@ -243,7 +245,7 @@ module _ (t : Trace) (ws : List ℕ) (few : t .len ≤ RECORDS) (short : length 
     without-loads : (x : Taking) → length (x .of) ≡ RECORDS → any (t .len) (reader t τ) ≡ false → Had x x
     unfolding readers each
     without-loads x f e =
-        let n : picks (reader t τ) 0 (t .len) ≡ [] = pick-none (reader t τ) 0 (t .len) (λ j b. off (λ u. false≢true (sym e ∙ any-stops (reader t τ) (t .len) j (omega arith) u))) in
+        let n : picks (reader t τ) 0 (t .len) ≡ [] = picks-none (reader t τ) 0 (t .len) (λ j a b. off (λ u. false≢true (sym e ∙ any-stops (reader t τ) (t .len) j (omega arith) u))) in
         record {
           digits = nil (picks (reader t τ) 0 (t .len)) n;
           stays = λ j v. refl;
@@ -320,10 +322,3 @@ module _ (t : Trace) (ws : List ℕ) (few : t .len ≤ RECORDS) (short : length 
       let h = took-all THREADS 0 noneTaken (length-replicate {A = ℕ} RECORDS 0) (omega (arith, l)) in
       sym (each-at (λ j. getD (tookAll t ws noneTaken 0 THREADS .of) j 0) (readers t τ) L (is-reader t L b s))
       ∙ ap (λ (ds : List ℕ). getD ds (pos (readers t τ) L) 0) (h .digits τ (omega arith) (omega (arith, form .used L b .keeps .thread-below)))
-
-  -- and so its value
-  pub reads-taken : Form t → length ws ≡ length (tops t) → each (λ L. valueOf t L (getD (tookAll t ws noneTaken 0 THREADS .of) L 0)) (loads t) ≡ readsOf t ws
-  unfolding loads
-  reads-taken form l =
-      each-on (λ L. valueOf t L (getD (tookAll t ws noneTaken 0 THREADS .of) L 0)) (readOf t ws) (picks (λ L. reads (at t L)) 0 (t .len))
-      (λ L h. let u = pick-facts (λ L. reads (at t L)) 0 (t .len) L h in ap (valueOf t L) (digit-taken form l L (omega (arith, u .0)) (u .1)))

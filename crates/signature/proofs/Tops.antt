@@ -22,7 +22,7 @@ use Rattle.trace.specs.Bounds.{THREADS}
 use Rattle.trace.specs.FormFacts.{Form}
 use Rattle.trace.specs.declared.Trace.{Trace}
 use Rattle.signature.specs.DigitWords.{LIMIT, onto, rest, nextWords, wordsFrom, packFrom, packed, wordsOf}
-use Rattle.signature.specs.Reads.{each, rangeOf, digitOf, values, readers, Listed}
+use Rattle.signature.specs.Reads.{each, rangeOf, digitOf, values, readers, AllListed}
 use Rattle.signature.specs.Signature.{threadWords, wordsUpTo, wordsBy, signature, tops, tooLarge}
 use Rattle.signature.specs.Unpack.{wordCount, readOf}
 use Rattle.signature.proofs.DigitWords.{Digits, none, one, Ranges, spent, roomFrom, room}
@@ -173,7 +173,7 @@ module _ (t : Trace) where
   pack-unpack form ws h = pack-back t form ws (up-room THREADS 0 ws (fit-within ws h))
 
   -- and the words of any reads in their lists are so
-  pub pack-fits : (v : ℕ → ℕ) → Listed t v → Fit (signature t v)
+  pub pack-fits : (v : ℕ → ℕ) → AllListed t v → Fit (signature t v)
   unfolding tooLarge
   pack-fits v h =
       let w = up-within (λ L. digitOf t L (v L)) h THREADS 0 in

@@ -2,6 +2,7 @@
 --
 --   part-same     == the part of a thread, among the words of all, is its own words
 --   unpack-pack   == the reads come back from their words
+--   digit-small   == each digit is one of its load's
 --   unpack-listed == any words stand for reads that are in their lists
 --   roomUpTo t ws σ k == ws has as many words as the threads σ, σ + 1, .., k of them take, and none is too large
 --   pack-back     == such words come back from the reads that they stand for
@@ -15,6 +16,7 @@ use lib.Dec.{eqb}
 use lib.ListN.{length, getD, take, drop, take-append-drop}
 use lib.Seq.{take-at, drop-at}
 use Rattle.laws.specs.Places.{pos, count}
+use Rattle.laws.specs.Picks.{picks}
 use Rattle.laws.proofs.Tests.{eq?, so-eq, off, and-iff, same-iff}
 use Rattle.trace.specs.Bounds.{THREADS}
 use Rattle.trace.specs.Op.{thread, reads}
@@ -22,7 +24,7 @@ use Rattle.trace.specs.Trace.{at}
 use Rattle.trace.specs.FormFacts.{Form}
 use Rattle.trace.specs.declared.Trace.{Trace}
 use Rattle.signature.specs.DigitWords.{taken, packed}
-use Rattle.signature.specs.Reads.{picks, each, values, rangeOf, digitOf, valueOf, reader, readers, Listed}
+use Rattle.signature.specs.Reads.{each, values, rangeOf, digitOf, valueOf, reader, readers, AllListed}
 use Rattle.signature.specs.Signature.{threadWords, wordsUpTo, wordsBy, signature}
 use Rattle.signature.specs.Unpack.{wordCount, partFrom, partOf, digitIn, readOf}
 use Rattle.signature.proofs.DigitWords.{Ranges, Digits, room, taken-packed, packed-taken, taken-digits}
@@ -59,7 +61,7 @@ module _ (t : Trace) (g : ℕ → ℕ) (h : Chosen t g) where
       ∙ each-at g (readers t τ) L (is-reader t L b s)
 
 -- the reads come back from their words
-pub unpack-pack : (t : Trace) → Form t → (v : ℕ → ℕ) → Listed t v → (L : ℕ) → L < t .len → So (reads (at t L)) → readOf t (signature t v) L ≡ v L
+pub unpack-pack : (t : Trace) → Form t → (v : ℕ → ℕ) → AllListed t v → (L : ℕ) → L < t .len → So (reads (at t L)) → readOf t (signature t v) L ≡ v L
 unpack-pack t form v h L b s = ap (valueOf t L) (digit-back t (λ L. digitOf t L (v L)) h form L b s) ∙ value-digit t form L (v L) (h L b s)
 
 ranges : (t : Trace) (xs : List ℕ) → Ranges (each (rangeOf t) xs)
@@ -91,8 +93,13 @@ module _ (t : Trace) (form : Form t) (ws : List ℕ) where
       = ap (λ (τ : ℕ). digitOf t L (valueOf t L (getD (digitsIn τ) (pos (readers t τ) L) 0))) e ∙ digit-value t form L (getD (digitsIn τ) (pos (readers t τ) L) 0) b in
       (q, subst (λ (d : ℕ). d < rangeOf t L) (sym q) b)
 
+  -- the digit of a load is one of its own
+  pub digit-small : (L : ℕ) → L < t .len → So (reads (at t L)) → digitIn t ws L < rangeOf t L
+  unfolding digitIn
+  digit-small L b s = let τ = thread (at t L) in by-bound (rangeOf t) (readers t τ) (digitsIn τ) (good-digits τ) L (is-reader t L b s)
+
   -- each of the reads is in its list
-  pub unpack-listed : Listed t (readOf t ws)
+  pub unpack-listed : AllListed t (readOf t ws)
   unpack-listed L b s = read-digit (thread (at t L)) L (is-reader t L b s) .1
 
   thread-back : (τ : ℕ) → So (room (each (rangeOf t) (readers t τ)) (partOf t ws τ)) → threadWords t (λ L. digitOf t L (readOf t ws L)) τ ≡ partOf t ws τ

@@ -12,7 +12,7 @@ use Rattle.trace.specs.Op.{reads}
 use Rattle.trace.specs.Trace.{at}
 use Rattle.trace.specs.FormFacts.{Form}
 use Rattle.trace.specs.declared.Trace.{Trace}
-use Rattle.signature.specs.Reads.{rangeOf, digitOf, loads, Listed}
+use Rattle.signature.specs.Reads.{rangeOf, digitOf, loads, AllListed}
 use Rattle.signature.specs.Signature.{tops}
 use Rattle.signature.specs.SignatureAnswers.{readIn}
 use Rattle.signature.specs.declared.Answer.{Answer}
@@ -26,7 +26,7 @@ pub data Packs (t : Trace) (b : List ℕ) : Answer → Type 0 where
   ten : (Form t → ⊥) → Packs t b NotWellFormed
   wrong : Form t → length b ≢ length (tops t) → Packs t b WrongLength
   outside : (L : ℕ) → Form t → length b ≡ length (tops t) → L < t .len → So (reads (at t L)) → (Lists t L → ⊥) → ((j : ℕ) → j < L → So (reads (at t j)) → Lists t j) → Packs t b (NotListed L)
-  done : Form t → length b ≡ length (tops t) → Listed t (readIn t) → Packs t b Done
+  done : Form t → length b ≡ length (tops t) → AllListed t (readIn t) → Packs t b Done
 
 pub data Unpacks (t : Trace) (ws b : List ℕ) : Answer → Type 0 where
   ten : (Form t → ⊥) → Unpacks t ws b NotWellFormed

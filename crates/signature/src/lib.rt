@@ -1,4 +1,5 @@
 // What the loads of a test program saw, packed into numbers. A test program is a trace whose recorded reads are not looked at.
+use trace::FIRSTS;
 use trace::RECORDS;
 
 mod choices;
@@ -38,4 +39,13 @@ struct Places {
     range: [u64; RECORDS],
     at: usize,
     q: u64,
+}
+
+// What was written, by address: the values of one address stand behind those of the addresses below it, each in the order of its records. Beside them how many they are, where those of an address begin, and, by
+// record, the place of its own value; for a record that does not write it is RECORDS.
+struct WrittenValues {
+    of: [u16; RECORDS],
+    count: usize,
+    start: [usize; FIRSTS],
+    own: [usize; RECORDS],
 }

@@ -23,6 +23,7 @@ use Rattle.trace.specs.Op.{writes}
 use Rattle.trace.specs.Trace.{at}
 use Rattle.rules.specs.Frame.{Frame, Good, Source}
 use Rattle.trace.specs.Meaning.{frameOf}
+use Rattle.trace.specs.Padded.{padded}
 use Rattle.trace.specs.declared.Trace.{Trace}
 use Rattle.rows.specs.Bounds.{CELLS, WORDS}
 use Rattle.rows.specs.Rows.{bit}
@@ -34,7 +35,6 @@ use Rattle.rows.proofs.Whole.{empty-bit, empty-long}
 use Rattle.pairs.specs.SourceOf.{sourceOf}
 use Rattle.pairs.proofs.SourceOf.{source-of-is, source-of-has}
 use Rattle.rows.proofs.Sets.{put-more}
-use Rattle.smaller.specs.Smaller.{padded}
 use Rattle.smaller.specs.inner.RecordSets.{Chosen, ReaderChains}
 
 pub record Some (before : List ℕ) (b : Bool) (y : ℕ) (after : List ℕ) : Type 0 where

@@ -1,18 +1,17 @@
 -- What is left of a faulty trace, and the answer that hands it back.
 --
---   padded xs    == a list in an array of RECORDS places, the unused ones 0
---   bareSmaller a == an answer that leaves nothing
---   leaving t A  == the answer that leaves the records of A as a trace of their own, with their old numbers
---   Cuts t m r   == r leaves what the trace is cut down to
---   By t m v r   == the answer where the verdict is v: a circle or none left is cut down
+--   bareSmaller a     == an answer that leaves nothing
+--   leaving t A       == the answer that leaves the records of A as a trace of their own, with their old numbers
+--   Cuts t m r        == r leaves what the trace is cut down to
+--   By t m v r        == the answer where the verdict is v: a circle or none left is cut down
 --   ToldSmaller t m r == what `smaller` promises of any trace under any model: 9 before 10, then the answer by the verdict that `Says` allows
---   cutNumber a  == document 01's number of an answer that turns the question back; 0 of any other
+--   cutNumber a       == document 01's number of an answer that turns the question back; 0 of any other
 use mathlib.Core.Path.{_≡_}
 use mathlib.Core.Bool.{false, So}
-use mathlib.Core.List.{List, _++_}
-use Prim.Native.Nat.{ℕ, _-_}
-use lib.ListN.{length, replicate}
+use Prim.Native.Nat.{ℕ}
+use lib.ListN.{replicate}
 use Rattle.trace.specs.Bounds.{RECORDS}
+use Rattle.trace.specs.Padded.{padded}
 use Rattle.trace.specs.Trace.{empty}
 use Rattle.trace.specs.Meaning.{frameOf}
 use Rattle.trace.specs.WellFormed.{wellFormed}
@@ -25,9 +24,6 @@ use Rattle.rules.specs.Verdict.{Verdict, noSource, circle, order, noneLeft, Say
 use Rattle.smaller.specs.declared.Answer.{Answer}
 use Rattle.smaller.specs.declared.Answer.the-variants.{NoModel, NotWellFormed, NoSource, NothingWrong, Cut}
 use Rattle.smaller.specs.declared.Smaller.{Smaller}
-
-abbrev pub padded : List ℕ → List ℕ
-padded xs = xs ++ replicate (RECORDS - length xs) 0
 
 abbrev pub bareSmaller : Answer → Smaller
 bareSmaller a = record { answer = a; trace = empty; olds = replicate RECORDS 0 }

@@ -1,5 +1,5 @@
 -- Laws of a talk. Calling: which call a line makes. Cutting: cut numbers are answered as whole ones. Starting: first values. Lasting: what stands after any
--- lines. One: no second answer.
+-- lines. Unique: no second answer.
 pub mod Calling
 pub mod Cutting
 pub mod Starting

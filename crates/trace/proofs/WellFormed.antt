@@ -10,7 +10,7 @@ use Rattle.laws.proofs.Tests.{and-iff, not-iff, imp-iff, same-iff, so-eq, so-lt
 use Rattle.trace.specs.Op.{address, written, writes, writesTo}
 use Rattle.trace.specs.Trace.{at, idle}
 use Rattle.trace.specs.WellFormed.{bounded, writtenBefore, fresh, follows, isIdle, wellFormed}
-use Rattle.trace.specs.FormFacts.{Bounded, Writes, Fresh, Follows, Form}
+use Rattle.trace.specs.FormFacts.{Bounded, WritesThere, Fresh, Follows, Form}
 use Rattle.trace.specs.declared.Op.{Op}
 use Rattle.trace.specs.declared.Op.the-variants.{Load, Store, Swap, Fence}
 use Rattle.trace.specs.declared.Trace.{Trace}
@@ -23,14 +23,14 @@ bounded-iff o =
       λ b. e .1 (((b .thread-below, b .address-below), b .read-below), b .written-below),
     )
 
-pub writes-iff : (o : Op) (a v : ℕ) → So (writesTo o a v) ↔ Writes o a v
+pub writes-iff : (o : Op) (a v : ℕ) → So (writesTo o a v) ↔ WritesThere o a v
 writes-iff o a v =
     let e = and-iff (and-iff (same-iff {a = writes o}) so-eq) so-eq in (
       λ s. let p = e .0 s in record { does = p .0 .0; there = p .0 .1; value = p .1 },
       λ w. e .1 ((w .does, w .there), w .value),
     )
 
-pub written-before-iff : (t : Trace) (n a v : ℕ) → So (writtenBefore t n a v) ↔ ((j : ℕ) × (j < n) × Writes (at t j) a v)
+pub written-before-iff : (t : Trace) (n a v : ℕ) → So (writtenBefore t n a v) ↔ ((j : ℕ) × (j < n) × WritesThere (at t j) a v)
 unfolding writtenBefore
 written-before-iff t n a v = any-iff (λ j. writes-iff (at t j) a v)
 

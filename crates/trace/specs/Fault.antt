@@ -15,7 +15,7 @@ use Rattle.trace.specs.Bounds.{RECORDS}
 use Rattle.trace.specs.Op.{address, written, writes}
 use Rattle.trace.specs.Trace.{at, first}
 use Rattle.trace.specs.WellFormed.{bounded, writtenBefore}
-use Rattle.trace.specs.FormFacts.{Bounded, Writes}
+use Rattle.trace.specs.FormFacts.{Bounded, WritesThere}
 use Rattle.trace.specs.declared.Op.{Op}
 use Rattle.trace.specs.declared.Trace.{Trace}
 use Rattle.trace.specs.declared.Fault.{Fault}
@@ -32,7 +32,7 @@ abbrev pub WritesFirst : Trace → Op → Type 0
 WritesFirst t o = So (writes o) × (written o ≡ first t (address o))
 
 abbrev pub WritesAgain : Trace → Op → Type 0
-WritesAgain t o = So (writes o) × ((i : ℕ) × (i < t .len) × Writes (at t i) (address o) (written o))
+WritesAgain t o = So (writes o) × ((i : ℕ) × (i < t .len) × WritesThere (at t i) (address o) (written o))
 
 abbrev pub Wrong : Fault → Trace → Op → Type 0
 Wrong Nothing t o = ⊥

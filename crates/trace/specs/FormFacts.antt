@@ -1,10 +1,10 @@
 -- What the tests of WellFormed say, as facts.
 --
---   Bounded o     == each number of o keeps its bound
---   Writes o a v  == o writes v to address a
---   Fresh t n o   == what o writes is neither its address's first value nor written there by one of the first n records
---   Follows t n o == o may stand after the first n records
---   Form t        == the trace is well formed
+--   Bounded o         == each number of o keeps its bound
+--   WritesThere o a v == o writes v to address a
+--   Fresh t n o       == what o writes is neither its address's first value nor written there by one of the first n records
+--   Follows t n o     == o may stand after the first n records
+--   Form t            == the trace is well formed
 use mathlib.Core.Path.{_≡_}
 use mathlib.Core.Logic.{_≢_}
 use mathlib.Core.Bool.{So}
@@ -22,14 +22,14 @@ pub record Bounded (o : Op) : Type 0 where
   pub read-below : read o < VALUES
   pub written-below : written o < VALUES
 
-pub record Writes (o : Op) (a v : ℕ) : Type 0 where
+pub record WritesThere (o : Op) (a v : ℕ) : Type 0 where
   pub does : So (writes o)
   pub there : address o ≡ a
   pub value : written o ≡ v
 
 pub record Fresh (t : Trace) (n : ℕ) (o : Op) : Type 0 where
   pub later : written o ≢ first t (address o)
-  pub once : (j : ℕ) → j < n → Writes (at t j) (address o) (written o) → ⊥
+  pub once : (j : ℕ) → j < n → WritesThere (at t j) (address o) (written o) → ⊥
 
 pub record Follows (t : Trace) (n : ℕ) (o : Op) : Type 0 where
   pub keeps : Bounded o

@@ -22,6 +22,7 @@ use Rattle.laws.proofs.Tests.{test}
 use Rattle.trace.specs.Bounds.{RECORDS}
 use Rattle.trace.specs.Meaning.{frameOf}
 use Rattle.trace.specs.WellFormed.{wellFormed}
+use Rattle.trace.specs.Padded.{padded}
 use Rattle.rules.specs.Order.{Valid}
 use Rattle.trace.specs.declared.Trace.{Trace}
 use Rattle.trace.proofs.Good.{good}
@@ -43,7 +44,7 @@ use Rattle.pairs.proofs.MissingOf.{missing-lowest}
 use Rattle.rules.proofs.Says.{order-says}
 use Rattle.search.specs.FirstOrder.{found?, FirstOrderBy}
 use Rattle.search.specs.declared.Order as first
-use Rattle.verdict.specs.VerdictOf.{padded, bare, laid, Orderless, ToldBy, Told}
+use Rattle.verdict.specs.VerdictOf.{bare, laid, Orderless, ToldBy, Told}
 use Rattle.verdict.specs.declared.Outcome.the-variants.{NoSource, Circle, Order, NoneLeft, NoModel, NotWellFormed}
 use Rattle.verdict.specs.declared.Verdict.{Verdict}
 

@@ -17,6 +17,7 @@ use Rattle.laws.proofs.Tests.{test}
 use Rattle.trace.specs.Bounds.{RECORDS}
 use Rattle.trace.specs.Meaning.{frameOf}
 use Rattle.trace.specs.WellFormed.{wellFormed}
+use Rattle.trace.specs.Padded.{padded}
 use Rattle.trace.specs.declared.Trace.{Trace}
 use Rattle.trace.proofs.Good.{good}
 use Rattle.rules.specs.Rules.{Chains, Edge, nothing}
@@ -26,7 +27,7 @@ use Rattle.pairs.specs.Kept.{modelled, keptOf}
 use Rattle.circle.proofs.ShownIn.{zeros}
 use Rattle.rules.specs.Verdict as said
 use Rattle.pairs.proofs.ValidOrders.{well-fits, well-kept}
-use Rattle.verdict.specs.VerdictOf.{padded, RecordNumbers, laid, Told}
+use Rattle.verdict.specs.VerdictOf.{RecordNumbers, laid, Told}
 use Rattle.verdict.specs.declared.Verdict.{Verdict}
 
 pub numbers-take : (n : ℕ) (xs : List ℕ) → RecordNumbers xs → RecordNumbers (take n xs)

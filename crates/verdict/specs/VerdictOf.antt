@@ -1,7 +1,6 @@
 -- The verdict as the code holds it.
 --
 --   refusedBy o   == document 01's number of an outcome that turns the question back; 0 of any other
---   padded xs     == a list in an array of RECORDS places, the unused ones 0
 --   RecordNumbers xs == each of xs is a record's number
 --   bare o        == an outcome that has no operations
 --   laid v        == a verdict as the code holds it
@@ -12,12 +11,13 @@
 --   Told t m r    == what `verdict_of` promises of any trace under any model: 9 before 10, then the verdict that `Says` allows; its operations have places
 use mathlib.Core.Path.{_≡_}
 use mathlib.Core.Bool.{false, So}
-use mathlib.Core.List.{List, _++_}
+use mathlib.Core.List.{List}
 use mathlib.Core.Option.{Option, none, some}
-use Prim.Native.Nat.{ℕ, _-_, _≤_, _<_}
+use Prim.Native.Nat.{ℕ, _≤_, _<_}
 use lib.ListN.{length, getD, take, replicate}
 use Rattle.laws.specs.Relation.{Table}
 use Rattle.trace.specs.Bounds.{RECORDS}
+use Rattle.trace.specs.Padded.{padded}
 use Rattle.trace.specs.Meaning.{frameOf}
 use Rattle.rules.specs.Order.{Valid}
 use Rattle.trace.specs.WellFormed.{wellFormed}
@@ -37,9 +37,6 @@ refusedBy Order = 0
 refusedBy NoneLeft = 0
 refusedBy NoModel = 9
 refusedBy NotWellFormed = 10
-
-abbrev pub padded : List ℕ → List ℕ
-padded xs = xs ++ replicate (RECORDS - length xs) 0
 
 abbrev pub RecordNumbers : List ℕ → Type 0
 RecordNumbers xs = (i : ℕ) → getD xs i 0 < RECORDS

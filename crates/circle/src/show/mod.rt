@@ -6,7 +6,7 @@ ghost use Rattle.trace.specs.Meaning.{frameOf};
 ghost use Rattle.rows.specs.Rows.{bit};
 ghost use Rattle.rows.specs.Lent.{lentOf};
 ghost use Rattle.rules.specs.Circle.{after};
-ghost use Rattle.circle.specs.inner.NamedRules.{Named};
+ghost use Rattle.circle.specs.inner.NamedRules.{RulesNamed};
 ghost use Rattle.circle.specs.CircleOf.{CircleBy, CircleOf};
 use crate::trail::shown;
 use edges::force::last_round_by;
@@ -44,7 +44,7 @@ fn name_rules(
     rules: &mut [u8],
 )
     requires { ⌜ (len ≤ length (now operations)) × (len ≤ length (now rules)) ⌝ }
-    ensures { λ r. ⌜ Named (frameOf t) (lentOf t (now (kept .entry))) (bit (now (chains .entry))) (take len (now (operations .entry))) len (now (rules .entry)) (now (rules .exit)) ⌝ }
+    ensures { λ r. ⌜ RulesNamed (frameOf t) (lentOf t (now (kept .entry))) (bit (now (chains .entry))) (take len (now (operations .entry))) len (now (rules .entry)) (now (rules .exit)) ⌝ }
 {
     let mut i: usize = 0;
     while i < len {

@@ -4,7 +4,7 @@ ghost use mathlib.Core.List.{_++_};
 ghost use Prim.Native.Nat.{_≤_};
 ghost use lib.ListN.{length, drop};
 ghost use Rattle.desk.specs.PaperCall.{acceptanceNumber, Papered};
-ghost use Rattle.desk.specs.PaperWritten.{LIST, listedNumber, shown?, lengthOf, halves, PaperAsked};
+ghost use Rattle.desk.specs.PaperWritten.{LIST, listedNumber, listShown?, lengthOf, halves, PaperAsked};
 use crate::answers::ACCEPTED;
 use crate::answers::NO_ROOM;
 use crate::answers::NOT_ACCEPTED;
@@ -65,7 +65,7 @@ fn listed_number(w: Listed) -> u8
 
 // Whether a list is shown.
 fn shown(w: Listed) -> bool
-    ensures { λ r. ⌜ r ≡ shown? w ⌝ }
+    ensures { λ r. ⌜ r ≡ listShown? w ⌝ }
 {
     match w {
         Listed::NoModel => false,

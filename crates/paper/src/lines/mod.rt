@@ -8,7 +8,7 @@ use saying::say_usize;
 // The rule of an entry that splits its branch; 0 closes it, the others are the rules of an edge.
 const SPLIT: u16 = 8;
 
-const CIRCLE: u16 = 0;
+const CLOSE: u16 = 0;
 
 // How many splits may be open at once.
 pub const OPEN: usize = 1024;
@@ -95,7 +95,7 @@ fn entry_at(list: &[u16], at: usize) -> Entry
     let n = list.len();
     if n - at < 4 {
         return Entry {
-            rule: CIRCLE,
+            rule: CLOSE,
             x: 0,
             y: 0,
             from: n,
@@ -152,7 +152,7 @@ fn say_edge(list: &[u16], e: Entry, number: usize) -> bool {
 
 // Prints the line of an entry.
 fn say_entry(list: &[u16], e: Entry, number: usize) -> bool {
-    if e.rule == CIRCLE {
+    if e.rule == CLOSE {
         return say(b"circle") & say_rest(list, e.from, e.end);
     }
     if e.rule == SPLIT {
@@ -216,7 +216,7 @@ fn stepped(e: Entry, w: Walk, numbers: &mut [usize], xs: &mut [u16], ys: &mut [u
     if e.rule == SPLIT {
         return opened(e, w, numbers, xs, ys);
     }
-    if e.rule == CIRCLE {
+    if e.rule == CLOSE {
         return closed(w, numbers, xs, ys);
     }
     passed(w)

@@ -6,7 +6,7 @@ use mathlib.Core.Bool.{not, _&&_, _||_}
 use Prim.Native.Nat.{ℕ}
 use lib.Dec.{eqb}
 use Rattle.laws.specs.Relation.{Table}
-use Rattle.laws.specs.inner.Warshall.{chains}
+use Rattle.laws.specs.Warshall.{chains}
 use Rattle.rules.specs.Frame.{Frame}
 use Rattle.rules.specs.RuleTests.{source?}
 use Rattle.parts.specs.Removal.{Set}

@@ -29,8 +29,8 @@ use Rattle.rows.specs.Rows.{bit}
 use Rattle.pairs.specs.Kept.{keptOf}
 use Rattle.edges.specs.Supposed.{supposedOf}
 use Rattle.papers.specs.Paper.{Claim, named}
-use Rattle.reasons.specs.inner.Telling.{inside}
-use Rattle.reasons.specs.inner.Writing.{fallen, heldIn, readFrom, open?, choose}
+use Rattle.reasons.specs.Telling.{inside}
+use Rattle.reasons.specs.Writing.{fallen, heldIn, readFrom, open?, choose}
 use Rattle.reasons.specs.declared.choice.Choice.{Choice}
 use Rattle.reasons.specs.declared.choice.Next.{Next}
 use Rattle.reasons.specs.declared.choice.Next.the-variants.{Circle, Split}

@@ -11,7 +11,7 @@ use Rattle.laws.specs.Relation.{Table}
 use Rattle.rules.specs.Frame.{Frame}
 use Rattle.papers.specs.Paper.{Claim, named, branchRoom}
 use Rattle.reasons.specs.inner.Fair.{Fair}
-use Rattle.reasons.specs.inner.Writing.{fallen, choose}
+use Rattle.reasons.specs.Writing.{fallen, choose}
 
 pub data Closable (f : Frame) (K : Table) : ℕ → List Claim → Type 0 where
   closes : {m : ℕ} {E : List Claim} → Fair (f .records) E → So (fallen f K E) → Closable f K m E

@@ -12,7 +12,7 @@ use Rattle.laws.specs.Relation.{Table}
 use Rattle.trace.specs.Bounds.{RECORDS}
 use Rattle.rules.specs.Frame.{Frame}
 use Rattle.papers.specs.Paper.{Claim, Entry}
-use Rattle.reasons.specs.inner.Telling.{edgesOf, inside, numbers, along, tell}
+use Rattle.reasons.specs.Telling.{edgesOf, inside, numbers, along, tell}
 use Rattle.reasons.specs.declared.story.Rest.{Rest}
 
 abbrev pub restingOn : (List Claim → ℕ → ℕ → List Entry) → List Claim → ℕ → ℕ → ℕ → ℕ → List ℕ → ℕ → List Entry

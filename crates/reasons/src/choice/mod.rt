@@ -12,7 +12,7 @@ ghost use Rattle.rows.specs.Rows.{bit};
 ghost use Rattle.rules.specs.RuleTests.{writer?};
 ghost use Rattle.pairs.specs.Kept.{modelled, keptOf};
 ghost use Rattle.papers.specs.Paper.{Claim, named};
-ghost use Rattle.reasons.specs.inner.Writing.{fallen, choose};
+ghost use Rattle.reasons.specs.Writing.{fallen, choose};
 ghost use Rattle.reasons.specs.inner.Choice.{BOTH, rankOf, ReadRow, SupposedIn, Known, Higher, Best, ChosenPair, NextIn};
 use edges::force::forced;
 use pairs::frame::writer;

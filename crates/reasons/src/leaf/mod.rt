@@ -11,9 +11,9 @@ ghost use Rattle.edges.specs.Supposed.{supposedOf};
 ghost use Rattle.papers.specs.Paper.{BRANCH, spell};
 ghost use Rattle.papers.specs.inner.ReaderBranch.{branchOf};
 ghost use Rattle.reasons.specs.inner.Fair.{Fair};
-ghost use Rattle.reasons.specs.inner.Telling.{inside, along, tell};
-ghost use Rattle.reasons.specs.inner.Writing.{fallen, closing, leafOf};
-ghost use Rattle.reasons.specs.inner.Laid.{ToldBy};
+ghost use Rattle.reasons.specs.Telling.{inside, along, tell};
+ghost use Rattle.reasons.specs.Writing.{fallen, closing, leafOf};
+ghost use Rattle.reasons.specs.inner.Laid.{EntriesTold};
 ghost use Rattle.reasons.specs.inner.PutKept.{PutKept};
 use crate::naming::Put;
 use crate::naming::Told;
@@ -26,7 +26,7 @@ use trace::RECORDS;
 use trace::Trace;
 
 // How an entry that closes a branch begins.
-const CIRCLE: u16 = 0;
+const CLOSE: u16 = 0;
 
 // Tells the edges of round k from a by the steps to b, one after the other.
 fn tell_all(
@@ -46,7 +46,7 @@ fn tell_all(
     at: usize,
 ) -> Told
     requires { ⌜ So (wellFormed t) × So (modelled model) × (len ≤ length (now steps)) × (at ≤ limit) × (count ≤ BRANCH) × (length (now from) ≡ BRANCH) × (length (now to) ≡ BRANCH) ⌝ }
-    ensures { λ r. ⌜ ToldBy limit (now (from .entry)) (now (to .entry)) (now (out .entry)) count at (along (tell (frameOf t) (keptOf model t) (supposedOf t (now (supposed .entry))) k) (branchOf (now (from .entry)) (now (to .entry)) count) a (take len (now (steps .entry))) b) (now (from .exit)) (now (to .exit)) (now (out .exit)) r ⌝ }
+    ensures { λ r. ⌜ EntriesTold limit (now (from .entry)) (now (to .entry)) (now (out .entry)) count at (along (tell (frameOf t) (keptOf model t) (supposedOf t (now (supposed .entry))) k) (branchOf (now (from .entry)) (now (to .entry)) count) a (take len (now (steps .entry))) b) (now (from .exit)) (now (to .exit)) (now (out .exit)) r ⌝ }
 {
     let mut x = a;
     let mut n = count;
@@ -134,7 +134,7 @@ fn close(
         Told::On(m, p) => {
             let mut rests = [0u16; RECORDS];
             number_all(from, to, m, s, steps, len, s, &mut rests);
-            lay_entry(CIRCLE, s, s, len + 1, &rests, out, limit, p)
+            lay_entry(CLOSE, s, s, len + 1, &rests, out, limit, p)
         }
         Told::Over => Put::Full,
     }

@@ -5,8 +5,8 @@ ghost use Prim.Native.Nat.{_+_, _<_, _≤_};
 ghost use lib.ListN.{length, take};
 ghost use Rattle.papers.specs.Paper.{BRANCH, spell};
 ghost use Rattle.papers.specs.inner.ReaderBranch.{branchOf};
-ghost use Rattle.reasons.specs.inner.Telling.{entryPlace, entryNumber, numbers};
-ghost use Rattle.reasons.specs.inner.Laid.{PutAt, ToldBy};
+ghost use Rattle.reasons.specs.Telling.{entryPlace, entryNumber, numbers};
+ghost use Rattle.reasons.specs.inner.Laid.{PutAt, EntriesTold};
 use papers::BRANCH;
 
 // The place after numbers that were laid, or that they pass the limit.
@@ -127,7 +127,7 @@ pub(crate) fn name(
     at: usize,
 ) -> Told
     requires { ⌜ (k ≤ length (now rests)) × (k < 65536) × (at ≤ limit) × (length (now from) ≡ BRANCH) × (length (now to) ≡ BRANCH) ⌝ }
-    ensures { λ r. ⌜ ToldBy limit (now (from .entry)) (now (to .entry)) (now (out .entry)) count at (record { rule = rule; from = x; to = y; rests = take k (now (rests .entry)) } ∷ []) (now (from .exit)) (now (to .exit)) (now (out .exit)) r ⌝ }
+    ensures { λ r. ⌜ EntriesTold limit (now (from .entry)) (now (to .entry)) (now (out .entry)) count at (record { rule = rule; from = x; to = y; rests = take k (now (rests .entry)) } ∷ []) (now (from .exit)) (now (to .exit)) (now (out .exit)) r ⌝ }
 {
     if BRANCH <= count {
         return Told::Over;

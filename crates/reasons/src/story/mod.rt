@@ -14,9 +14,9 @@ ghost use Rattle.rows.specs.Rows.{bit};
 ghost use Rattle.edges.specs.Supposed.{supposedOf};
 ghost use Rattle.papers.specs.Paper.{BRANCH};
 ghost use Rattle.papers.specs.inner.ReaderBranch.{branchOf};
-ghost use Rattle.reasons.specs.inner.Telling.{numbers, restLoad, tell};
+ghost use Rattle.reasons.specs.Telling.{numbers, restLoad, tell};
 ghost use Rattle.reasons.specs.inner.Rests.{RestsOn};
-ghost use Rattle.reasons.specs.inner.Laid.{ToldBy};
+ghost use Rattle.reasons.specs.inner.Laid.{EntriesTold};
 use crate::naming::Told;
 use crate::naming::name;
 use crate::naming::number_all;
@@ -126,7 +126,7 @@ fn name_resting(
     at: usize,
 ) -> Told
     requires { ⌜ (rest .from < 65536) × (rest .to < 65536) × (rest .len ≤ RECORDS) × (length (now steps) ≡ RECORDS) × (at ≤ limit) × (count ≤ BRANCH) × (length (now from) ≡ BRANCH) × (length (now to) ≡ BRANCH) ⌝ }
-    ensures { λ r. ⌜ ToldBy limit (now (from .entry)) (now (to .entry)) (now (out .entry)) count at (record { rule = rest .rule; from = x; to = y; rests = numbers (branchOf (now (from .entry)) (now (to .entry)) count) (rest .from) (take (rest .len) (now (steps .entry))) (rest .to) } ∷ []) (now (from .exit)) (now (to .exit)) (now (out .exit)) r ⌝ }
+    ensures { λ r. ⌜ EntriesTold limit (now (from .entry)) (now (to .entry)) (now (out .entry)) count at (record { rule = rest .rule; from = x; to = y; rests = numbers (branchOf (now (from .entry)) (now (to .entry)) count) (rest .from) (take (rest .len) (now (steps .entry))) (rest .to) } ∷ []) (now (from .exit)) (now (to .exit)) (now (out .exit)) r ⌝ }
 {
     let a = rest.from as u16;
     let b = rest.to as u16;
@@ -164,7 +164,7 @@ pub(crate) fn tell(
     at: usize,
 ) -> Told
     requires { ⌜ So (wellFormed t) × So (modelled model) × (x < 65536) × (y < 65536) × (at ≤ limit) × (count ≤ BRANCH) × (length (now from) ≡ BRANCH) × (length (now to) ≡ BRANCH) ⌝ }
-    ensures { λ r. ⌜ ToldBy limit (now (from .entry)) (now (to .entry)) (now (out .entry)) count at (tell (frameOf t) (keptOf model t) (supposedOf t (now (supposed .entry))) k (branchOf (now (from .entry)) (now (to .entry)) count) x y) (now (from .exit)) (now (to .exit)) (now (out .exit)) r ⌝ }
+    ensures { λ r. ⌜ EntriesTold limit (now (from .entry)) (now (to .entry)) (now (out .entry)) count at (tell (frameOf t) (keptOf model t) (supposedOf t (now (supposed .entry))) k (branchOf (now (from .entry)) (now (to .entry)) count) x y) (now (from .exit)) (now (to .exit)) (now (out .exit)) r ⌝ }
 {
     let p = x as u16;
     let q = y as u16;

@@ -10,11 +10,11 @@ use Prim.Native.Nat.{ℕ, zero, suc, _*_}
 use lib.ListN.{getD}
 use Rattle.laws.specs.Tests.{_⇒_, all, any}
 use Rattle.laws.specs.Relation.{Table}
-use Rattle.laws.specs.inner.Warshall.{memo, chains}
+use Rattle.laws.specs.Warshall.{memo, chains}
 use Rattle.rules.specs.Frame.{Frame}
 use Rattle.rules.specs.Rules.{nothing}
-use Rattle.rules.specs.inner.ComputedRounds.{step?}
-use Rattle.rules.specs.inner.ComputedWalks.{shown?}
+use Rattle.rules.specs.ComputedRounds.{step?}
+use Rattle.rules.specs.ComputedWalks.{shown?}
 use Rattle.rules.specs.ShownCircle.{rule?}
 
 unfoldable pub rulesOf : Frame → Table → Table → Table → ℕ → List ℕ → List ℕ

@@ -8,6 +8,9 @@
 --   Ranking               == the same for all such writers of all loads below n that have a source
 --   Grown O a b           == the rows b rank nothing that a did not, in rankings with O
 --   Partly before a b     == the rows b have what a has, some of `before` and no more
+--   Unranked rows         == no ranking has the rows
+--   Falls .. x y          == none has x below y
+--   Apart n writers pos   == two writers of one address are not ranked alike
 --   Refuted ..            == there is no ranking at all
 use mathlib.Core.Path.{_≡_}
 use mathlib.Core.Logic.{_≢_, _⊎_}
@@ -52,5 +55,14 @@ pub record Partly (before a b : List ℕ) : Type 0 where
   pub long : length b ≡ length a
   pub pairs : (x y : ℕ) → So (bit b x y) → So (bit a x y) ⊎ So (bit before x y)
 
+abbrev pub Unranked : List ℕ → Type 0
+Unranked rows = (pos : ℕ → ℕ) → RankedRows rows pos → ⊥
+
+abbrev pub Falls : ℕ → List ℕ → List ℕ → List ℕ → List ℕ → ℕ → ℕ → Type 0
+Falls n rows writers sources placed x y = (pos : ℕ → ℕ) → Ranking n writers sources placed pos → RankedRows rows pos → pos x < pos y → ⊥
+
+abbrev pub Apart : ℕ → List ℕ → (ℕ → ℕ) → Type 0
+Apart n writers pos = (x y : ℕ) → y < n → So (bit writers y x) → pos x ≡ pos y → ⊥
+
 abbrev pub Refuted : ℕ → List ℕ → List ℕ → List ℕ → List ℕ → Type 0
-Refuted n before writers sources placed = (pos : ℕ → ℕ) → Ranking n writers sources placed pos → RankedRows before pos → ⊥
+Refuted n before writers sources placed = (pos : ℕ → ℕ) → Apart n writers pos → Ranking n writers sources placed pos → RankedRows before pos → ⊥

@@ -1,5 +1,5 @@
-// The third stop: with all that is placed before all that is not, rules 6 and 7 close a circle. Of the trace only the tables are looked at, and
-// where no circle is found nothing is promised: how often it is asked, over which numbers it goes, and how many rounds, is a matter of time alone.
+// What the third stop draws: with all that is placed before all that is not, rules 6 and 7 may close a circle. Of the trace only the tables are looked
+// at, and where no circle is found nothing is promised: over which numbers it goes, and how many rounds, is a matter of time alone.
 // What is held is closed, and so is what of it is not placed; what is added is added with all that follows from it, to whole rows at once, so that
 // nothing is closed anew. What is held obeys rules 6 and 7, so that only rows that took something new can give something new.
 ghost use mathlib.Core.Path.{_≡_};
@@ -7,9 +7,9 @@ ghost use mathlib.Core.Bool.{So};
 ghost use Prim.Native.Nat.{ℕ, _<_, _≤_};
 ghost use lib.ListN.{length};
 ghost use Rattle.trace.specs.Bounds.{RECORDS};
-ghost use Rattle.rows.specs.Bounds.{CELLS};
+ghost use Rattle.rows.specs.Bounds.{CELLS, WORDS};
 ghost use Rattle.rows.specs.Rows.{bit};
-ghost use Rattle.search.specs.inner.Refutation.{Below, Parted, Leads, Sixth, Settling, Ranking, Grown, Partly, Refuted};
+ghost use Rattle.search.specs.inner.Refutation.{Below, Parted, Leads, Sixth, Settling, Ranking, Grown, Partly, Unranked};
 use crate::sets::rest;
 use trace::RECORDS;
 
@@ -39,7 +39,7 @@ fn lead(left: &[u64], ahead: &[u64], heads: &[u64], led: &mut [u64], changed: &m
 }
 
 // Lets x come before all that `heads` has, and with it what is before x.
-fn lead_all(left: &[u64], x: usize, heads: &[u64], led: &mut [u64], changed: &mut [u64])
+pub(crate) fn lead_all(left: &[u64], x: usize, heads: &[u64], led: &mut [u64], changed: &mut [u64])
     requires { ⌜ length (now led) ≡ CELLS ⌝ }
     ensures { λ r. ⌜ Grown (Leads x (now (heads .entry))) (now (led .entry)) (now (led .exit)) ⌝ }
 {
@@ -107,7 +107,7 @@ fn settle_for(
 }
 
 // Draws what the writers that are not placed give every load whose source is placed: the placed come before the others.
-fn part(
+pub(crate) fn part(
     left: &[u64],
     writers: &[u64],
     sources: &[usize],
@@ -162,7 +162,7 @@ fn leave_row(before: &[u64], placed: &[u64], y: usize, led: &mut [u64])
 }
 
 // Adds what is before each number of a row, but for what is placed: that comes before all the others anyway, so no circle leads through it.
-fn leave(left: &[u64], before: &[u64], placed: &[u64], led: &mut [u64])
+pub(crate) fn leave(left: &[u64], before: &[u64], placed: &[u64], led: &mut [u64])
     requires { ⌜ length (now led) ≡ CELLS ⌝ }
     ensures { λ r. ⌜ Partly (now (before .entry)) (now (led .entry)) (now (led .exit)) ⌝ }
 {
@@ -173,32 +173,31 @@ fn leave(left: &[u64], before: &[u64], placed: &[u64], led: &mut [u64])
     }
 }
 
-// Whether no list with this set can go on to a valid order, as far as the rules show it, told what is left to place.
-pub(crate) fn refuted(
+// Draws what rules 6 and 7 give, round after round, and tells whether they close a circle. What changed before is told, and what changed last.
+pub(crate) fn circular(
     left: &[u64],
-    before: &[u64],
     writers: &[u64],
     sources: &[usize],
     placed: &[u64],
+    led: &mut [u64],
+    changed: &mut [u64],
 ) -> bool
-    requires { ⌜ length (now sources) ≤ RECORDS ⌝ }
-    ensures { λ r. ⌜ (So r → Refuted (length (now (sources .entry))) (now (before .entry)) (now (writers .entry)) (now (sources .entry)) (now (placed .entry))) ⌝ }
+    requires { ⌜ (length (now sources) ≤ RECORDS) × (length (now led) ≡ CELLS) × (length (now changed) ≡ WORDS) ⌝ }
+    ensures { λ r. ⌜ Grown (Ranking (length (now (sources .entry))) (now (writers .entry)) (now (sources .entry)) (now (placed .entry))) (now (led .entry)) (now (led .exit)) ⌝ }
+    ensures { λ r. ⌜ (So r → Unranked (now (led .exit))) ⌝ }
 {
-    let mut led = [0u64; rows::CELLS];
-    let mut changed = [0u64; rows::WORDS];
-    leave(left, before, placed, &mut led);
-    part(left, writers, sources, placed, &mut led, &mut changed);
     let mut round: usize = 0;
     while round < sources.len() {
-        if rows::reflexive(&led) {
+        if rows::reflexive(led) {
             return true;
         }
-        if RECORDS <= rows::next(&changed, 0, 0) {
+        if RECORDS <= rows::next(changed, 0, 0) {
             return false;
         }
-        let was = changed;
-        rows::clear(&mut changed);
-        settle(left, &was, writers, sources, placed, &mut led, &mut changed);
+        let mut was = [0u64; rows::WORDS];
+        rows::copy(changed, &mut was);
+        rows::clear(changed);
+        settle(left, &was, writers, sources, placed, led, changed);
         round += 1;
     }
     false

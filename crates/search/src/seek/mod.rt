@@ -10,12 +10,12 @@ ghost use Rattle.trace.specs.Bounds.{RECORDS};
 ghost use Rattle.rows.specs.Bounds.{WORDS};
 ghost use Rattle.search.specs.inner.Bounds.{SLOTS};
 ghost use Rattle.search.specs.inner.SearchTables.{tables};
-ghost use Rattle.search.specs.inner.Candidates.{Quiet, Free, Unread, Covered, Stops};
+ghost use Rattle.search.specs.inner.Candidates.{Quiet, MayCome, Unread, Covered, Stops};
 ghost use Rattle.search.specs.inner.DeadSets.{Recalls, Noted};
 ghost use Rattle.search.specs.inner.SearchBelow.{Room, Sought};
-use crate::refute::refuted;
 use crate::sets::join;
 use crate::sets::rest;
+use crate::split::refuted;
 use trace::RECORDS;
 
 // How many sets the memory has room for.
@@ -46,7 +46,7 @@ fn quiet(readers: &[u64], sources: &[usize], placed: &[u64], c: usize) -> bool
 // Whether c, an operation that is not placed, may be placed next.
 fn ready(before: &[u64], readers: &[u64], sources: &[usize], placed: &[u64], c: usize) -> bool
     requires { ⌜ length (now sources) ≤ RECORDS ⌝ }
-    ensures { λ r. ⌜ So r ↔ Free (length (now (sources .entry))) (now (before .entry)) (now (readers .entry)) (now (sources .entry)) (now (placed .entry)) c ⌝ }
+    ensures { λ r. ⌜ So r ↔ MayCome (length (now (sources .entry))) (now (before .entry)) (now (readers .entry)) (now (sources .entry)) (now (placed .entry)) c ⌝ }
 {
     if !rows::within(before, c, placed, 0) {
         return false;

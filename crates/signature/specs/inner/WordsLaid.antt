@@ -78,11 +78,11 @@ placedFrom t τ x i zero = x
 placedFrom t τ x i (suc k) = placedFrom t τ (placedAt t τ x i) (suc i) k
 
 -- what stays when the thread's last word is done with
-unfoldable pub leftOf : Places → Places
-leftOf x = record { word = x .word; below = x .below; range = x .range; at = stepOn (x .at); q = 0 }
+unfoldable pub pastThread : Places → Places
+pastThread x = record { word = x .word; below = x .below; range = x .range; at = stepOn (x .at); q = 0 }
 
 unfoldable pub placedThread : Trace → ℕ → Places → Places
-placedThread t τ x = cond (any (t .len) (reader t τ)) (leftOf (placedFrom t τ x 0 (t .len))) x
+placedThread t τ x = cond (any (t .len) (reader t τ)) (pastThread (placedFrom t τ x 0 (t .len))) x
 
 unfoldable pub placedAll : Trace → Places → ℕ → ℕ → Places
 placedAll t x τ zero = x

@@ -1,12 +1,17 @@
 // What a load or swap may have read, by digit.
 ghost use mathlib.Core.Path.{_≡_};
 ghost use mathlib.Core.Bool.{not, _&&_};
-ghost use Prim.Native.Nat.{suc, _<_, _≤_};
+ghost use Prim.Native.Nat.{suc, _+_, _<_, _≤_};
 ghost use lib.Dec.{eqb};
 ghost use Rattle.laws.specs.Tests.{any};
-ghost use Rattle.trace.specs.Bounds.{RECORDS};
+ghost use Rattle.trace.specs.Bounds.{RECORDS, ADDRESSES};
 ghost use Rattle.trace.specs.Op.{address, writes, reads, thread};
+ghost use Rattle.trace.specs.Trace.{at};
 ghost use Rattle.signature.specs.Reads.{rangeOf, digitOf, valueOf, reader};
+ghost use Rattle.signature.specs.inner.ValuesLaid.{ValuesLaid, AllValues};
+use crate::WrittenValues;
+use trace::ADDRESSES;
+use trace::FIRSTS;
 use trace::Op;
 use trace::RECORDS;
 use trace::Trace;
@@ -70,33 +75,73 @@ pub(crate) fn digit_of(t: Trace, load: usize, value: u16) -> u64
     d
 }
 
-// The value of a digit; 0 past the last one.
-pub(crate) fn value_of(t: Trace, load: usize, digit: u64) -> u16
-    requires { ⌜ (t .len ≤ RECORDS) × (load < t .len) ⌝ }
-    ensures { λ r. ⌜ r ≡ valueOf t load digit ⌝ }
+// What was written to an address, laid behind what was written to those below it.
+fn address_values(t: Trace, addr: u8, x: WrittenValues) -> WrittenValues
+    requires { ⌜ (t .len ≤ RECORDS) × (addr < ADDRESSES) × ValuesLaid t addr x ⌝ }
+    ensures { λ r. ⌜ ValuesLaid t (addr + 1) r ⌝ }
 {
-    let own = t.records[load];
-    let mine = own.op;
-    let addr = mine.address();
-    if digit == 0 {
-        return first(t, addr);
-    }
+    let mut of = x.of;
+    let mut own = x.own;
+    let mut start = x.start;
+    let mut count = x.count;
+    let a = addr as usize;
+    start[a] = count;
     let n = t.len;
-    let mut left = digit;
     let mut i: usize = 0;
     while i < n {
         let record = t.records[i];
         let op = record.op;
-        let another = other(op, addr, i == load);
-        if another & (left == 1) {
-            return op.written();
-        }
-        if another {
-            left -= 1;
+        if op.writes() & (op.address() == addr) {
+            of[count] = op.written();
+            own[i] = count;
+            count += 1;
         }
         i += 1;
     }
-    0
+    WrittenValues {
+        of,
+        count,
+        start,
+        own,
+    }
+}
+
+// What was written to all addresses; it does not look at words.
+pub(crate) fn all_values(t: Trace) -> WrittenValues
+    requires { ⌜ t .len ≤ RECORDS ⌝ }
+    ensures { λ r. ⌜ AllValues t r ⌝ }
+{
+    let mut built = WrittenValues {
+        of: [0; RECORDS],
+        count: 0,
+        start: [0; FIRSTS],
+        own: [RECORDS; RECORDS],
+    };
+    let mut addr: u8 = 0;
+    while addr < ADDRESSES {
+        built = address_values(t, addr, built);
+        addr += 1;
+    }
+    built
+}
+
+// The value of a digit: the first value, or what was written to the address, the load's own value passed over.
+pub(crate) fn value_of(t: Trace, x: WrittenValues, load: usize, digit: u64) -> u16
+    requires { ⌜ (t .len ≤ RECORDS) × (load < t .len) × (address (at t load) < ADDRESSES) × AllValues t x × (digit < rangeOf t load) ⌝ }
+    ensures { λ r. ⌜ r ≡ valueOf t load digit ⌝ }
+{
+    let record = t.records[load];
+    let op = record.op;
+    let addr = op.address();
+    if digit == 0 {
+        return first(t, addr);
+    }
+    let a = addr as usize;
+    let place = x.start[a] + (digit as usize - 1);
+    if x.own[load] <= place {
+        return x.of[place + 1];
+    }
+    x.of[place]
 }
 
 // Whether an operation is a load or swap of a thread.

@@ -6,6 +6,7 @@ ghost use Rattle.signature.specs.ManyRuns.{allReads, unpackRunsOf, unpac
 ghost use Rattle.signature.specs.inner.LoadLists.{RunsGiven};
 use crate::Answer;
 use crate::Found;
+use crate::choices::all_values;
 use crate::packing::all_words;
 use crate::packing::loads_in;
 use crate::unpacking::all_places;
@@ -24,19 +25,20 @@ fn runs_in(reads: usize, loads: usize) -> usize
     reads / loads
 }
 
-// The reads of all runs, put into lent memory of their number. Where the digits stand is worked out once.
+// The reads of all runs, put into lent memory of their number. Where the digits stand and what they may say is worked out once.
 fn put_runs(t: Trace, words: &[u64], each: usize, loads: usize, runs: usize, out: &mut [u16])
     requires { ⌜ RunsGiven t (now words) (now out) each loads runs ⌝ }
     ensures { λ _. ⌜ now (out .exit) ≡ allReads t (now (words .entry)) runs ⌝ }
 {
     let places = all_places(t);
+    let values = all_values(t);
     let mut i: usize = 0;
     while i < runs {
         let from = i * each;
         let to = from + each;
         let start = i * loads;
         let end = start + loads;
-        put_run(t, places, &words[from..to], &mut out[start..end]);
+        put_run(t, places, values, &words[from..to], &mut out[start..end]);
         i += 1;
     }
 }

@@ -5,19 +5,20 @@ ghost use Prim.Native.Nat.{suc, _/_, _%_, _<_, _≤_};
 ghost use lib.ListN.{length, getD};
 ghost use Rattle.laws.specs.Lowest.{lowest};
 ghost use Rattle.trace.specs.Bounds.{RECORDS, THREADS};
-ghost use Rattle.trace.specs.Op.{reads};
-ghost use Rattle.trace.specs.Trace.{at};
 ghost use Rattle.trace.specs.WellFormed.{wellFormed};
 ghost use Rattle.signature.specs.Reads.{each, valueOf, loads};
 ghost use Rattle.signature.specs.Signature.{tops};
 ghost use Rattle.signature.specs.Unpack.{readsOf};
 ghost use Rattle.signature.specs.SignatureAnswers.{unpackOf, unpackLeft};
 ghost use Rattle.signature.specs.inner.WordsLaid.{placedOf, placedAt, placedThread, placesOf, digitBy};
-ghost use Rattle.signature.specs.inner.LoadLists.{foundOf, over, placeAfter, readPut};
+ghost use Rattle.signature.specs.inner.ValuesLaid.{AllValues};
+ghost use Rattle.signature.specs.inner.LoadLists.{foundOf, over, placeAfter, readPut, DigitsSmall, ReadGiven};
 use crate::Answer;
 use crate::Found;
 use crate::Open;
 use crate::Places;
+use crate::WrittenValues;
+use crate::choices::all_values;
 use crate::choices::has_loads;
 use crate::choices::of_thread;
 use crate::choices::range_of;
@@ -169,8 +170,8 @@ pub(crate) fn first_large(words: &[u64], largest: Open) -> Found
 }
 
 // What a record read, if it is a load or swap, put at a place, and the next place.
-fn put_read(t: Trace, digit: u64, i: usize, out: &mut [u16], k: usize) -> usize
-    requires { ⌜ (t .len ≤ RECORDS) × (i < t .len) × (So (reads (at t i)) → k < length (now out)) × (k ≤ i) ⌝ }
+fn put_read(t: Trace, y: WrittenValues, digit: u64, i: usize, out: &mut [u16], k: usize) -> usize
+    requires { ⌜ ReadGiven t y digit i (now out) k ⌝ }
     ensures { λ r. ⌜ (r ≡ placeAfter t i k) × (now (out .exit) ≡ readPut t i k digit (now (out .entry))) ⌝ }
 {
     let record = t.records[i];
@@ -178,13 +179,13 @@ fn put_read(t: Trace, digit: u64, i: usize, out: &mut [u16], k: usize) -> usize
     if !op.reads() {
         return k;
     }
-    out[k] = value_of(t, i, digit);
+    out[k] = value_of(t, y, i, digit);
     k + 1
 }
 
 // What the loads read, by record number, put into lent memory of their number.
-fn put_reads(t: Trace, x: Places, words: &[u64], out: &mut [u16])
-    requires { ⌜ (t .len ≤ RECORDS) × (length (now out) ≡ length (loads t)) ⌝ }
+fn put_reads(t: Trace, x: Places, y: WrittenValues, words: &[u64], out: &mut [u16])
+    requires { ⌜ So (wellFormed t) × AllValues t y × DigitsSmall t x (now words) × (length (now out) ≡ length (loads t)) ⌝ }
     ensures { λ _. ⌜ now (out .exit) ≡ each (λ L. valueOf t L (digitBy x (now (words .entry)) L)) (loads t) ⌝ }
 {
     let n = t.len;
@@ -195,17 +196,17 @@ fn put_reads(t: Trace, x: Places, words: &[u64], out: &mut [u16])
         let q = x.below[i];
         let range = x.range[i];
         let digit = digit_at(words, at, q, range);
-        k = put_read(t, digit, i, out, k);
+        k = put_read(t, y, digit, i, out, k);
         i += 1;
     }
 }
 
 // What the words of a run stand for, put into lent memory of the reads' number.
-pub(crate) fn put_run(t: Trace, x: Places, words: &[u64], out: &mut [u16])
-    requires { ⌜ So (wellFormed t) × (x ≡ placesOf t) × (length (now words) ≡ length (tops t)) × (length (now out) ≡ length (loads t)) ⌝ }
+pub(crate) fn put_run(t: Trace, x: Places, y: WrittenValues, words: &[u64], out: &mut [u16])
+    requires { ⌜ So (wellFormed t) × (x ≡ placesOf t) × AllValues t y × (length (now words) ≡ length (tops t)) × (length (now out) ≡ length (loads t)) ⌝ }
     ensures { λ _. ⌜ now (out .exit) ≡ readsOf t (now (words .entry)) ⌝ }
 {
-    put_reads(t, x, words, out);
+    put_reads(t, x, y, words, out);
 }
 
 // Unpacks words into lent reads, both of the right number; beside a refusal all is as it was.
@@ -225,7 +226,7 @@ pub fn unpack(t: Trace, words: &[u64], reads: &mut [u16]) -> Answer
     match first_large(words, largest) {
         Found::At(k) => Answer::TooLarge(k),
         Found::Nothing => {
-            put_run(t, all_places(t), words, reads);
+            put_run(t, all_places(t), all_values(t), words, reads);
             Answer::Done
         }
     }

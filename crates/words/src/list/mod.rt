@@ -8,7 +8,7 @@ const TENTH: u64 = 1844674407370955161;
 const MAX: u64 = 18446744073709551615;
 
 // What stands there: how many words, and whether there is nothing else.
-pub struct Listed {
+pub struct NumbersRead {
     pub count: usize,
     pub good: bool,
 }
@@ -104,7 +104,7 @@ fn put(list: &mut [u64], i: usize, word: u64) {
 }
 
 // Takes the words into a list; those that have no place are counted no further than the first of them.
-pub fn numbers(bytes: &[u8], list: &mut [u64]) -> Listed
+pub fn numbers(bytes: &[u8], list: &mut [u64]) -> NumbersRead
     ensures { λ r. ⌜ r .count ≤ length (now (list .exit)) ⌝ }
 {
     let mut good = true;
@@ -127,5 +127,5 @@ pub fn numbers(bytes: &[u8], list: &mut [u64]) -> Listed
     if list.len() < count {
         count = list.len();
     }
-    Listed { count, good }
+    NumbersRead { count, good }
 }

@@ -10,14 +10,14 @@ use Rattle.rows.specs.Lent.{lentOf}
 use Rattle.rules.specs.Rules.{nothing}
 use Rattle.rules.specs.Circle.{after}
 use Rattle.rules.specs.ShownCircle.{rule?}
-use Rattle.circle.specs.inner.NamedRules.{Named}
+use Rattle.circle.specs.inner.NamedRules.{RulesNamed}
 use Rattle.circle.proofs.NamedRules.{named-none, named-more}
 use borrow.Author.Needs.{needs}
 use Rattle.circle.proofs.show.name_rules.Statement.{statement}
 use Rattle.circle.proofs.show.name_rules.Tie as tie
 
 abbrev Inv-loop : tie.InvT-loop
-Inv-loop t kept chains len operations rules₀ i₀ rules i = (i ≤ len) × Named (frameOf t) (lentOf t kept) (bit chains) (take len operations) i rules₀ rules
+Inv-loop t kept chains len operations rules₀ i₀ rules i = (i ≤ len) × RulesNamed (frameOf t) (lentOf t kept) (bit chains) (take len operations) i rules₀ rules
 
 abbrev μ-loop : tie.MeasureT-loop
 μ-loop t kept chains len operations rules₀ i₀ rules i = len - i
@@ -71,7 +71,7 @@ returns c =
     let l = c .before in
     let a = l .before .before .before .before .before .args in
     let e : l .loop .i ≡ a .len = omega arith in
-    subst (λ (n : ℕ). Named (frameOf (a .t)) (lentOf (a .t) (a .kept .now)) (bit (a .chains .now)) (take (a .len) (a .operations .now)) n (a .rules .now) (l .loop .rules)) e (l .loop .inv .1)
+    subst (λ (n : ℕ). RulesNamed (frameOf (a .t)) (lentOf (a .t) (a .kept .now)) (bit (a .chains .now)) (take (a .len) (a .operations .now)) n (a .rules .now) (l .loop .rules)) e (l .loop .inv .1)
 
 pub name-rules-spec : {M : Type 1} → statement M
 name-rules-spec =

@@ -9,7 +9,7 @@ use Rattle.laws.proofs.Tests.{off, and-iff, not-iff, same-iff, so-le}
 use Rattle.trace.specs.Meaning.{frameOf}
 use Rattle.pairs.specs.Kept.{keptOf}
 use Rattle.papers.specs.Paper.{named}
-use Rattle.reasons.specs.inner.Writing.{fallen}
+use Rattle.reasons.specs.Writing.{fallen}
 use Rattle.reasons.specs.inner.Choice.{BOTH, Higher}
 use Rattle.reasons.proofs.Ranks.{higher-by, ranked-half, ranked-one, ranked-none, open-known, open-operations}
 use borrow.Author.Needs.{needs}

@@ -7,7 +7,7 @@ use Rattle.trace.specs.Meaning.{frameOf}
 use Rattle.pairs.specs.Kept.{keptOf}
 use Rattle.edges.specs.Supposed.{supposedOf}
 use Rattle.papers.specs.inner.ReaderBranch.{branchOf}
-use Rattle.reasons.specs.inner.Telling.{tell}
+use Rattle.reasons.specs.Telling.{tell}
 use Rattle.reasons.proofs.Along.{Along, along-start, along-on, along-over, along-end}
 use Rattle.reasons.proofs.Joining.{told-on, told-over}
 use borrow.Author.Needs.{needs}

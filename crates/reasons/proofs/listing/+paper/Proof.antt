@@ -9,7 +9,7 @@ use Rattle.pairs.specs.Kept.{keptOf}
 use Rattle.papers.specs.Paper.{BRANCH, Entry, named, spell}
 use Rattle.papers.specs.inner.ReaderBranch.{branchOf}
 use Rattle.papers.proofs.Branches.{branch-long}
-use Rattle.reasons.specs.inner.Writing.{paperOf}
+use Rattle.reasons.specs.Writing.{paperOf}
 use Rattle.reasons.specs.inner.PutKept.{PutKept}
 use Rattle.reasons.proofs.Laying.{put-at}
 use Rattle.reasons.proofs.Closed.{numbered}

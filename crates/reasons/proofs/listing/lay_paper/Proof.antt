@@ -2,7 +2,7 @@
 use Rattle.trace.specs.Meaning.{frameOf}
 use Rattle.pairs.specs.Kept.{keptOf}
 use Rattle.papers.specs.Paper.{spell}
-use Rattle.reasons.specs.inner.Writing.{paper}
+use Rattle.reasons.specs.Writing.{paper}
 use Rattle.reasons.proofs.Laying.{put-at}
 use Rattle.reasons.proofs.Answers.{front-long, front-laid}
 use borrow.Author.Needs.{needs}

@@ -5,7 +5,7 @@ use Prim.Native.Nat.{_+_, _≤_, _-_}
 use native.Mathlib.Omega.{arith}
 use lib.ListN.{length, take, drop, length-set}
 use Rattle.papers.specs.inner.ReaderBranch.{branchOf}
-use Rattle.reasons.specs.inner.Telling.{numbers}
+use Rattle.reasons.specs.Telling.{numbers}
 use Rattle.reasons.proofs.Laying.{numbers-step, numbers-end}
 use borrow.Author.Needs.{needs}
 use Rattle.reasons.proofs.naming.number_all.Statement.{statement}

@@ -8,7 +8,7 @@ use Rattle.laws.specs.Latest.{lastOf}
 use Rattle.laws.proofs.Latest.{last-none, last-on, last-off, last-all}
 use Rattle.trace.specs.Bounds.{RECORDS}
 use Rattle.rows.specs.Rows.{bit}
-use Rattle.reasons.specs.inner.Ways.{stepOf}
+use Rattle.reasons.specs.Ways.{stepOf}
 use borrow.Author.Needs.{needs}
 use Rattle.reasons.proofs.paths.onward.Statement.{statement}
 use Rattle.reasons.proofs.paths.onward.Tie as tie

@@ -6,7 +6,7 @@ use native.Mathlib.Omega.{arith}
 use lib.ListN.{length, take, length-set}
 use Rattle.trace.specs.Bounds.{RECORDS}
 use Rattle.rows.specs.Rows.{bit}
-use Rattle.reasons.specs.inner.Ways.{stepOf, wayOf}
+use Rattle.reasons.specs.Ways.{stepOf, wayOf}
 use Rattle.reasons.proofs.Laying.{way-step, way-stop, way-over}
 use borrow.Author.Needs.{needs}
 use Rattle.reasons.proofs.paths.way.Statement.{statement}

@@ -11,8 +11,8 @@ use Rattle.edges.specs.Supposed.{supposedOf}
 use Rattle.papers.specs.Paper.{BRANCH, Entry}
 use Rattle.papers.specs.inner.ReaderBranch.{branchOf}
 use Rattle.papers.proofs.Branches.{branch-long}
-use Rattle.reasons.specs.inner.Telling.{tell as telling}
-use Rattle.reasons.specs.inner.Laid.{ToldBy}
+use Rattle.reasons.specs.Telling.{tell as telling}
+use Rattle.reasons.specs.inner.Laid.{EntriesTold}
 use Rattle.reasons.specs.declared.naming.Told.the-variants.{On, Over}
 use Rattle.reasons.proofs.Joining.{told-none, told-on, told-over}
 use Rattle.reasons.proofs.Along.{Along, along-start, along-on, along-over, along-end}
@@ -84,7 +84,7 @@ tell-returns t c =
     let s = c .before .before .before .before .before .before .before .before in
     let a = s .args in
     let i = inside-place (branchOf (a .from .now) (a .to .now) (a .count)) (a .x) (a .y) .0 (omega (arith, branch-long (a .from .now) (a .to .now) (a .count), c .before .place .ensures, c .if1 .taken)) in
-    subst (λ (es : List Entry). ToldBy (a .limit) (a .from .now) (a .to .now) (a .out .now) (a .count) (a .at) es (a .from .now) (a .to .now) (a .out .now) (On (a .count) (a .at))) (sym (tell-inside (frameOf (a .t)) (keptOf (a .model) (a .t)) (supposedOf (a .t) (a .supposed .now)) (branchOf (a .from .now) (a .to .now) (a .count)) (a .x) (a .y) (a .k) i))
+    subst (λ (es : List Entry). EntriesTold (a .limit) (a .from .now) (a .to .now) (a .out .now) (a .count) (a .at) es (a .from .now) (a .to .now) (a .out .now) (On (a .count) (a .at))) (sym (tell-inside (frameOf (a .t)) (keptOf (a .model) (a .t)) (supposedOf (a .t) (a .supposed .now)) (branchOf (a .from .now) (a .to .now) (a .count)) (a .x) (a .y) (a .k) i))
     (told-none (a .limit) (a .from .now) (a .to .now) (a .out .now) (a .count) (a .at) (s .pre .1 .5) (s .pre .1 .4))
 
 tell-slice-aggregate-rests-on : (t : ℕ) → tell-lts.Need-slice-aggregate-rests-on (calls t) (tell-at t) tell.Post tell-Inv-loop tell-μ-loop

@@ -2,7 +2,7 @@
 use mathlib.Core.Path.{_≡_, subst}
 use mathlib.Core.List.{List, [], _∷_}
 use Prim.Native.Nat.{ℕ}
-use Rattle.reasons.specs.inner.Laid.{ToldBy}
+use Rattle.reasons.specs.inner.Laid.{EntriesTold}
 use borrow.Author.Needs.{needs}
 use Rattle.reasons.proofs.story.name_resting.Statement.{statement}
 use Rattle.reasons.proofs.story.name_resting.Tie as tie
@@ -42,7 +42,7 @@ returns c =
     let m = c .before .before .before .before .before .before in
     let s = c .before .before .before .before .before .before .before .before .before .before .before .before .before .before .before .before .before .before .before .before .before .before in
     let a = s .args in
-    subst (λ (is : List ℕ). ToldBy (a .limit) (a .from .now) (a .to .now) (a .out .now) (a .count) (a .at) (record { rule = a .rest .rule; from = a .x; to = a .y; rests = is } ∷ []) (m .name .last .1 .1 .1 .1 .1 .0) (m .name .last .1 .1 .1 .1 .1 .1 .0) (m .name .last .1 .1 .1 .1 .1 .1 .1 .1 .0) (m .name .result)) (c .before .before .before .before .before .before .before .before .before .before .before .before .number-all .ensures) (m .name .ensures)
+    subst (λ (is : List ℕ). EntriesTold (a .limit) (a .from .now) (a .to .now) (a .out .now) (a .count) (a .at) (record { rule = a .rest .rule; from = a .x; to = a .y; rests = is } ∷ []) (m .name .last .1 .1 .1 .1 .1 .0) (m .name .last .1 .1 .1 .1 .1 .1 .0) (m .name .last .1 .1 .1 .1 .1 .1 .1 .1 .0) (m .name .result)) (c .before .before .before .before .before .before .before .before .before .before .before .before .number-all .ensures) (m .name .ensures)
 
 pub name-resting-spec : {M : Type 1} → statement M
 name-resting-spec =

@@ -5,7 +5,7 @@ use native.Mathlib.Omega.{arith}
 use borrow.Author.Tests.{eq-eqb, ne-eqb}
 use Rattle.trace.specs.Meaning.{frameOf}
 use Rattle.rows.specs.Rows.{bit}
-use Rattle.reasons.specs.inner.Telling.{restLoad}
+use Rattle.reasons.specs.Telling.{restLoad}
 use borrow.Author.Needs.{needs}
 use Rattle.reasons.proofs.story.rest_to.Statement.{statement}
 use Rattle.reasons.proofs.story.rest_to.Tie as tie

@@ -1,125 +1,112 @@
--- `signature::choices::value_of`: what is left to count leads to the value in what is still to come.
-use mathlib.Core.Path.{_≡_, refl, sym, ap, ap₂, _∙_}
-use mathlib.Core.Logic.{⊎-elim}
-use mathlib.Core.Bool.{Bool, true, false, So, not, _&&_}
-use Prim.Native.Nat.{ℕ, suc, _+_, _-_, _<_, _≤_}
+-- `signature::choices::value_of`: what was written to the address stands from one place on, and the load's own value is passed over.
+use mathlib.Core.Path.{_≡_, ap, _∙_}
+use Prim.Native.Nat.{ℕ, _+_, _-_, _<_, _≤_}
 use native.Mathlib.Omega.{arith}
-use lib.Dec.{eqb}
-use lib.ListN.{length, getD}
+use lib.ListN.{getD}
 use Rattle.trace.specs.Bounds.{RECORDS}
-use Rattle.trace.specs.Op.{address, writes, written}
-use Rattle.trace.specs.Trace.{at, first}
-use Rattle.signature.specs.Reads.{other, rangeOf, digitOf, valueOf}
-use Rattle.laws.proofs.Tests.{and-iff, same-iff, so-eq}
-use borrow.Author.Tests.{eqb-false}
-use Rattle.signature.proofs.Passing.{comes, wrote, value-first, value-whole, value-hit, value-one, value-none, value-end, and-off}
+use Rattle.trace.specs.Trace.{first}
+use Rattle.signature.specs.Reads.{valueOf}
+use Rattle.signature.proofs.ValuesLaid.{value-zero, value-room, value-past, value-here}
 use borrow.Author.Needs.{needs}
 use Rattle.signature.proofs.choices.value_of.Statement.{statement}
 use Rattle.signature.proofs.choices.value_of.Tie as tie
 
-abbrev Inv-loop : tie.InvT-loop
-Inv-loop load digit t addr n left₀ i₀ left i = (i ≤ n) × (0 < left) × (getD (wrote t load i) (left - 1) 0 ≡ valueOf t load digit)
+abbrev start : tie.Else1 → tie.Start
+start e = e .before .before .before
 
-abbrev μ-loop : tie.MeasureT-loop
-μ-loop load digit t addr n left₀ i₀ left i = n - i
+-- where the value stands among what was written, but for the load's own
+abbrev place : tie.Else1 → ℕ
+place e = getD (start e .args .t2 .start) (e .before .address .result) 0 + (start e .args .digit - 1)
 
--- the code's test is the definition's
-told : (c : tie.After-other Inv-loop μ-loop) → c .other .result ≡ other (c .before .before .before .before .before .before .before .args .t1) (c .before .before .before .before .before .before .before .args .load) (c .before .before .before .loop .i)
-unfolding other
-told c =
-    let s = c .before .before .before .before .before .before .before in
-    let o = at (s .args .t1) (c .before .before .before .loop .i) in
-    c .other .ensures ∙ ap (λ (a : ℕ). writes o && eqb (address o) a && not (eqb (c .before .before .before .loop .i) (s .args .load))) (c .before .before .before .before .before .address .ensures)
+some : (e : tie.Else1) → 0 < start e .args .digit
+some e = omega (arith, e .if1 .left)
 
--- where another writer is passed over, more than one is left to count
-one : (c : tie.After-other Inv-loop μ-loop) → (c .other .result && eqb (c .before .before .before .loop .left) 1) ≡ false → c .other .result ≡ true → c .before .before .before .loop .left ≡ 1 → ⊥
-one c e a = eqb-false (c .before .before .before .loop .left) 1 (and-off (c .other .result) (eqb (c .before .before .before .loop .left) 1) e a)
+room : (e : tie.Else1) → place e < RECORDS
+room e = let s = start e in let a = s .args in value-room (a .t1) (a .load) (s .pre .1) (s .pre .0) (s .pre .2) (a .t2) (s .pre .3) (e .before .address .result) (e .before .address .ensures) (a .digit) (some e) (s .pre .4)
 
-mul-own : tie.Need-mul-own Inv-loop μ-loop
-mul-own c = search needs
+past : (e : tie.Else1) → getD (start e .args .t2 .own) (start e .args .load) 0 ≤ place e → (place e + 1 < RECORDS) × (getD (start e .args .t2 .of) (place e + 1) 0 ≡ valueOf (start e .args .t1) (start e .args .load) (start e .args .digit))
+past e = let s = start e in let a = s .args in value-past (a .t1) (a .load) (s .pre .1) (s .pre .0) (s .pre .2) (a .t2) (s .pre .3) (e .before .address .result) (e .before .address .ensures) (a .digit) (some e) (s .pre .4)
 
-element-copy-out-own : tie.Need-element-copy-out-own Inv-loop μ-loop
-element-copy-out-own c = search needs
+here : (e : tie.Else1) → place e < getD (start e .args .t2 .own) (start e .args .load) 0 → getD (start e .args .t2 .of) (place e) 0 ≡ valueOf (start e .args .t1) (start e .args .load) (start e .args .digit)
+here e = let s = start e in let a = s .args in value-here (a .t1) (a .load) (s .pre .1) (s .pre .0) (s .pre .2) (a .t2) (s .pre .3) (e .before .address .result) (e .before .address .ensures) (a .digit) (some e) (s .pre .4)
 
-address-requires : tie.Need-address-requires Inv-loop μ-loop
-address-requires c κs = search needs
-
-first-requires : tie.Need-first-requires Inv-loop μ-loop
-first-requires c κs = search needs
-
-returns : tie.Need-returns Inv-loop μ-loop
-returns c = let s = c .before .before .before .before in c .first .ensures ∙ ap (first (s .args .t1)) (c .before .before .address .ensures) ∙ value-first (s .args .t1) (s .args .load) (s .args .digit) (c .before .if1 .taken)
-
-loop-holds : tie.Need-loop-holds Inv-loop μ-loop
-loop-holds c = let s = c .before .before .before in let d = s .args .digit in let p : 0 < d = omega (arith, c .if1 .left) in (omega arith, p, value-whole (s .args .t1) (s .args .load) d p)
-
-mul-record : tie.Need-mul-record Inv-loop μ-loop
+mul-record : tie.Need-mul-record
 mul-record c = search needs
 
-element-copy-out-record : tie.Need-element-copy-out-record Inv-loop μ-loop
+element-copy-out-record : tie.Need-element-copy-out-record
 element-copy-out-record c = search needs
 
-other-requires : tie.Need-other-requires Inv-loop μ-loop
-other-requires c κs = search needs
+address-requires : tie.Need-address-requires
+address-requires c κs = search needs
 
-written-requires : tie.Need-written-requires Inv-loop μ-loop
-written-requires c κs = search needs
+first-requires : tie.Need-first-requires
+first-requires c κs = search needs
 
-returns-2 : tie.Need-returns-2 Inv-loop μ-loop
-returns-2 c =
-    let o = c .before .before in
-    let l = o .before .before .before in
-    let s = l .before .before .before .before in
-    let both = and-iff (same-iff {a = o .other .result}) (so-eq {m = l .loop .left} {n = 1}) .0 (c .before .if2 .taken) in
-    c .written .ensures ∙ value-hit (s .args .t1) (s .args .load) (s .args .digit) (l .loop .i) (o .before .before .loop-test .taken) (l .loop .left) (l .loop .inv .2) (sym (told o) ∙ both .0) (both .1)
+returns : tie.Need-returns
+returns c = let s = c .before .before .before .before in c .first .ensures ∙ ap (first (s .args .t1)) (c .before .before .address .ensures) ∙ value-zero (s .args .t1) (s .args .load) (s .pre .1) (s .args .digit) (c .before .if1 .taken)
 
-sub-left : tie.Need-sub-left Inv-loop μ-loop
-sub-left c = search needs
+cast-a : tie.Need-cast-a
+cast-a c = search needs
 
-add-i : tie.Need-add-i Inv-loop μ-loop
-add-i c = search needs
+mul-place : tie.Need-mul-place
+mul-place c = search needs
 
-loop-less : tie.Need-loop-less Inv-loop μ-loop
-loop-less c = search needs
+element-copy-out-place : tie.Need-element-copy-out-place
+element-copy-out-place c = search needs
 
-loop-again : tie.Need-loop-again Inv-loop μ-loop
-loop-again c =
-    let o = c .before .before in
-    let l = o .before .before .before in
-    let s = l .before .before .before .before in
-    let h = o .before .before .loop-test .taken in (
-      omega arith,
-      ⊎-elim (λ u. omega (arith, u .1, one o (c .before .if2 .left) (u .0 .taken))) (λ u. omega (arith, u .1)) (c .if3 .came),
-      ⊎-elim
-          (λ u. ap (λ (n : ℕ). getD (wrote (s .args .t1) (s .args .load) (l .loop .i + 1)) (n - 1) 0) (u .1)
-          ∙ value-one (s .args .t1) (s .args .load) (s .args .digit) (l .loop .i) h (l .loop .left) (l .loop .inv .2) (sym (told o) ∙ u .0 .taken) (l .loop .inv .1) (one o (c .before .if2 .left) (u .0 .taken)))
-          (λ u. ap (λ (n : ℕ). getD (wrote (s .args .t1) (s .args .load) (l .loop .i + 1)) (n - 1) 0) (u .1)
-          ∙ value-none (s .args .t1) (s .args .load) (s .args .digit) (l .loop .i) h (l .loop .left) (l .loop .inv .2) (sym (told o) ∙ u .0 .left))
-          (c .if3 .came),
-    )
+sub-place : tie.Need-sub-place
+sub-place c = search needs
 
-returns-3 : tie.Need-returns-3 Inv-loop μ-loop
-returns-3 c = let l = c .before in let s = l .before .before .before .before in value-end (s .args .t1) (s .args .load) (s .args .digit) (l .loop .i) (c .loop-test .left) (l .loop .left) (l .loop .inv .2)
+add-place : tie.Need-add-place
+add-place c = omega (arith, room (c .before))
+
+mul-if2 : tie.Need-mul-if2
+mul-if2 c = search needs
+
+element-copy-out-if2 : tie.Need-element-copy-out-if2
+element-copy-out-if2 c = search needs
+
+add-result : tie.Need-add-result
+add-result c = omega (arith, past (c .before .before .before) (c .if2 .taken) .0)
+
+mul-result : tie.Need-mul-result
+mul-result c = omega (arith, past (c .before .before .before) (c .if2 .taken) .0)
+
+element-copy-out-result : tie.Need-element-copy-out-result
+element-copy-out-result c = omega (arith, past (c .before .before .before) (c .if2 .taken) .0)
+
+returns-2 : tie.Need-returns-2
+returns-2 c = past (c .before .before .before .before) (c .before .if2 .taken) .1
+
+mul-result-2 : tie.Need-mul-result-2
+mul-result-2 c = omega (arith, room (c .before .before .before))
+
+element-copy-out-result-2 : tie.Need-element-copy-out-result-2
+element-copy-out-result-2 c = omega (arith, room (c .before .before .before))
+
+returns-3 : tie.Need-returns-3
+returns-3 c = here (c .before .before .before .before) (c .before .if2 .left)
 
 pub value-of-spec : {M : Type 1} → statement M
 value-of-spec =
     tie.close
     (tie.spec
-    Inv-loop
-    μ-loop
-    mul-own
-    element-copy-out-own
+    mul-record
+    element-copy-out-record
     address-requires
     first-requires
     returns
-    loop-holds
-    mul-record
-    element-copy-out-record
-    other-requires
-    written-requires
+    cast-a
+    mul-place
+    element-copy-out-place
+    sub-place
+    add-place
+    mul-if2
+    element-copy-out-if2
+    add-result
+    mul-result
+    element-copy-out-result
     returns-2
-    sub-left
-    add-i
-    loop-less
-    loop-again
+    mul-result-2
+    element-copy-out-result-2
     returns-3)

@@ -11,7 +11,7 @@ use Rattle.trace.proofs.WellFormed.{form-iff}
 use Rattle.signature.specs.declared.Open.{Open}
 use Rattle.signature.specs.inner.WordsLaid.{choice, stepOn, closedOf, joinedOf, steppedOf, ranFrom, threadOf, allFrom, noneLaid, laidWords}
 use Rattle.signature.proofs.Laid.{top-below, tops-count, signature-laid, signature-fit, signature-count}
-use Rattle.signature.specs.Reads.{Listed}
+use Rattle.signature.specs.Reads.{AllListed}
 use Rattle.signature.specs.Signature.{tops}
 use Rattle.signature.specs.SignatureAnswers.{readIn}
 use Rattle.signature.proofs.SignatureAnswers.{pack-ten, pack-length, pack-unlisted, pack-done, none-unlisted, signature-long, found-some, found-none, listed-below}
@@ -37,7 +37,7 @@ sure u = well (u .before .before .before .before)
 long : (u : tie.After-first-unlisted) → length (start u .args .words .now) ≡ length (tops (start u .args .t))
 long u = u .before .if2 .left ∙ counted (u .before .before .before)
 
-listed : (m : tie.After-enum-told) → Listed (start (m .before .before) .args .t) (readIn (start (m .before .before) .args .t))
+listed : (m : tie.After-enum-told) → AllListed (start (m .before .before) .args .t) (readIn (start (m .before .before) .args .t))
 listed m = let u = m .before .before in none-unlisted (start u .args .t) (readIn (start u .args .t)) (found-none _ (sym (u .first-unlisted .ensures) ∙ m .enum-told .given .1))
 
 well-formed-requires : tie.Need-well-formed-requires

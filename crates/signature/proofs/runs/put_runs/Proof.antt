@@ -13,13 +13,13 @@ use Rattle.signature.proofs.runs.put_runs.Statement.{statement}
 use Rattle.signature.proofs.runs.put_runs.Tie as tie
 
 abbrev Inv-loop : tie.InvT-loop
-Inv-loop t words each loads runs out₀ places i₀ out i = (i ≤ runs) × Reading t words loads out runs i
+Inv-loop t words each loads runs out₀ places values i₀ out i = (i ≤ runs) × Reading t words loads out runs i
 
 abbrev μ-loop : tie.MeasureT-loop
-μ-loop t words each loads runs out₀ places i₀ out i = runs - i
+μ-loop t words each loads runs out₀ places values i₀ out i = runs - i
 
 abbrev start : tie.In-loop Inv-loop μ-loop → tie.Start Inv-loop μ-loop
-start c = c .before .before .before .before .before
+start c = c .before .before .before .before .before .before
 
 -- the words of run i lie within all
 within : (c : tie.In-loop Inv-loop μ-loop) → c .before .loop .i * start c .args .each + start c .args .each ≤ length (start c .args .words .now)
@@ -32,8 +32,11 @@ below c = let s = start c in reading-fits (s .args .t) (s .args .words .now) (s 
 all-places-requires : tie.Need-all-places-requires Inv-loop μ-loop
 all-places-requires c κs = let s = c .before .before in form-iff (s .args .t) .0 (s .pre .well) .fits
 
+all-values-requires : tie.Need-all-values-requires Inv-loop μ-loop
+all-values-requires c κs = let s = c .before .before .before in form-iff (s .args .t) .0 (s .pre .well) .fits
+
 loop-holds : tie.Need-loop-holds Inv-loop μ-loop
-loop-holds c = let s = c .before .before .before in (omega arith, reading-start (s .args .t) (s .args .words .now) (s .args .loads) (s .args .out .now) (s .args .runs) (s .pre .room))
+loop-holds c = let s = c .before .before .before .before in (omega arith, reading-start (s .args .t) (s .args .words .now) (s .args .loads) (s .args .out .now) (s .args .runs) (s .pre .room))
 
 mul-from : tie.Need-mul-from Inv-loop μ-loop
 mul-from c = omega (arith, within c)
@@ -82,7 +85,7 @@ put-run-requires c κs =
     let i = j .before .loop .i in
     let n = s .args .each in
     let e = part-words (s .args .t) (s .args .words .now) n (s .pre .each) _ i (same i n) in
-    (s .pre .well, j .before .before .all-places .ensures, ap length e ∙ words-long (s .args .t) (s .args .words .now) n (s .pre .each) i (within j), part-room (s .args .t) (s .args .words .now) (s .args .loads) (s .pre .some) (j .before .loop .out) (s .args .runs) i (j .before .loop .inv .1) (j .loop-test .taken) _ (same i (s .args .loads)))
+    (s .pre .well, j .before .before .before .all-places .ensures, j .before .before .all-values .ensures, ap length e ∙ words-long (s .args .t) (s .args .words .now) n (s .pre .each) i (within j), part-room (s .args .t) (s .args .words .now) (s .args .loads) (s .pre .some) (j .before .loop .out) (s .args .runs) i (j .before .loop .inv .1) (j .loop-test .taken) _ (same i (s .args .loads)))
 
 add-i : tie.Need-add-i Inv-loop μ-loop
 add-i c = search needs
@@ -104,12 +107,12 @@ loop-again c =
     )
 
 same-length : tie.Need-same-length Inv-loop μ-loop
-same-length c = let l = c .before in l .loop .inv .1 .long ∙ sym (l .before .before .before .before .pre .room)
+same-length c = let l = c .before in l .loop .inv .1 .long ∙ sym (l .before .before .before .before .before .pre .room)
 
 returns : tie.Need-returns Inv-loop μ-loop
 returns c =
     let l = c .before in
-    let s = l .before .before .before .before in
+    let s = l .before .before .before .before .before in
     reading-end (s .args .t) (s .args .words .now) (s .args .loads) (l .loop .out) (s .args .runs) (l .loop .i) (l .loop .inv .1) (l .loop .inv .0) (c .loop-test .left)
 
 pub put-runs-spec : {M : Type 1} → statement M
@@ -119,6 +122,7 @@ put-runs-spec =
     Inv-loop
     μ-loop
     all-places-requires
+    all-values-requires
     loop-holds
     mul-from
     add-to

@@ -25,13 +25,13 @@ returns : tie.Need-returns
 returns c = let r = c .before in let s = r .before .before .before in read-no (s .args .t1) (s .args .i) (s .args .k) (s .args .digit) (s .args .out .now) (sym (r .reads .ensures) ∙ not-true _ (c .if1 .taken))
 
 value-of-requires : tie.Need-value-of-requires
-value-of-requires c κs = search needs
+value-of-requires c κs = let s = c .before .before .before .before in (s .pre .fits, s .pre .here, s .pre .below, s .pre .laid, s .pre .small (sym (c .before .reads .ensures) ∙ not-false _ (c .if1 .left)))
 
 mul-out : tie.Need-mul-out
 mul-out c = search needs
 
 slice-write-out : tie.Need-slice-write-out
-slice-write-out c = let e = c .before in let s = e .before .before .before .before in omega (arith, s .pre .2 (sym (e .before .reads .ensures) ∙ not-false _ (e .if1 .left)))
+slice-write-out c = let e = c .before in let s = e .before .before .before .before in omega (arith, s .pre .room (sym (e .before .reads .ensures) ∙ not-false _ (e .if1 .left)))
 
 add-result : tie.Need-add-result
 add-result c = search needs

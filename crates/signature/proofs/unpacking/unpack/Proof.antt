@@ -89,12 +89,16 @@ enum-told c = search needs
 all-places-requires : tie.Need-all-places-requires
 all-places-requires c κs = let n = c .before .before .before .before in form-iff (start n .args .t) .0 (sure n) .fits
 
+all-values-requires : tie.Need-all-values-requires
+all-values-requires c κs = let n = c .before .before .before .before .before in form-iff (start n .args .t) .0 (sure n) .fits
+
 put-run-requires : tie.Need-put-run-requires
 put-run-requires c κs =
-    let g = c .before in
+    let v = c .before in
+    let g = v .before in
     let u = g .before .before .before in
     let n = u .before .before in
-    (sure n, g .all-places .ensures, long n, u .before .if3 .left ∙ n .loads-in .ensures .0)
+    (sure n, g .all-places .ensures, v .all-values .ensures, long n, u .before .if3 .left ∙ n .loads-in .ensures .0)
 
 returns-4 : tie.Need-returns-4
 returns-4 c =
@@ -110,7 +114,7 @@ same-length c = search needs
 returns-5 : tie.Need-returns-5
 returns-5 c =
     let p = c .before .before in
-    let m = p .before .before .before in
+    let m = p .before .before .before .before in
     let u = m .before .before in
     let n = u .before .before in
     let a = start n .args in
@@ -130,6 +134,7 @@ unpack-spec =
     enum-known-k
     enum-told
     all-places-requires
+    all-values-requires
     put-run-requires
     returns-4
     same-length

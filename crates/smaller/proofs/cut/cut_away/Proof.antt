@@ -2,10 +2,10 @@
 use mathlib.Core.Path.{refl, ap, ap₂, _∙_}
 use mathlib.Core.List.{List}
 use Prim.Native.Nat.{ℕ}
+use Rattle.trace.specs.Padded.{padded}
 use Rattle.trace.specs.declared.Trace.{Trace}
 use Rattle.parts.proofs.Alike.{picked-alike, olds-alike}
 use Rattle.pairs.proofs.ValidOrders.{well-fits}
-use Rattle.smaller.specs.Smaller.{padded}
 use Rattle.smaller.specs.declared.Answer.the-variants.{Cut}
 use borrow.Author.Needs.{needs}
 use Rattle.smaller.proofs.cut.cut_away.Statement.{statement}

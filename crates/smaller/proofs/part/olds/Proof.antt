@@ -6,10 +6,10 @@ use Prim.Native.Nat.{ℕ, _+_, _-_, _≤_}
 use native.Mathlib.Omega.{arith}
 use mathlib.Core.List.{List, [], _∷_, _++_}
 use lib.ListN.{length, set, length-append}
+use Rattle.trace.specs.Padded.{padded}
 use Rattle.parts.proofs.Alike.{olds-more, olds-few}
 use borrow.Author.Needs.{needs}
 use Rattle.parts.specs.Picked.{oldsTo}
-use Rattle.smaller.specs.Smaller.{padded}
 use Rattle.smaller.specs.inner.RecordSets.{Chosen}
 use Rattle.smaller.proofs.RecordSets.{padded-more}
 use Rattle.smaller.proofs.part.olds.Statement.{statement}
