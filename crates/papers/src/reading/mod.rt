@@ -70,28 +70,20 @@ fn lead(rests: &[u16], from: &[u16], to: &[u16], count: usize) -> Link
     Link::Between(start, x)
 }
 
-// Whether an entry of a rule may rest on k entries: only rules 6 and 7 rest on any.
-fn bare(rule: usize, k: usize) -> bool
-    ensures { λ r. ⌜ r ≡ mayRest rule k ⌝ }
-{
-    (6 <= rule) | (k == 0)
-}
-
-// Whether an entry that rests on k entries may name x before y by its rule, where the link is the only chain.
+// Whether an entry that rests on k entries, which only one by rule 6 or 7 may, may name x before y by its rule, where the link is the only chain.
 fn fits(t: Trace, model: u8, rule: usize, x: usize, y: usize, k: usize, l: Link) -> bool
     ensures { λ r. ⌜ r ≡ (mayRest rule k && gives? (frameOf t) (keptOf model t) nothing (linkJoins l) x y rule) ⌝ }
 {
-    if !bare(rule, k) {
+    let may = (6 <= rule) | (k == 0);
+    if !may {
         return false;
     }
     let mut chain = rows::empty();
-    match l {
-        Link::Between(a, b) => {
-            rows::put(&mut chain, wide(a), wide(b));
-            gives(t, model, &chain, x, y, rule)
-        }
-        Link::Nowhere => gives(t, model, &chain, x, y, rule),
-    }
+    let Link::Between(a, b) = l else {
+        return gives(t, model, &chain, x, y, rule);
+    };
+    rows::put(&mut chain, wide(a), wide(b));
+    gives(t, model, &chain, x, y, rule)
 }
 
 // One past the latest split that has its other side left; 0 where none has.
@@ -140,9 +132,7 @@ fn closes(l: Link, x: u16, y: u16) -> bool
 fn divides(t: Trace, x: usize, y: usize, k: usize) -> bool
     ensures { λ r. ⌜ r ≡ (frameOf t .operation x && frameOf t .operation y && not (eqb x y) && eqb k 0) ⌝ }
 {
-    let p = operation(t, x);
-    let q = operation(t, y);
-    p & q & (x != y) & (k == 0)
+    operation(t, x) & operation(t, y) & (x != y) & (k == 0)
 }
 
 // What an entry does: the branch goes on with so many entries, all branches are closed, or the entry may not stand there.
@@ -221,11 +211,10 @@ fn closing(
             return false;
         }
         let end = at + 4 + k;
-        let rule = wide(list[at]);
         let turn = take_entry(
             t,
             model,
-            rule,
+            wide(list[at]),
             list[at + 1],
             list[at + 2],
             &list[at + 4..end],
@@ -235,13 +224,11 @@ fn closing(
             count,
         );
         match turn {
-            Turn::Goes(next) => {
-                count = next;
-                at = end;
-            }
+            Turn::Goes(next) => count = next,
             Turn::Closed => return end == n,
             Turn::Wrong => return false,
         }
+        at = end;
     }
     false
 }

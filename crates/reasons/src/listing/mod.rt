@@ -155,18 +155,26 @@ fn whole(t: Trace, model: u8, out: &mut [u16], limit: usize) -> Put
     )
 }
 
-// Lays the whole list in front of the room, if it is no longer: a first pass only counts.
-fn lay_paper(t: Trace, model: u8, room: &mut [u16]) -> Listed
+// Lays the whole list in front of the room, if it is no longer: a first pass only counts, and whatever it lays goes to spare memory.
+fn lay_counted(t: Trace, model: u8, spare: &mut [u16], room: &mut [u16]) -> Listed
     requires { ⌜ So (wellFormed t) × So (modelled model) × Sourced (frameOf t) × ((xs : List ℕ) → Valid (frameOf t) (keptOf model t) xs → ⊥) ⌝ }
     ensures { λ r. ⌜ LaidInFront (spell (paper (frameOf t) (keptOf model t))) (now (room .entry)) (now (room .exit)) r ⌝ }
 {
     let limit = room.len();
-    let mut none = [0u16; 1];
-    let Put::At(n) = whole(t, model, &mut none, limit) else {
+    let Put::At(n) = whole(t, model, spare, limit) else {
         return Listed::TooLong;
     };
     whole(t, model, room, limit);
     Listed::Shown(n)
+}
+
+// Lays the whole list in front of the room, if it is no longer.
+fn lay_paper(t: Trace, model: u8, room: &mut [u16]) -> Listed
+    requires { ⌜ So (wellFormed t) × So (modelled model) × Sourced (frameOf t) × ((xs : List ℕ) → Valid (frameOf t) (keptOf model t) xs → ⊥) ⌝ }
+    ensures { λ r. ⌜ LaidInFront (spell (paper (frameOf t) (keptOf model t))) (now (room .entry)) (now (room .exit)) r ⌝ }
+{
+    let mut none = [0u16; 1];
+    lay_counted(t, model, &mut none, room)
 }
 
 // Writes why a trace has no valid order under a model, as a list that the small reader accepts. A model that does not exist is told first, then a

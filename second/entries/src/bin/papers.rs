@@ -1,6 +1,10 @@
 //! papers [TRACES [SEED]]: the entry that writes papers, on texts of the families under every model, until so many (1,000) papers were written: each is accepted by both
 //! readers, names no edge twice in one branch, and splits only without a circle and on a pair held neither way. Started by hand; it tells how long the lists are and how
-//! long writing took, and the last line is `N passed, M failed`, a text under a model counted once.
+//! much processor time writing took, the best of two where it took over 20 ms, and the last line is `N passed, M failed`, a text under a model counted once.
+
+// The clock of bench/, so that both tell the same kind of time.
+#[path = "../../../../bench/src/clock.rs"]
+mod clock;
 
 use second::desk::Page;
 use second::desk::{ACCEPTED, LIST_AT, NOTHING_TO_SHOW, SHOWN};
@@ -8,7 +12,6 @@ use second::families::{text, Family, FAMILIES};
 use second::papers::broken;
 use second::trace::Model;
 use std::process::ExitCode;
-use std::time::Instant;
 use wheelotter::entries;
 
 /// Past so many steps the second reading gives up on a verdict.
@@ -17,6 +20,9 @@ const STEPS: u64 = 20_000;
 /// A list that is longer is a failure here.
 const ROOM: usize = 1 << 20;
 
+/// Where writing took more microseconds it is timed once more: what else the machine does shows in single runs.
+const AGAIN: f64 = 20_000.0;
+
 /// Of all papers, and of those of traces with so many records at the least: how many, how long, how many with a split, the slowest in microseconds.
 #[derive(Default)]
 struct Told {
@@ -24,11 +30,11 @@ struct Told {
     numbers: u64,
     longest: usize,
     splits: u64,
-    slowest: u128,
+    slowest: f64,
 }
 
 impl Told {
-    fn note(&mut self, list: &[u16], micros: u128) {
+    fn note(&mut self, list: &[u16], micros: f64) {
         self.papers += 1;
         self.numbers += list.len() as u64;
         self.longest = self.longest.max(list.len());
@@ -39,10 +45,21 @@ impl Told {
     fn tell(&self, name: &str) {
         let mean = self.numbers as f64 / self.papers.max(1) as f64;
         println!(
-            "{name}: {} papers, {} of them with splits; {mean:.1} numbers in the mean, {} at the most; {} us at the most",
+            "{name}: {} papers, {} of them with splits; {mean:.1} numbers in the mean, {} at the most; {:.0} us at the most",
             self.papers, self.splits, self.longest, self.slowest
         );
     }
+}
+
+/// What the entry answers, and how many microseconds of processor time that took.
+fn written(text: &[u8], model: u8, room: &mut [u16]) -> (u8, f64) {
+    let mut got = 0;
+    let mut once = || clock::timed(|| got = entries::paper(text, model, room));
+    let mut micros = once();
+    if micros > AGAIN {
+        micros = micros.min(once());
+    }
+    (got, micros)
 }
 
 fn main() -> ExitCode {
@@ -59,9 +76,7 @@ fn main() -> ExitCode {
         let Some(trace) = page.trace() else { continue };
         for &model in Model::all() {
             let number = model.number() as u8;
-            let start = Instant::now();
-            let got = entries::paper(&text, number, &mut room);
-            let micros = start.elapsed().as_micros();
+            let (got, micros) = written(&text, number, &mut room);
             let wanted = page.paper_answer(number);
             let mut why = wanted.filter(|&wanted| wanted != got).map(|_| "another answer");
             if got == SHOWN {

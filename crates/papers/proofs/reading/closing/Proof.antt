@@ -292,8 +292,6 @@ closing-spec =
     part-take-entry-end
     take-entry-requires
     enum-known-turn
-    loop-less
-    loop-again
     enum-told
     same-length-4
     same-length-5
@@ -304,6 +302,8 @@ closing-spec =
     same-length-8
     same-length-9
     returns-3
+    loop-less
+    loop-again
     same-length-10
     same-length-11
     same-length-12
