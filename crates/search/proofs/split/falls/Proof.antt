@@ -51,7 +51,6 @@ returns c = λ t.
     (subst (λ a. Grown (Leads (s .args .x) (c .before .before .before .before .before .before .before .before .before .before .before .before .put .last .0)) a (c .before .before .before .before .before .before .before .lead-all .last .1 .1 .1 .0)) same (c .before .before .before .before .before .before .before .lead-all .ensures))
     (c .before .before .circular .ensures .0) (c .before .before .circular .ensures .1 t)
 
-
 pub falls-spec : {M : Type 1} → statement M
 falls-spec =
     tie.close
