@@ -10,7 +10,7 @@
 --   Partly before a b     == the rows b have what a has, some of `before` and no more
 --   Unranked rows         == no ranking has the rows
 --   Falls .. x y          == none has x below y
---   Apart n writers pos   == two writers of one address are not ranked alike
+--   RankedApart n writers pos == two writers of one address are not ranked alike
 --   Refuted ..            == there is no ranking at all
 use mathlib.Core.Path.{_≡_}
 use mathlib.Core.Logic.{_≢_, _⊎_}
@@ -61,8 +61,8 @@ Unranked rows = (pos : ℕ → ℕ) → RankedRows rows pos → ⊥
 abbrev pub Falls : ℕ → List ℕ → List ℕ → List ℕ → List ℕ → ℕ → ℕ → Type 0
 Falls n rows writers sources placed x y = (pos : ℕ → ℕ) → Ranking n writers sources placed pos → RankedRows rows pos → pos x < pos y → ⊥
 
-abbrev pub Apart : ℕ → List ℕ → (ℕ → ℕ) → Type 0
-Apart n writers pos = (x y : ℕ) → y < n → So (bit writers y x) → pos x ≡ pos y → ⊥
+abbrev pub RankedApart : ℕ → List ℕ → (ℕ → ℕ) → Type 0
+RankedApart n writers pos = (x y : ℕ) → y < n → So (bit writers y x) → pos x ≡ pos y → ⊥
 
 abbrev pub Refuted : ℕ → List ℕ → List ℕ → List ℕ → List ℕ → Type 0
-Refuted n before writers sources placed = (pos : ℕ → ℕ) → Apart n writers pos → Ranking n writers sources placed pos → RankedRows before pos → ⊥
+Refuted n before writers sources placed = (pos : ℕ → ℕ) → RankedApart n writers pos → Ranking n writers sources placed pos → RankedRows before pos → ⊥
