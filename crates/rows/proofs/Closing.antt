@@ -9,7 +9,8 @@
 --   Stage e k t                     == t holds the chains of e through numbers below k
 --   stage-none, stage-more          == before the first number, and one number more
 --   stage-below                     == no row has a pair that had none
---   chained, unchained              == past the last one; rows of another length
+--   stage-all                       == past the last one
+--   chained, unchained              == rows of the full length, and of another
 --   chained-one                     == no second list holds the chains
 use mathlib.Core.Path.{_≡_, refl, sym, _∙_, subst}
 use mathlib.Core.Logic.{_≢_, _⊎_, inl, inr, _↔_}
@@ -28,6 +29,7 @@ use Rattle.trace.specs.Bounds.{RECORDS}
 use Rattle.rows.specs.Bounds.{WIDTH, WORDS, CELLS}
 use Rattle.rows.specs.Rows.{place, bit, Edges, Words}
 use Rattle.rows.specs.inner.AddedPairs.{Added, Row, Through, RowsBelow}
+use Rattle.rows.specs.inner.HoldsChains.{HoldsChains}
 use Rattle.rows.specs.Empty.{emptyOf}
 use Rattle.rows.specs.Chained.{Chained}
 use Rattle.rows.proofs.Rows.{row-full, bit-at, bit-bounds}
@@ -209,15 +211,17 @@ stage-below e k t n s low x y h = from (s .via x y .0 h)
     from (last d) = low x y d
     from (thru {y = z} d l v) = low x z d
 
-pub chained : (e : List ℕ) (k : ℕ) (t : List ℕ) → k ≡ RECORDS → length e ≡ CELLS → Words e → Stage e k t → Chained e t
-chained e k t end l w r =
+pub stage-all : (e : List ℕ) (k : ℕ) (t : List ℕ) → k ≡ RECORDS → Stage e k t → HoldsChains e t
+stage-all e k t end r =
     let s : Stage e RECORDS t = rw end at r in
     record {
       long = s .long;
-      words = s .words w;
-      chains = λ _ x y. let c = chain-iff-via (Edges e) RECORDS (bit-bounds e) x y in (λ h. c .0 (s .via x y .0 h), λ v. s .via x y .1 (c .1 v));
-      other = λ d. absurd (d l);
+      words = s .words;
+      chains = λ x y. let c = chain-iff-via (Edges e) RECORDS (bit-bounds e) x y in (λ h. c .0 (s .via x y .0 h), λ v. s .via x y .1 (c .1 v));
     }
+
+pub chained : (e t : List ℕ) → length e ≡ CELLS → Words e → HoldsChains e t → Chained e t
+chained e t l w s = record { long = s .long; words = s .words w; chains = λ _. s .chains; other = λ d. absurd (d l) }
 
 pub unchained : (e : List ℕ) → length e ≢ CELLS → Words e → Chained e e
 unchained e d w = record { long = refl; words = w; chains = λ l. absurd (d l); other = λ _. refl }

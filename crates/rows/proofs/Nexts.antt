@@ -2,6 +2,7 @@
 --
 --   low-clear, low-set, low-some == below the zeros that a word ends with no bit is set; the one behind them is; a word that is not 0 has one
 --   next-here, next-past, next-end == in this word; in none up to the next word; in none at all
+--   next-later, next-in, next-first == the next number is not before the start; below RECORDS it is in the row, and no number of the row comes before it
 --   next-one                       == no second number is the next
 use mathlib.Core.Path.{_≡_, refl, sym, ap, _∙_}
 use mathlib.Core.Logic.{_≢_, _⊎_, inl, inr}
@@ -93,6 +94,16 @@ module _ (rows : List ℕ) (words : Words rows) (x from z : ℕ) (begun : from �
 
 pub next-end : (rows : List ℕ) (x from z : ℕ) → ((y : ℕ) → from ≤ y → y < z → So (bit rows x y) → ⊥) → RECORDS ≤ z → NextInRow rows x from RECORDS
 next-end rows x from z none h = record { skips = λ y p l. none y p (omega arith); there = inr refl }
+
+module _ (rows : List ℕ) (x from r : ℕ) (n : NextInRow rows x from r) where
+  pub next-later : from ≤ RECORDS → from ≤ r
+  next-later h = elim (n .there) [ inl p ↦ p .0 | inr e ↦ omega arith ]
+
+  pub next-in : r < RECORDS → So (bit rows x r)
+  next-in h = elim (n .there) [ inl p ↦ p .1 | inr e ↦ absurd (omega arith) ]
+
+  pub next-first : (s : ℕ) → from ≤ s → So (bit rows x s) → r ≤ s
+  next-first s h t = elim (decLt s r) [ yes l ↦ absurd (n .skips s h l t) | no l ↦ omega arith ]
 
 -- the lower of two would be skipped by the other
 lower : (rows : List ℕ) (x from a b : ℕ) → NextInRow rows x from a → NextInRow rows x from b → a < b → ⊥

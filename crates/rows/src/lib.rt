@@ -17,6 +17,8 @@ ghost use Rattle.rows.specs.Empty.{emptyOf};
 ghost use Rattle.rows.specs.Put.{markOf, putOf, putIf};
 ghost use Rattle.rows.specs.Copy.{copyOf};
 ghost use Rattle.rows.specs.inner.AddedPairs.{Added, Row, Through, RowsBelow};
+ghost use Rattle.rows.specs.inner.HoldsChains.{HoldsChains};
+ghost use Rattle.rows.specs.inner.Forward.{Forward, ClosedPast, SecondSteps};
 ghost use Rattle.rows.specs.Chained.{Chained};
 ghost use Rattle.rows.specs.AddRow.{addRowOf};
 ghost use Rattle.rows.specs.DropRow.{dropRowOf};
@@ -258,6 +260,60 @@ fn pass(rows: &mut [u64], k: usize, n: usize)
     }
 }
 
+// Makes the relation that of its chains by way of one number after the other, told that only the first n rows have pairs.
+fn close_any(rows: &mut [u64], n: usize)
+    requires { ⌜ (n ≤ RECORDS) × (length (now rows) ≡ CELLS) × RowsBelow (now rows) n ⌝ }
+    ensures { λ r. ⌜ HoldsChains (now (rows .entry)) (now (rows .exit)) ⌝ }
+{
+    let mut k: usize = 0;
+    while k < trace::RECORDS {
+        pass(rows, k, n);
+        k += 1;
+    }
+}
+
+// Whether every pair leads to a higher number, told that only the first n rows have pairs: whether the lowest number of each row does.
+fn forward(rows: &[u64], n: usize) -> bool
+    requires { ⌜ (n ≤ RECORDS) × RowsBelow (now rows) n ⌝ }
+    ensures { λ r. ⌜ So r ↔ Forward (now (rows .entry)) ⌝ }
+{
+    let mut x: usize = 0;
+    while x < n {
+        if next(rows, x, 0) <= x {
+            return false;
+        }
+        x += 1;
+    }
+    true
+}
+
+// Adds to row x what the rows that it leads to have, these being closed: a number that another one leads to gives nothing more and is passed over.
+fn extend(rows: &mut [u64], x: usize)
+    requires { ⌜ (x < RECORDS) × (length (now rows) ≡ CELLS) × Forward (now rows) × ClosedPast (now rows) x ⌝ }
+    ensures { λ r. ⌜ Added (now (rows .entry)) (SecondSteps (now (rows .entry)) x) (now (rows .exit)) ⌝ }
+{
+    let mut rest = [0u64; WORDS];
+    add_row(rows, x, &mut rest, 0);
+    let mut y = next(&rest, 0, 0);
+    while y < trace::RECORDS {
+        join(rows, x, y);
+        drop_row(rows, y, &mut rest, 0);
+        y = next(&rest, 0, y + 1);
+    }
+}
+
+// Makes the relation that of its chains, where every pair leads to a higher number and only the first n rows have pairs: from the last row to the first.
+fn close_forward(rows: &mut [u64], n: usize)
+    requires { ⌜ (n ≤ RECORDS) × (length (now rows) ≡ CELLS) × RowsBelow (now rows) n × Forward (now rows) ⌝ }
+    ensures { λ r. ⌜ HoldsChains (now (rows .entry)) (now (rows .exit)) ⌝ }
+{
+    let mut x = n;
+    while 0 < x {
+        x -= 1;
+        extend(rows, x);
+    }
+}
+
 // Makes the relation that of its chains, one or more pairs in a row; rows of another length are left as they are.
 pub fn chains(rows: &mut [u64])
     ensures { λ r. ⌜ Chained (now (rows .entry)) (now (rows .exit)) ⌝ }
@@ -266,10 +322,10 @@ pub fn chains(rows: &mut [u64])
         return;
     }
     let n = height(rows);
-    let mut k: usize = 0;
-    while k < trace::RECORDS {
-        pass(rows, k, n);
-        k += 1;
+    if forward(rows, n) {
+        close_forward(rows, n);
+    } else {
+        close_any(rows, n);
     }
 }
 

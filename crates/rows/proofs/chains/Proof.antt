@@ -1,69 +1,49 @@
--- `rows::chains`: the rows hold the chains through numbers below k.
-use mathlib.Core.Path.{_∙_}
-use Prim.Native.Nat.{_≤_, _-_}
-use native.Mathlib.Omega.{arith}
+-- `rows::chains`: both ways of closing give the chains.
 use borrow.Author.Needs.{needs}
-use Rattle.trace.specs.Bounds.{RECORDS}
-use Rattle.rows.proofs.Closing.{Stage, stage-none, stage-more, stage-below, chained, unchained}
+use Rattle.rows.proofs.Closing.{chained, unchained}
 use Rattle.rows.proofs.chains.Statement.{statement}
 use Rattle.rows.proofs.chains.Tie as tie
 
-abbrev Inv-loop : tie.InvT-loop
-Inv-loop rows₀ n k₀ rows k = (k ≤ RECORDS) × Stage rows₀ k rows
-
-abbrev μ-loop : tie.MeasureT-loop
-μ-loop rows₀ n k₀ rows k = RECORDS - k
-
-returns : tie.Need-returns Inv-loop μ-loop
+returns : tie.Need-returns
 returns c =
     let s = c .before in
     unchained (s .before .args .rows .now) (c .if1 .taken) (λ i. s .slice-known .given i .fits)
 
-height-requires : tie.Need-height-requires Inv-loop μ-loop
+height-requires : tie.Need-height-requires
 height-requires c κs = search needs
 
-loop-holds : tie.Need-loop-holds Inv-loop μ-loop
-loop-holds c = (omega arith, stage-none (c .before .before .before .before .args .rows .now))
+forward-requires : tie.Need-forward-requires
+forward-requires c κs = search needs
 
-pass-requires : tie.Need-pass-requires Inv-loop μ-loop
-pass-requires c κs =
-    let l = c .before .before in
-    let h = l .before .height .ensures in
-    (search needs, h .0, l .loop .inv .1 .long ∙ l .before .before .before .if1 .left, stage-below _ (l .loop .k) _ _ (l .loop .inv .1) (h .1))
+close-forward-requires : tie.Need-close-forward-requires
+close-forward-requires c κs =
+    let t = c .before in
+    let f = t .before in
+    let h = f .before .before in
+    (h .height .ensures .0, h .before .before .if1 .left, h .height .ensures .1, f .forward .ensures .0 (t .if2 .taken))
 
-add-k : tie.Need-add-k Inv-loop μ-loop
-add-k c = omega arith
+close-any-requires : tie.Need-close-any-requires
+close-any-requires c κs = search needs
 
-loop-less : tie.Need-loop-less Inv-loop μ-loop
-loop-less c = omega arith
+same-length : tie.Need-same-length
+same-length c = search needs
 
-loop-again : tie.Need-loop-again Inv-loop μ-loop
-loop-again c =
-    let p = c .before .before in
-    let l = p .before .before .before in
-    (omega arith, stage-more (l .before .before .before .before .before .args .rows .now) (l .loop .k) (l .loop .rows) (p .pass .last .0) (l .loop .inv .1) (p .pass .ensures))
-
-same-length : tie.Need-same-length Inv-loop μ-loop
-same-length c = c .before .loop .inv .1 .long
-
-returns-2 : tie.Need-returns-2 Inv-loop μ-loop
+returns-2 : tie.Need-returns-2
 returns-2 c =
-    let l = c .before in
-    let s = l .before .before .before .before in
-    chained (s .before .args .rows .now) (l .loop .k) (l .loop .rows) (omega arith) (l .before .before .before .if1 .left) (λ i. s .slice-known .given i .fits) (l .loop .inv .1)
+    let d = c .before .before in
+    let f = d .before .before .before .before .before .before .before in
+    let s = f .before in
+    chained (s .before .args .rows .now) (d .close-forward .last .0) (f .if1 .left) (λ i. s .slice-known .given i .fits) (d .close-forward .ensures)
+
+same-length-2 : tie.Need-same-length-2
+same-length-2 c = search needs
+
+returns-3 : tie.Need-returns-3
+returns-3 c =
+    let d = c .before .before in
+    let f = d .before .before .before .before .before .before .before in
+    let s = f .before in
+    chained (s .before .args .rows .now) (d .close-any .last .0) (f .if1 .left) (λ i. s .slice-known .given i .fits) (d .close-any .ensures)
 
 pub chains-spec : {M : Type 1} → statement M
-chains-spec =
-    tie.close
-    (tie.spec
-    Inv-loop
-    μ-loop
-    returns
-    height-requires
-    loop-holds
-    pass-requires
-    add-k
-    loop-less
-    loop-again
-    same-length
-    returns-2)
+chains-spec = tie.close (tie.spec returns height-requires forward-requires close-forward-requires close-any-requires same-length returns-2 same-length-2 returns-3)
