@@ -7,6 +7,7 @@ pub mod Unique
 pub mod Against
 pub mod Nexts
 pub mod Dropping
+pub mod Resting
 pub mod Sets
 pub mod Lent
 pub mod Squares
