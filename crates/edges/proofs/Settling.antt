@@ -1,6 +1,5 @@
 -- The loop that settles rows by taking pairs in: begin, a pass, the end.
 --
---   first-inside     == the edges of round 0 join records
 --   noted            == what a pass asks of the noted facts
 --   settling-first   == the chains of round 0
 --   settling-next    == after a pass
@@ -31,13 +30,12 @@ use Rattle.rows.proofs.Whole.{empty-bit, empty-long, empty-words, rows-one}
 use Rattle.rules.specs.Rules.{InRecords}
 use Rattle.pairs.specs.SourceOf.{sourceOf}
 use Rattle.pairs.proofs.SourceOf.{source-of-is}
-use Rattle.rules.proofs.Ends.{chains-within}
 use Rattle.rules.proofs.Growing.{growing-chain, growing-circle, growing-end, growing-stop}
 use Rattle.edges.specs.inner.PairSets.{Union}
 use Rattle.edges.specs.inner.DrawnEdges.{SettledFor}
 use Rattle.edges.specs.LastRound.{Full}
 use Rattle.edges.specs.inner.RoundStep.{Facts, FirstRound, Closed}
-use Rattle.edges.specs.inner.ClosedTables.{Twin, Inside}
+use Rattle.edges.specs.inner.ClosedTables.{Twin}
 use Rattle.edges.specs.inner.Takes.{Asks, Takes, AskNoted}
 use Rattle.edges.specs.inner.Settling.{SettlingRows, Grew}
 use Rattle.edges.proofs.RoundStep.{settled-gives}
@@ -77,10 +75,6 @@ module _ (f : Frame) (K P : Table) where
     full = rw q (record { long = empty-long n ∙ l; words = empty-words n });
     closing = growing-stop f K P (growing-circle f K P (Edges e) (now .growing) (circled e .1 c)) (bit e′) (λ x y b. false≢true (sym (ap (λ r. bit r x y) q ∙ empty-bit n x y) ∙ b));
   }
-
-  module _ (g : Good f) (small : f .records ≤ RECORDS) (inK : InRecords f K) (inP : InRecords f P) where
-    pub first-inside : (s w e : List ℕ) → FirstRound f K P s w e → Inside (f .records) e
-    first-inside s w e d x y u = chains-within f g K P inK inP 1 x y (one (d .has x y .0 u))
 
   module _ (g : Good f) (small : f .records ≤ RECORDS) (inK : InRecords f K) (inP : InRecords f P) (s w : List ℕ) (facts : Facts f s w) where
     pub noted : (n : ℕ) → n ≡ f .records → AskNoted n s w f K P

@@ -69,10 +69,13 @@ waiting-of e words x y w ws L S h own elsewhere there fresh r qo qe qt qf qr z =
     back u =
         let c : So (bit there 0 z) = subst (λ (l : List ℕ). So (bit l 0 z)) (sym qt) (rest-has e words x elsewhere 0 z .1 (u .0, λ s. rest-has e words x w L z .0 (subst (λ (l : List ℕ). So (bit l 0 z)) qe s) .1 (u .1))) in
         let b : So (bit fresh 0 z) = subst (λ (l : List ℕ). So (bit l 0 z)) (sym qf) (rest-has there wt 0 e y z .1 (c, u .2)) in
-        subst (λ (l : List ℕ). So (bit l 0 z)) (sym qr) (rest-has fresh wf 0 own 0 z .1 (b, λ s. elim (alone .has z .0 (subst (λ (l : List ℕ). So (bit l 0 z)) qo s)) [
-          | inl v ↦ absurd (false≢true (sym (empty-bit WORDS 0 z) ∙ v))
-          | inr v ↦ u .3 v
-        ]))
+        subst (λ (l : List ℕ). So (bit l 0 z)) (sym qr) (rest-has fresh wf 0 own 0 z .1 (
+          b,
+          λ s. elim (alone .has z .0 (subst (λ (l : List ℕ). So (bit l 0 z)) qo s)) [
+            | inl v ↦ absurd (false≢true (sym (empty-bit WORDS 0 z) ∙ v))
+            | inr v ↦ u .3 v
+          ],
+        ))
 
 module _ (ask : Asks) where
   pub takes-old : (e p : List ℕ) (R : Rel) → R ⊆ Edges e → Takes ask e p R e p

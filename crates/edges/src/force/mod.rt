@@ -17,6 +17,7 @@ ghost use Rattle.pairs.specs.SourceOf.{sourceOf};
 ghost use Rattle.edges.specs.inner.DrawnEdges.{Spared, SparedFrom, paired, Stored, Valued, ValuedFor, Settled, SettledBy, SettledFor, Loaded};
 ghost use Rattle.edges.specs.inner.RoundStep.{FirstRound, Closed, Advanced};
 ghost use Rattle.edges.specs.LastRound.{Ends};
+ghost use Rattle.edges.specs.inner.ClosedTables.{Inside};
 ghost use Rattle.edges.specs.inner.Settling.{Grew};
 ghost use Rattle.edges.specs.inner.Takes.{Waiting, Takes, AskWritten, AskNoted};
 ghost use Rattle.edges.specs.ForcedPairs.{RoundedBy, Rounded, ForcesBy, Forces};
@@ -284,14 +285,13 @@ fn draw_first(
     draw_values(t, sources, writers, edges);
 }
 
-// Makes `chains` the chains of the edges, and tells whether one leads from a number to itself.
-fn close(edges: &[u64], chains: &mut [u64]) -> bool
-    requires { ⌜ (length (now edges) ≡ CELLS) × (length (now chains) ≡ CELLS) ⌝ }
+// Makes `chains` the chains of edges between numbers below n, and tells whether one leads from a number to itself.
+fn close(n: usize, edges: &[u64], chains: &mut [u64]) -> bool
+    requires { ⌜ (n ≤ RECORDS) × Inside n (now edges) × (length (now chains) ≡ CELLS) ⌝ }
     ensures { λ r. ⌜ Closed (now (edges .entry)) (now (chains .exit)) r ⌝ }
 {
-    rows::copy(edges, chains);
-    rows::chains(chains);
-    rows::reflexive(chains)
+    let mut turned = [0u64; rows::CELLS];
+    close_both_ways(n, edges, chains, &mut turned)
 }
 
 // Goes to the next round, from the chains of this one, where that adds an edge.
@@ -376,7 +376,7 @@ fn run(
     rows::clear(before);
     let mut number: usize = 0;
     loop {
-        if close(edges, chains) {
+        if close(t.len, edges, chains) {
             return End {
                 number,
                 circle: true,
@@ -415,7 +415,7 @@ fn run_before(
     let mut number: usize = 0;
     loop {
         rows::copy(&next, edges);
-        close(edges, chains);
+        close(t.len, edges, chains);
         if k <= number + 1 {
             return number;
         }

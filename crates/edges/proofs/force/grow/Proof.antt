@@ -13,8 +13,8 @@ use Rattle.rows.specs.Lent.{lentOf}
 use Rattle.rows.proofs.Lent.{lent-within}
 use Rattle.edges.specs.Supposed.{supposedOf}
 use Rattle.edges.specs.inner.Settling.{SettlingRows}
-use Rattle.edges.proofs.LastRound.{supposed-within}
-use Rattle.edges.proofs.Settling.{first-inside, settling-first, settling-next, settling-fewer, settling-end, settling-circle}
+use Rattle.edges.proofs.LastRound.{supposed-within, edges-inside}
+use Rattle.edges.proofs.Settling.{settling-first, settling-next, settling-fewer, settling-end, settling-circle}
 use borrow.Author.Needs.{needs}
 use Rattle.edges.proofs.force.grow.Statement.{statement}
 use Rattle.edges.proofs.force.grow.Tie as tie
@@ -48,7 +48,7 @@ unfolding frameOf
 close-both-ways-requires c κs =
     let s = c .before .before .before .before .before .before .before .before .before .before .before .before .before in
     let t = s .args .t in
-    (form-iff t .0 (s .pre .0) .fits, first-inside (frameOf t) (lentOf t (s .args .kept .now)) (supposedOf t (s .args .supposed .now)) (good t (s .pre .0)) (form-iff t .0 (s .pre .0) .fits) (lent-within t (s .args .kept .now) (s .pre .0)) (supposed-within t (s .args .supposed .now) (s .pre .0)) _ _ _ (c .before .before .before .before .before .before .draw-first .ensures), s .pre .1, refl)
+    (form-iff t .0 (s .pre .0) .fits, edges-inside (frameOf t) (good t (s .pre .0)) (lentOf t (s .args .kept .now)) (supposedOf t (s .args .supposed .now)) (lent-within t (s .args .kept .now) (s .pre .0)) (supposed-within t (s .args .supposed .now) (s .pre .0)) 0 _ (c .before .before .before .before .before .before .draw-first .ensures .has), s .pre .1, refl)
 
 loop-holds : tie.Need-loop-holds Inv-loop μ-loop
 loop-holds c =
