@@ -2,7 +2,8 @@
 --
 --   kept-within, supposed-within     == the pairs of a well formed trace join its records
 --   begun                            == round 0 of a well formed trace
---   closed, stayed-at, grown-at      == what one turn's functions do
+--   stayed-at, grown-at              == what one turn's functions do
+--   edges-inside                     == the edges of a round join records
 --   adds-full, closed-chains         == rows stay whole when they are added to; the chains of a round's edges are those before the next
 --   stayed, grown                    == the two outcomes of a turn
 --   Stands f K P k b e               == the loop stands at round k: b has the chains before it, e its edges, and it went on so far
@@ -19,7 +20,7 @@ use native.Mathlib.Decide.{decLe}
 use native.Mathlib.Omega.{arith}
 use lib.ListN.{length}
 use Rattle.laws.specs.Tests.{any}
-use Rattle.laws.specs.Relation.{Rel, Table, _⊆_}
+use Rattle.laws.specs.Relation.{Rel, Table, _⊆_, one}
 use Rattle.laws.proofs.GrowingTables.{pairs}
 use Rattle.laws.proofs.Tests.{so-any, last?, test-one}
 use Rattle.laws.proofs.Relation.{chain-mono}
@@ -35,7 +36,6 @@ use Rattle.rows.specs.Bounds.{CELLS}
 use Rattle.rows.specs.Rows.{bit, Edges}
 use Rattle.rows.specs.Empty.{emptyOf}
 use Rattle.rows.specs.Copy.{copyOf}
-use Rattle.rows.specs.Chained.{Chained}
 use Rattle.rows.specs.Lent.{lentOf}
 use Rattle.rows.proofs.Rows.{bit-bounds}
 use Rattle.rows.proofs.Whole.{empty-bit, empty-long, empty-words, copy-same, rows-one}
@@ -46,7 +46,9 @@ use Rattle.rules.specs.Rules.{Chains, Edge, Last, InRecords}
 use Rattle.edges.specs.inner.PairSets.{Only, Union, Cover}
 use Rattle.rows.specs.inner.AddedPairs.{Added}
 use Rattle.edges.specs.inner.DrawnEdges.{paired, SettledFor, Loaded}
+use Rattle.rules.proofs.Ends.{chains-within}
 use Rattle.edges.specs.LastRound.{GoesOn, Full, Ends}
+use Rattle.edges.specs.inner.ClosedTables.{Inside}
 use Rattle.edges.specs.inner.RoundStep.{Facts, FirstRound, Closed, Advanced, stays, grows}
 use Rattle.rules.proofs.Ends.{joins-within}
 use Rattle.pairs.proofs.KeptPairs.{kept-joins}
@@ -96,12 +98,6 @@ begun t kept p s w₀ w e₀ e₁ e a b wf cw lw ce l ps vs =
           );
     })
 
-pub closed : (e h₀ h₁ h : List ℕ) (c : Bool) → length e ≡ CELLS → length h₀ ≡ CELLS → h₁ ≡ copyOf e h₀ → Chained h₁ h → c ≡ any RECORDS (λ x. bit h x x) → Closed e h c
-closed e h₀ h₁ h c le lh p chained q =
-    let same : h₁ ≡ e = p ∙ copy-same e h₀ (le ∙ sym lh) in
-    let d : Chained e h = rw same at chained in
-    record { full = record { long = d .long ∙ le; words = d .words }; has = d .chains le; circle = q }
-
 module _ (e n₀ n₁ n₂ : List ℕ) (R : Rel) (le : length e ≡ CELLS) (ln : length n₀ ≡ CELLS) (p : n₁ ≡ copyOf e n₀) (adds : Added n₁ R n₂) where
   -- the edges were copied, and then added to
   added : Added e R n₂
@@ -139,6 +135,9 @@ fewer e e′ R full adds d = elim (decLe (pairs RECORDS (bit e′)) (pairs RECOR
 
 pub turns : (k : ℕ) (e e′ : List ℕ) (R : Rel) → Full e → Added e R e′ → (e′ ≡ e → ⊥) → k ≤ pairs RECORDS (bit e) → suc k ≤ pairs RECORDS (bit e′)
 turns k e e′ R full adds d h = omega (arith, fewer e e′ R full adds d, pairs-bound RECORDS (bit e′))
+
+pub edges-inside : (f : Frame) → Good f → (K P : Table) → InRecords f K → InRecords f P → (k : ℕ) (e : List ℕ) → ((x y : ℕ) → So (bit e x y) ↔ Edge f K P k x y) → Inside (f .records) e
+edges-inside f g K P inK inP k e has x y u = chains-within f g K P inK inP (suc k) x y (one (has x y .0 u))
 
 module _ (f : Frame) (K P : Table) where
   pub closed-chains : (k : ℕ) (e h : List ℕ) (c : Bool) → ((x y : ℕ) → So (bit e x y) ↔ Edge f K P k x y) → Closed e h c → (x y : ℕ) → So (bit h x y) ↔ Chains f K P (suc k) x y

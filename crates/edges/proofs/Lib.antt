@@ -11,5 +11,6 @@ pub mod LastRound
 pub mod ForcedPairs
 pub mod RoundBefore
 pub mod Unique
+pub mod ClosedTables
 pub mod Takes
 pub mod Settling

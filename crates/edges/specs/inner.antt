@@ -4,5 +4,6 @@ pub mod DrawnEdges
 pub mod LaterRecords
 pub mod SourcesLaid
 pub mod RoundStep
+pub mod ClosedTables
 pub mod Settling
 pub mod Takes

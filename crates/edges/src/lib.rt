@@ -1,4 +1,5 @@
 // The edges that the rules force, and what is held when they are closed round by round.
+mod closed;
 pub mod force;
 pub mod kept;
 pub mod sources;

@@ -8,6 +8,7 @@ pub mod Against
 pub mod Nexts
 pub mod Dropping
 pub mod Forwards
+pub mod Resting
 pub mod Sets
 pub mod Lent
 pub mod Squares

@@ -36,6 +36,8 @@ use Rattle.rows.proofs.add_row.Reads as add-row
 use Rattle.rows.proofs.add_row.Kinds as add-row-kinds
 use Rattle.rows.proofs.drop_row.Reads as drop-row
 use Rattle.rows.proofs.drop_row.Kinds as drop-row-kinds
+use Rattle.rows.proofs.rest.Reads as rest
+use Rattle.rows.proofs.rest.Kinds as rest-kinds
 use Rattle.rows.proofs.turn.Reads as turn
 use Rattle.rows.proofs.turn.Kinds as turn-kinds
 use Rattle.rows.proofs.chains.Reads as chains
@@ -79,6 +81,9 @@ add-row-leaves κs a x y s t p q = p ∙ sym q
 
 pub drop-row-leaves : Leaves 2 drop-row-kinds.ps drop-row-kinds.r (λ κs s. now (s .1 .1 .0)) drop-row.Post
 drop-row-leaves κs a x y s t p q = p ∙ sym q
+
+pub rest-settles : Settles 2 rest-kinds.ps rest-kinds.r rest.Post
+rest-settles κs a x y s t p q = p ∙ sym q
 
 pub chains-leaves : Leaves 1 chains-kinds.ps chains-kinds.r (λ κs s. now (s .0)) chains.Post
 chains-leaves κs a x y s t p q = chained-one (now (a .0)) (now (s .0)) (now (t .0)) p q

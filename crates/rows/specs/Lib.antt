@@ -9,6 +9,7 @@ pub mod Within
 pub mod Next
 pub mod AddRow
 pub mod DropRow
+pub mod Rest
 pub mod Lent
 pub mod TurnedRound
 pub mod inner

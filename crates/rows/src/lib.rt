@@ -22,6 +22,7 @@ ghost use Rattle.rows.specs.inner.Forward.{Forward, ClosedPast, SecondSt
 ghost use Rattle.rows.specs.Chained.{Chained};
 ghost use Rattle.rows.specs.AddRow.{addRowOf};
 ghost use Rattle.rows.specs.DropRow.{dropRowOf};
+ghost use Rattle.rows.specs.Rest.{restOf};
 ghost use Rattle.rows.specs.TurnedRound.{TurnedRound};
 ghost use Rattle.rows.specs.inner.Squares.{Square, Mask, squareBit, crossed, part, InSquare, LaysSquare, Turns};
 
@@ -365,6 +366,16 @@ pub fn drop_row(from: &[u64], m: usize, to: &mut [u64], x: usize)
         }
         i += 1;
     }
+}
+
+// What row x of one relation has and row y of another has not, as a row of its own.
+pub fn rest(from: &[u64], x: usize, out: &[u64], y: usize) -> [u64; WORDS]
+    ensures { λ r. ⌜ r ≡ restOf (now (from .entry)) x (now (out .entry)) y ⌝ }
+{
+    let mut left = [0u64; WORDS];
+    add_row(from, x, &mut left, 0);
+    drop_row(out, y, &mut left, 0);
+    left
 }
 
 // The columns that m has from one word, the others from another.

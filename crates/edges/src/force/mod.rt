@@ -8,7 +8,6 @@ ghost use Rattle.trace.specs.Bounds.{RECORDS};
 ghost use Rattle.trace.specs.WellFormed.{wellFormed};
 ghost use Rattle.trace.specs.Meaning.{frameOf};
 ghost use Rattle.rows.specs.Bounds.{CELLS};
-ghost use Rattle.rows.specs.Rows.{Edges};
 ghost use Rattle.rows.specs.Lent.{lentOf};
 ghost use Rattle.rules.specs.RuleTests.{writer?};
 ghost use Rattle.edges.specs.Supposed.{supposedOf};
@@ -18,11 +17,14 @@ ghost use Rattle.pairs.specs.SourceOf.{sourceOf};
 ghost use Rattle.edges.specs.inner.DrawnEdges.{Spared, SparedFrom, paired, Stored, Valued, ValuedFor, Settled, SettledBy, SettledFor, Loaded};
 ghost use Rattle.edges.specs.inner.RoundStep.{FirstRound, Closed, Advanced};
 ghost use Rattle.edges.specs.LastRound.{Ends};
+ghost use Rattle.edges.specs.inner.ClosedTables.{Inside};
 ghost use Rattle.edges.specs.inner.Settling.{Grew};
-ghost use Rattle.edges.specs.inner.Takes.{Lead, Takes, AskPair, AskSourced, AskWritten, AskNoted};
+ghost use Rattle.edges.specs.inner.Takes.{Waiting, Takes, AskWritten, AskNoted};
 ghost use Rattle.edges.specs.ForcedPairs.{RoundedBy, Rounded, ForcesBy, Forces};
 ghost use Rattle.edges.specs.RoundBefore.{PriorTo, PriorRound};
 use crate::Forced;
+use crate::closed::close_both_ways;
+use crate::closed::take_row;
 use crate::kept::kept_rows;
 use crate::sources::lay_sources;
 use crate::sources::note_stores;
@@ -218,69 +220,48 @@ fn draw_settled(n: usize, sources: &[usize], writers: &[u64], chains: &[u64], ed
     }
 }
 
-// Adds the pair a, b, and all that it then joins, to the rows below n: a relation that is closed under chains stays so.
-fn span(n: usize, edges: &mut [u64], a: usize, b: usize)
-    requires { ⌜ (n ≤ RECORDS) × (b < RECORDS) × (length (now edges) ≡ CELLS) ⌝ }
-    ensures { λ r. ⌜ Added (now (edges .entry)) (Union n (Lead (Edges (now (edges .entry))) a b)) (now (edges .exit)) ⌝ }
+// The writers of a load's address but its source that row x has and row y has not.
+fn waiting(
+    rows: &[u64],
+    x: usize,
+    y: usize,
+    writers: &[u64],
+    load: usize,
+    source: usize,
+) -> [u64; rows::WORDS]
+    requires { ⌜ source < RECORDS ⌝ }
+    ensures { λ r. ⌜ Waiting (now (rows .entry)) x y (now (writers .entry)) load source r ⌝ }
 {
-    let mut row = [0u64; rows::WORDS];
-    rows::add_row(edges, b, &mut row, 0);
-    rows::put(&mut row, 0, b);
-    let mut x: usize = 0;
-    while x < n {
-        if (x == a) | rows::test(edges, x, a) {
-            rows::add_row(&row, 0, edges, x);
-        }
-        x += 1;
-    }
+    let mut own = [0u64; rows::WORDS];
+    rows::put(&mut own, 0, source);
+    let elsewhere = rows::rest(rows, x, writers, load);
+    let there = rows::rest(rows, x, &elsewhere, 0);
+    let fresh = rows::rest(&there, 0, rows, y);
+    rows::rest(&fresh, 0, &own, 0)
 }
 
-// Takes the pair a, b into rows that are closed, with all that it joins, if it is asked for and not there.
-fn take(n: usize, edges: &mut [u64], want: bool, a: usize, b: usize)
-    requires { ⌜ (n ≤ RECORDS) × (a < n) × (b < RECORDS) × (length (now edges) ≡ CELLS) ⌝ }
-    ensures { λ r. ⌜ Takes (AskPair n want a b) (now (edges .entry)) (Only want a b) (now (edges .exit)) ⌝ }
+// Takes in what one load with a source is given by rules 6 and 7, each a row at a time: what comes after the source comes after the load, and what
+// comes before the load comes before the source.
+fn settle_for(writers: &[u64], source: usize, load: usize, edges: &mut [u64], turned: &mut [u64])
+    requires { ⌜ (source < RECORDS) × (load < RECORDS) × (length (now edges) ≡ CELLS) × (length (now turned) ≡ CELLS) ⌝ }
+    ensures { λ r. ⌜ Takes (AskWritten (now (writers .entry)) source load) (now (edges .entry)) (now (turned .entry)) (Union RECORDS (SettledBy (now (writers .entry)) (now (edges .entry)) source load)) (now (edges .exit)) (now (turned .exit)) ⌝ }
 {
-    let there = rows::test(edges, a, b);
-    if want & !there {
-        span(n, edges, a, b);
-    }
-}
-
-// Takes in what x, a writer of a load's address other than the load's source, gives by rules 6 and 7.
-fn settle_by(n: usize, source: usize, load: usize, x: usize, edges: &mut [u64])
-    requires { ⌜ (n ≤ RECORDS) × (x < n) × (source < RECORDS) × (load < n) × (length (now edges) ≡ CELLS) ⌝ }
-    ensures { λ r. ⌜ Takes (AskSourced n source load x) (now (edges .entry)) (Settled (now (edges .entry)) source load x) (now (edges .exit)) ⌝ }
-{
-    let sixth = rows::test(edges, x, load);
-    take(n, edges, sixth, x, source);
-    let seventh = rows::test(edges, source, x);
-    take(n, edges, seventh, load, x);
-}
-
-// Takes in what one load with a source is given by rules 6 and 7.
-fn settle_for(n: usize, writers: &[u64], source: usize, load: usize, edges: &mut [u64])
-    requires { ⌜ (n ≤ RECORDS) × (source < RECORDS) × (load < n) × (length (now edges) ≡ CELLS) ⌝ }
-    ensures { λ r. ⌜ Takes (AskWritten n (now (writers .entry)) source load) (now (edges .entry)) (Union n (SettledBy (now (writers .entry)) (now (edges .entry)) source load)) (now (edges .exit)) ⌝ }
-{
-    let mut x = rows::next(writers, load, 0);
-    while x < n {
-        if x != source {
-            settle_by(n, source, load, x, edges);
-        }
-        x = rows::next(writers, load, x + 1);
-    }
+    let late = waiting(edges, source, load, writers, load, source);
+    take_row(edges, turned, load, &late);
+    let early = waiting(turned, load, source, writers, load, source);
+    take_row(turned, edges, source, &early);
 }
 
 // Takes in what rules 6 and 7 give, load by load.
-fn settle(n: usize, sources: &[usize], writers: &[u64], edges: &mut [u64])
-    requires { ⌜ (n ≤ RECORDS) × (length (now sources) ≡ RECORDS) × (length (now edges) ≡ CELLS) ⌝ }
-    ensures { λ r. ⌜ Takes (AskNoted n (now (sources .entry)) (now (writers .entry))) (now (edges .entry)) (Union n (SettledFor n (now (sources .entry)) (now (writers .entry)) (now (edges .entry)))) (now (edges .exit)) ⌝ }
+fn settle(n: usize, sources: &[usize], writers: &[u64], edges: &mut [u64], turned: &mut [u64])
+    requires { ⌜ (n ≤ RECORDS) × (length (now sources) ≡ RECORDS) × (length (now edges) ≡ CELLS) × (length (now turned) ≡ CELLS) ⌝ }
+    ensures { λ r. ⌜ Takes (AskNoted n (now (sources .entry)) (now (writers .entry))) (now (edges .entry)) (now (turned .entry)) (Union n (SettledFor n (now (sources .entry)) (now (writers .entry)) (now (edges .entry)))) (now (edges .exit)) (now (turned .exit)) ⌝ }
 {
     let mut load: usize = 0;
     while load < n {
         let source = sources[load];
         if source < RECORDS {
-            settle_for(n, writers, source, load, edges);
+            settle_for(writers, source, load, edges, turned);
         }
         load += 1;
     }
@@ -304,14 +285,13 @@ fn draw_first(
     draw_values(t, sources, writers, edges);
 }
 
-// Makes `chains` the chains of the edges, and tells whether one leads from a number to itself.
-fn close(edges: &[u64], chains: &mut [u64]) -> bool
-    requires { ⌜ (length (now edges) ≡ CELLS) × (length (now chains) ≡ CELLS) ⌝ }
+// Makes `chains` the chains of edges between numbers below n, and tells whether one leads from a number to itself.
+fn close(n: usize, edges: &[u64], chains: &mut [u64]) -> bool
+    requires { ⌜ (n ≤ RECORDS) × Inside n (now edges) × (length (now chains) ≡ CELLS) ⌝ }
     ensures { λ r. ⌜ Closed (now (edges .entry)) (now (chains .exit)) r ⌝ }
 {
-    rows::copy(edges, chains);
-    rows::chains(chains);
-    rows::reflexive(chains)
+    let mut turned = [0u64; rows::CELLS];
+    close_both_ways(n, edges, chains, &mut turned)
 }
 
 // Goes to the next round, from the chains of this one, where that adds an edge.
@@ -338,14 +318,20 @@ fn advance(
 }
 
 // One pass over the loads, and whether it changed nothing.
-fn settle_all(n: usize, sources: &[usize], writers: &[u64], edges: &mut [u64]) -> bool
-    requires { ⌜ (n ≤ RECORDS) × (length (now sources) ≡ RECORDS) × (length (now edges) ≡ CELLS) ⌝ }
-    ensures { λ r. ⌜ Takes (AskNoted n (now (sources .entry)) (now (writers .entry))) (now (edges .entry)) (Union n (SettledFor n (now (sources .entry)) (now (writers .entry)) (now (edges .entry)))) (now (edges .exit)) ⌝ }
+fn settle_all(
+    n: usize,
+    sources: &[usize],
+    writers: &[u64],
+    edges: &mut [u64],
+    turned: &mut [u64],
+) -> bool
+    requires { ⌜ (n ≤ RECORDS) × (length (now sources) ≡ RECORDS) × (length (now edges) ≡ CELLS) × (length (now turned) ≡ CELLS) ⌝ }
+    ensures { λ r. ⌜ Takes (AskNoted n (now (sources .entry)) (now (writers .entry))) (now (edges .entry)) (now (turned .entry)) (Union n (SettledFor n (now (sources .entry)) (now (writers .entry)) (now (edges .entry)))) (now (edges .exit)) (now (turned .exit)) ⌝ }
     ensures { λ r. ⌜ So r ↔ (now (edges .entry) ≡ now (edges .exit)) ⌝ }
 {
     let mut before = [0u64; rows::CELLS];
     rows::copy(edges, &mut before);
-    settle(n, sources, writers, edges);
+    settle(n, sources, writers, edges, turned);
     rows::equal(&before, edges)
 }
 
@@ -357,14 +343,15 @@ fn grow(t: Trace, kept: &[u64], supposed: &[u64], edges: &mut [u64]) -> bool
     let mut sources = [RECORDS; RECORDS];
     let mut writers = [0u64; rows::CELLS];
     let mut first = [0u64; rows::CELLS];
+    let mut turned = [0u64; rows::CELLS];
     draw_first(t, kept, supposed, &mut sources, &mut writers, &mut first);
-    close(&first, edges);
+    close_both_ways(t.len, &first, edges, &mut turned);
     loop {
         if rows::reflexive(edges) {
             rows::clear(edges);
             return true;
         }
-        if settle_all(t.len, &sources, &writers, edges) {
+        if settle_all(t.len, &sources, &writers, edges, &mut turned) {
             return false;
         }
     }
@@ -389,7 +376,7 @@ fn run(
     rows::clear(before);
     let mut number: usize = 0;
     loop {
-        if close(edges, chains) {
+        if close(t.len, edges, chains) {
             return End {
                 number,
                 circle: true,
@@ -428,7 +415,7 @@ fn run_before(
     let mut number: usize = 0;
     loop {
         rows::copy(&next, edges);
-        close(edges, chains);
+        close(t.len, edges, chains);
         if k <= number + 1 {
             return number;
         }

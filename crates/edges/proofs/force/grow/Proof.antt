@@ -13,17 +13,17 @@ use Rattle.rows.specs.Lent.{lentOf}
 use Rattle.rows.proofs.Lent.{lent-within}
 use Rattle.edges.specs.Supposed.{supposedOf}
 use Rattle.edges.specs.inner.Settling.{SettlingRows}
-use Rattle.edges.proofs.LastRound.{supposed-within}
+use Rattle.edges.proofs.LastRound.{supposed-within, edges-inside}
 use Rattle.edges.proofs.Settling.{settling-first, settling-next, settling-fewer, settling-end, settling-circle}
 use borrow.Author.Needs.{needs}
 use Rattle.edges.proofs.force.grow.Statement.{statement}
 use Rattle.edges.proofs.force.grow.Tie as tie
 
 abbrev Inv-loop : tie.InvT-loop
-Inv-loop t kept supposed edges₀ sources writers edges = SettlingRows (frameOf t) (lentOf t kept) (supposedOf t supposed) edges
+Inv-loop t kept supposed edges₀ sources writers turned₀ edges turned = SettlingRows (frameOf t) (lentOf t kept) (supposedOf t supposed) edges turned
 
 abbrev μ-loop : tie.MeasureT-loop
-μ-loop t kept supposed edges₀ sources writers edges = RECORDS * RECORDS - pairs RECORDS (bit edges)
+μ-loop t kept supposed edges₀ sources writers turned₀ edges turned = RECORDS * RECORDS - pairs RECORDS (bit edges)
 
 slice-aggregate-draw-first : tie.Need-slice-aggregate-draw-first Inv-loop μ-loop
 slice-aggregate-draw-first c = search needs
@@ -37,19 +37,25 @@ slice-aggregate-draw-first-3 c = search needs
 draw-first-requires : tie.Need-draw-first-requires Inv-loop μ-loop
 draw-first-requires c κs = search needs
 
-slice-aggregate-close : tie.Need-slice-aggregate-close Inv-loop μ-loop
-slice-aggregate-close c = search needs
+slice-aggregate-close-both-ways : tie.Need-slice-aggregate-close-both-ways Inv-loop μ-loop
+slice-aggregate-close-both-ways c = search needs
 
-close-requires : tie.Need-close-requires Inv-loop μ-loop
-close-requires c κs = search needs
+slice-aggregate-close-both-ways-2 : tie.Need-slice-aggregate-close-both-ways-2 Inv-loop μ-loop
+slice-aggregate-close-both-ways-2 c = search needs
+
+close-both-ways-requires : tie.Need-close-both-ways-requires Inv-loop μ-loop
+unfolding frameOf
+close-both-ways-requires c κs =
+    let s = c .before .before .before .before .before .before .before .before .before .before .before .before .before in
+    let t = s .args .t in
+    (form-iff t .0 (s .pre .0) .fits, edges-inside (frameOf t) (good t (s .pre .0)) (lentOf t (s .args .kept .now)) (supposedOf t (s .args .supposed .now)) (lent-within t (s .args .kept .now) (s .pre .0)) (supposed-within t (s .args .supposed .now) (s .pre .0)) 0 _ (c .before .before .before .before .before .before .draw-first .ensures .has), s .pre .1, refl)
 
 loop-holds : tie.Need-loop-holds Inv-loop μ-loop
 loop-holds c =
-    let k = c .before .before in
-    let d = k .before .before .before .before .before .before in
-    let s = d .before .before .before .before .before .before .before in
+    let k = c .before .before .before .close-both-ways .ensures in
+    let s = c .before .before .before .before .before .before .before .before .before .before .before .before .before .before .before .before .before in
     let t = s .args .t in
-    settling-first (frameOf t) (lentOf t (s .args .kept .now)) (supposedOf t (s .args .supposed .now)) _ _ _ _ _ (d .draw-first .ensures) (k .close .ensures)
+    settling-first (frameOf t) (lentOf t (s .args .kept .now)) (supposedOf t (s .args .supposed .now)) _ _ _ _ _ _ (c .before .before .before .before .before .before .before .before .before .before .draw-first .ensures) (k .0) (k .1) (k .2)
 
 reflexive-requires : tie.Need-reflexive-requires Inv-loop μ-loop
 reflexive-requires c κs = search needs
@@ -62,14 +68,10 @@ same-length c = search needs
 
 returns : tie.Need-returns Inv-loop μ-loop
 returns c =
-    let k = c .before .before in
-    let h = k .before .before in
-    let r = h .before in
-    let l = r .before .before in
-    let d = l .before .before .before .before .before .before .before .before .before in
-    let s = d .before .before .before .before .before .before .before in
+    let l = c .before .before .before .before .before .before .before in
+    let s = c .before .before .before .before .before .before .before .before .before .before .before .before .before .before .before .before .before .before .before .before .before .before .before .before .before in
     let t = s .args .t in
-    settling-circle (frameOf t) (lentOf t (s .args .kept .now)) (supposedOf t (s .args .supposed .now)) (l .loop .edges) _ (length (l .loop .edges)) (l .loop .inv) (sym (r .reflexive .ensures) ∙ h .if1 .taken) (k .clear .ensures) (l .loop .inv .full .long)
+    settling-circle (frameOf t) (lentOf t (s .args .kept .now)) (supposedOf t (s .args .supposed .now)) (l .loop .edges) (l .loop .turned) _ (length (l .loop .edges)) (l .loop .inv) (sym (c .before .before .before .before .before .reflexive .ensures) ∙ c .before .before .before .before .if1 .taken) (c .before .before .clear .ensures) (l .loop .inv .full .long)
 
 slice-aggregate-settle-all : tie.Need-slice-aggregate-settle-all Inv-loop μ-loop
 slice-aggregate-settle-all c = search needs
@@ -77,12 +79,14 @@ slice-aggregate-settle-all c = search needs
 slice-aggregate-settle-all-2 : tie.Need-slice-aggregate-settle-all-2 Inv-loop μ-loop
 slice-aggregate-settle-all-2 c = search needs
 
+slice-aggregate-settle-all-3 : tie.Need-slice-aggregate-settle-all-3 Inv-loop μ-loop
+slice-aggregate-settle-all-3 c = sym (c .before .before .before .before .before .before .before .loop .inv .turned-long)
+
 settle-all-requires : tie.Need-settle-all-requires Inv-loop μ-loop
 settle-all-requires c κs =
-    let l = c .before .before .before .before .before .before in
-    let d = l .before .before .before .before .before .before .before .before .before in
-    let s = d .before .before .before .before .before .before .before in
-    (form-iff (s .args .t) .0 (s .pre .0) .fits, d .draw-first .ensures .facts .sources-long, l .loop .inv .full .long)
+    let l = c .before .before .before .before .before .before .before in
+    let s = c .before .before .before .before .before .before .before .before .before .before .before .before .before .before .before .before .before .before .before .before .before .before .before .before .before in
+    (form-iff (s .args .t) .0 (s .pre .0) .fits, c .before .before .before .before .before .before .before .before .before .before .before .before .before .before .before .before .before .before .draw-first .ensures .facts .sources-long, l .loop .inv .full .long, l .loop .inv .turned-long)
 
 same-length-2 : tie.Need-same-length-2 Inv-loop μ-loop
 same-length-2 c = search needs
@@ -90,39 +94,27 @@ same-length-2 c = search needs
 returns-2 : tie.Need-returns-2 Inv-loop μ-loop
 unfolding frameOf
 returns-2 c =
-    let a = c .before .before .before in
-    let h = a .before .before .before .before in
-    let r = h .before in
-    let l = r .before .before in
-    let d = l .before .before .before .before .before .before .before .before .before in
-    let s = d .before .before .before .before .before .before .before in
+    let a = c .before .before .before .before .settle-all .ensures in
+    let l = c .before .before .before .before .before .before .before .before .before .before .before .before in
+    let s = c .before .before .before .before .before .before .before .before .before .before .before .before .before .before .before .before .before .before .before .before .before .before .before .before .before .before .before .before .before .before in
     let t = s .args .t in
-    settling-end (frameOf t) (lentOf t (s .args .kept .now)) (supposedOf t (s .args .supposed .now)) (good t (s .pre .0)) (form-iff t .0 (s .pre .0) .fits) (lent-within t (s .args .kept .now) (s .pre .0)) (supposed-within t (s .args .supposed .now) (s .pre .0)) _ _ (d .draw-first .ensures .facts)
-    (l .loop .edges) _ (l .loop .inv) (sym (r .reflexive .ensures) ∙ h .if1 .left) (a .settle-all .ensures .0) (a .settle-all .ensures .1 .0 (c .if2 .taken))
+    settling-end (frameOf t) (lentOf t (s .args .kept .now)) (supposedOf t (s .args .supposed .now)) (good t (s .pre .0)) (form-iff t .0 (s .pre .0) .fits) (lent-within t (s .args .kept .now) (s .pre .0)) (supposed-within t (s .args .supposed .now) (s .pre .0)) _ _ (c .before .before .before .before .before .before .before .before .before .before .before .before .before .before .before .before .before .before .before .before .before .before .before .draw-first .ensures .facts)
+    (l .loop .edges) (l .loop .turned) _ _ (l .loop .inv) (sym (c .before .before .before .before .before .before .before .before .before .before .reflexive .ensures) ∙ c .before .before .before .before .before .before .before .before .before .if1 .left) (a .0) (a .1 .0 (c .if2 .taken))
 
 loop-less : tie.Need-loop-less Inv-loop μ-loop
 loop-less c =
-    let a = c .before .before .before in
-    let h = a .before .before .before .before in
-    let r = h .before in
-    let l = r .before .before in
-    let d = l .before .before .before .before .before .before .before .before .before in
-    let s = d .before .before .before .before .before .before .before in
-    let t = s .args .t in
-    settling-fewer _ (l .loop .edges) _ _ (l .loop .inv .full) (a .settle-all .ensures .0) (λ q. false≢true (sym (c .if2 .left) ∙ a .settle-all .ensures .1 .1 q))
+    let a = c .before .before .before .before .settle-all .ensures in
+    let l = c .before .before .before .before .before .before .before .before .before .before .before .before in
+    settling-fewer _ (l .loop .edges) (l .loop .turned) _ _ _ (l .loop .inv .full) (a .0) (λ q. false≢true (sym (c .if2 .left) ∙ a .1 .1 q))
 
 loop-again : tie.Need-loop-again Inv-loop μ-loop
 unfolding frameOf
 loop-again c =
-    let a = c .before .before .before in
-    let h = a .before .before .before .before in
-    let r = h .before in
-    let l = r .before .before in
-    let d = l .before .before .before .before .before .before .before .before .before in
-    let s = d .before .before .before .before .before .before .before in
+    let l = c .before .before .before .before .before .before .before .before .before .before .before .before in
+    let s = c .before .before .before .before .before .before .before .before .before .before .before .before .before .before .before .before .before .before .before .before .before .before .before .before .before .before .before .before .before .before in
     let t = s .args .t in
-    settling-next (frameOf t) (lentOf t (s .args .kept .now)) (supposedOf t (s .args .supposed .now)) (good t (s .pre .0)) (form-iff t .0 (s .pre .0) .fits) (lent-within t (s .args .kept .now) (s .pre .0)) (supposed-within t (s .args .supposed .now) (s .pre .0)) _ _ (d .draw-first .ensures .facts)
-    (t .len) refl (l .loop .edges) _ _ (l .loop .inv) (a .settle-all .ensures .0)
+    settling-next (frameOf t) (lentOf t (s .args .kept .now)) (supposedOf t (s .args .supposed .now)) (good t (s .pre .0)) (form-iff t .0 (s .pre .0) .fits) (lent-within t (s .args .kept .now) (s .pre .0)) (supposed-within t (s .args .supposed .now) (s .pre .0)) _ _ (c .before .before .before .before .before .before .before .before .before .before .before .before .before .before .before .before .before .before .before .before .before .before .before .draw-first .ensures .facts)
+    (t .len) refl (l .loop .edges) (l .loop .turned) _ _ _ (l .loop .inv) (c .before .before .before .before .settle-all .ensures .0)
 
 pub grow-spec : {M : Type 1} → statement M
 grow-spec =
@@ -134,8 +126,9 @@ grow-spec =
     slice-aggregate-draw-first-2
     slice-aggregate-draw-first-3
     draw-first-requires
-    slice-aggregate-close
-    close-requires
+    slice-aggregate-close-both-ways
+    slice-aggregate-close-both-ways-2
+    close-both-ways-requires
     loop-holds
     reflexive-requires
     clear-requires
@@ -143,6 +136,7 @@ grow-spec =
     returns
     slice-aggregate-settle-all
     slice-aggregate-settle-all-2
+    slice-aggregate-settle-all-3
     settle-all-requires
     same-length-2
     returns-2

@@ -18,7 +18,7 @@ use Rattle.rows.specs.Lent.{lentOf}
 use Rattle.rows.proofs.Lent.{lent-within}
 use Rattle.edges.specs.Supposed.{supposedOf}
 use Rattle.edges.specs.inner.RoundStep.{Closed}
-use Rattle.edges.proofs.LastRound.{supposed-within, stayed, grown, fewer, turns, Stands, stands-first, stands-next, ended-circle, ended-last}
+use Rattle.edges.proofs.LastRound.{supposed-within, edges-inside, stayed, grown, fewer, turns, Stands, stands-first, stands-next, ended-circle, ended-last}
 use borrow.Author.Needs.{needs}
 use Rattle.edges.proofs.force.run.Statement.{statement}
 use Rattle.edges.proofs.force.run.Tie as tie
@@ -50,9 +50,12 @@ loop-holds c =
     (s .pre .3, stands-first (frameOf t) (lentOf t (s .args .kept .now)) (supposedOf t (s .args .supposed .now)) _ _ _ _ (length (s .args .before .now)) (c .before .before .before .before .before .before .before .before .draw-first .ensures) (c .before .before .clear .ensures) (s .pre .1), omega arith)
 
 close-requires : tie.Need-close-requires Inv-loop μ-loop
+unfolding frameOf
 close-requires c κs =
     let l = c .before .before .loop in
-    (l .inv .1 .edges-full .long, l .inv .0)
+    let s = c .before .before .before .before .before .before .before .before .before .before .before .before .before .before .before .before .before .before .before .before in
+    let t = s .args .t in
+    (form-iff t .0 (s .pre .0) .fits, edges-inside (frameOf t) (good t (s .pre .0)) (lentOf t (s .args .kept .now)) (supposedOf t (s .args .supposed .now)) (lent-within t (s .args .kept .now) (s .pre .0)) (supposed-within t (s .args .supposed .now) (s .pre .0)) (l .number) (l .edges) (l .inv .1 .edges-has), l .inv .0)
 
 same-length : tie.Need-same-length Inv-loop μ-loop
 same-length c = c .before .before .before .before .before .before .loop .inv .1 .before-full .long ∙ sym (c .before .before .before .before .before .before .before .before .before .before .before .before .before .before .before .before .before .before .before .before .before .before .before .before .pre .1)

@@ -18,7 +18,7 @@ use Rattle.rows.specs.Lent.{lentOf}
 use Rattle.rows.proofs.Lent.{lent-within}
 use Rattle.edges.specs.Supposed.{supposedOf}
 use Rattle.edges.specs.inner.RoundStep.{Closed}
-use Rattle.edges.proofs.LastRound.{supposed-within, grown}
+use Rattle.edges.proofs.LastRound.{supposed-within, edges-inside, grown}
 use Rattle.edges.proofs.RoundBefore.{Nears, nears-first, nears-next, prior-here, prior-still, stays-last, next-full, next-has}
 use borrow.Author.Needs.{needs}
 use Rattle.edges.proofs.force.run_before.Statement.{statement}
@@ -61,12 +61,14 @@ copy-requires : tie.Need-copy-requires Inv-loop μ-loop
 copy-requires c κs = search needs
 
 close-requires : tie.Need-close-requires Inv-loop μ-loop
+unfolding frameOf
 close-requires c κs =
     let cp = c .before .before .before .before in
     let l = c .before .before .before .before .before .before .before in
     let s = l .before .before .before .before .before .before .before .before .before .before .before .before in
     let q = cp .copy .ensures ∙ copy-same (l .loop .next) (l .loop .edges) (l .loop .inv .4 .full .long ∙ sym (l .loop .inv .0)) in
-    (ap length q ∙ l .loop .inv .4 .full .long, l .loop .inv .1)
+    let t = s .args .t in
+    (form-iff t .0 (s .pre .0) .fits, rw q (edges-inside (frameOf t) (good t (s .pre .0)) (lentOf t (s .args .kept .now)) (supposedOf t (s .args .supposed .now)) (lent-within t (s .args .kept .now) (s .pre .0)) (supposed-within t (s .args .supposed .now) (s .pre .0)) (l .loop .number) (l .loop .next) (l .loop .inv .4 .has)), l .loop .inv .1)
 
 add-if1 : tie.Need-add-if1 Inv-loop μ-loop
 add-if1 c = omega (arith, c .before .before .before .before .before .before .before .before .before .before .loop .inv .3)

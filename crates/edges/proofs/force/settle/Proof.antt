@@ -4,6 +4,7 @@ use mathlib.Core.Logic.{⊎-elim}
 use Prim.Native.Nat.{_≤_, _-_}
 use native.Mathlib.Omega.{arith}
 use lib.ListN.{getD}
+use Rattle.trace.specs.Bounds.{RECORDS}
 use Rattle.edges.specs.inner.PairSets.{Union}
 use Rattle.edges.specs.inner.DrawnEdges.{SettledBy, SettledFor}
 use Rattle.edges.specs.inner.Takes.{Takes, AskWritten, AskNoted}
@@ -13,13 +14,13 @@ use Rattle.edges.proofs.force.settle.Statement.{statement}
 use Rattle.edges.proofs.force.settle.Tie as tie
 
 abbrev Inv-loop : tie.InvT-loop
-Inv-loop n sources writers edges₀ load₀ edges load = (load ≤ n) × Takes (AskNoted n sources writers) edges₀ (Union load (SettledFor n sources writers edges₀)) edges
+Inv-loop n sources writers edges₀ turned₀ load₀ edges turned load = (load ≤ n) × Takes (AskNoted n sources writers) edges₀ turned₀ (Union load (SettledFor n sources writers edges₀)) edges turned
 
 abbrev μ-loop : tie.MeasureT-loop
-μ-loop n sources writers edges₀ load₀ edges load = n - load
+μ-loop n sources writers edges₀ turned₀ load₀ edges turned load = n - load
 
 loop-holds : tie.Need-loop-holds Inv-loop μ-loop
-loop-holds c = (omega arith, turns-none _ _ (c .before .before .before .args .edges .now))
+loop-holds c = let a = c .before .before .before .before .args in (omega arith, turns-none _ _ (a .edges .now) (a .turned .now))
 
 mul-source : tie.Need-mul-source Inv-loop μ-loop
 mul-source c = search needs
@@ -29,8 +30,9 @@ shared-slice-read-source c = search needs
 
 settle-for-requires : tie.Need-settle-for-requires Inv-loop μ-loop
 settle-for-requires c κs =
-    let l = c .before .before .before .before in
-    (search needs, search needs, search needs, l .loop .inv .1 .long ∙ l .before .before .before .before .pre .2)
+    let l = c .before .before .before .before .before in
+    let s = c .before .before .before .before .before .before .before .before .before .before in
+    (search needs, search needs, l .loop .inv .1 .long ∙ s .pre .2, l .loop .inv .1 .turned-long ∙ s .pre .3)
 
 add-load : tie.Need-add-load Inv-loop μ-loop
 add-load c = search needs
@@ -41,26 +43,31 @@ loop-less c = search needs
 loop-again : tie.Need-loop-again Inv-loop μ-loop
 loop-again c =
     let l = c .before .before .before in
-    let a = l .before .before .before .before .args in (
+    let s = c .before .before .before .before .before .before .before .before in
+    let a = s .args in (
       omega arith,
       ⊎-elim
           (λ w.
-          let done : Takes (AskWritten (a .n) (a .writers .now) (getD (a .sources .now) (l .loop .load) 0) (l .loop .load)) (l .loop .edges) (Union (a .n) (SettledBy (a .writers .now) (l .loop .edges) (getD (a .sources .now) (l .loop .load) 0) (l .loop .load))) (c .if1 .edges)
-          = rw (w .5) (w .2 .ensures) in
-          turns-more _ _ (l .loop .load) (l .loop .inv .1) (load-turn (a .n) (a .sources .now) (a .writers .now) (a .edges .now) (l .loop .edges) (c .if1 .edges) (l .loop .load) (omega arith) (l .loop .inv .1 .keeps) (w .0 .taken) done))
+          let done : Takes (AskWritten (a .writers .now) (getD (a .sources .now) (l .loop .load) 0) (l .loop .load)) (l .loop .edges) (l .loop .turned) (Union RECORDS (SettledBy (a .writers .now) (l .loop .edges) (getD (a .sources .now) (l .loop .load) 0) (l .loop .load))) (c .if1 .edges) (c .if1 .turned)
+          = rw (w .8, w .9) (w .3 .ensures) in
+          turns-more _ _ (l .loop .load) (l .loop .inv .1) (load-turn (a .n) RECORDS (a .sources .now) (a .writers .now) (a .edges .now) (l .loop .edges) _ _ _ (l .loop .load) (omega arith) (s .pre .0) (l .loop .inv .1 .keeps) (w .0 .taken) done))
           (λ w.
           let e : c .if1 .edges ≡ l .loop .edges = w .1 in
-          rw e (turns-skip _ _ (l .loop .load) (l .loop .inv .1) (λ x y u. omega (arith, w .0 .left, u .0))))
+          let q : c .if1 .turned ≡ l .loop .turned = w .2 in
+          rw (e, q) (turns-skip _ _ (l .loop .load) (l .loop .inv .1) (λ x y u. omega (arith, w .0 .left, u .0))))
           (c .if1 .came),
     )
 
 same-length : tie.Need-same-length Inv-loop μ-loop
 same-length c = c .before .loop .inv .1 .long
 
+same-length-2 : tie.Need-same-length-2 Inv-loop μ-loop
+same-length-2 c = c .before .loop .inv .1 .turned-long
+
 returns : tie.Need-returns Inv-loop μ-loop
 returns c =
     let l = c .before in
-    let n : l .loop .load ≡ l .before .before .before .before .args .n = omega arith in
+    let n : l .loop .load ≡ c .before .before .before .before .before .before .args .n = omega arith in
     rw n at (l .loop .inv .1)
 
 pub settle-spec : {M : Type 1} → statement M
@@ -77,4 +84,5 @@ settle-spec =
     loop-less
     loop-again
     same-length
+    same-length-2
     returns)

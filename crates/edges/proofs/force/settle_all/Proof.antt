@@ -25,13 +25,15 @@ equal-requires c κs = search needs
 same-length : tie.Need-same-length
 same-length c = search needs
 
+same-length-2 : tie.Need-same-length-2
+same-length-2 c = search needs
+
 returns : tie.Need-returns
 returns c =
-    let t = c .before .before .before .before .before in
-    let p = t .before .before .before in
-    let s = p .before .before .before .before .before .before in
+    let p = c .before .before .before .before .before .before .before .before .before .before .before in
+    let s = c .before .before .before .before .before .before .before .before .before .before .before .before .before .before .before .before .before .before in
     let q = p .copy .ensures ∙ copy-same (s .args .edges .now) (emptyOf CELLS) (s .pre .2) in
-    (t .settle .ensures, (λ u. sym q ∙ c .equal .ensures .0 u, λ u. c .equal .ensures .1 (q ∙ u)))
+    (c .before .before .before .before .before .before .before .settle .ensures, (λ u. sym q ∙ c .equal .ensures .0 u, λ u. c .equal .ensures .1 (q ∙ u)))
 
 pub settle-all-spec : {M : Type 1} → statement M
-settle-all-spec = tie.close (tie.spec slice-aggregate-copy copy-requires settle-requires slice-aggregate-equal equal-requires same-length returns)
+settle-all-spec = tie.close (tie.spec slice-aggregate-copy copy-requires settle-requires slice-aggregate-equal equal-requires same-length same-length-2 returns)

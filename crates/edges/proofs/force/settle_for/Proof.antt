@@ -1,87 +1,42 @@
--- `edges::force::settle_for`: what the records below x give is taken in, and x is noted or past the last.
-use mathlib.Core.Path.{_≡_, _∙_}
-use mathlib.Core.Logic.{_⊎_, inl, inr, ⊎-elim}
-use mathlib.Core.Bool.{So}
-use Prim.Native.Nat.{ℕ, _≤_, _<_, _-_}
-use native.Mathlib.Omega.{arith}
+-- `edges::force::settle_for`: two rows are taken in, the second into the tables exchanged.
+use mathlib.Core.Path.{_∙_}
 use Rattle.trace.specs.Bounds.{RECORDS}
-use Rattle.rows.specs.Rows.{bit}
-use Rattle.edges.specs.inner.PairSets.{Union, Swept}
-use Rattle.edges.specs.inner.DrawnEdges.{Settled, SettledBy}
-use Rattle.edges.specs.inner.Takes.{Takes, AskSourced, AskWritten}
-use Rattle.edges.proofs.PairSets.{swept-none, swept-more, swept-all}
-use Rattle.edges.proofs.DrawnEdges.{turned, settled-other, settled-none, next-on, next-at}
-use Rattle.edges.proofs.Takes.{takes-old, takes-then, takes-ask, settled-turn}
+use Rattle.edges.proofs.Takes.{settled-takes}
 use borrow.Author.Needs.{needs}
 use Rattle.edges.proofs.force.settle_for.Statement.{statement}
 use Rattle.edges.proofs.force.settle_for.Tie as tie
 
-abbrev Inv-loop : tie.InvT-loop
-Inv-loop n writers source load edges₀ x₀ edges x = (So (bit writers load x) ⊎ (x ≡ RECORDS)) × Takes (AskWritten n writers source load) edges₀ (Swept n x (SettledBy writers edges₀ source load)) edges
+waiting-requires : tie.Need-waiting-requires
+waiting-requires c κs = search needs
 
-abbrev μ-loop : tie.MeasureT-loop
-μ-loop n writers source load edges₀ x₀ edges x = n - x
+slice-aggregate-take-row : tie.Need-slice-aggregate-take-row
+slice-aggregate-take-row c = search needs
 
-next-requires : tie.Need-next-requires Inv-loop μ-loop
-next-requires c κs = search needs
+take-row-requires : tie.Need-take-row-requires
+take-row-requires c κs = search needs
 
-loop-holds : tie.Need-loop-holds Inv-loop μ-loop
-loop-holds c =
-    let a = c .before .before .before .args in
-    let first = c .next .ensures in (
-      next-at (a .writers .now) (a .load) 0 _ first,
-      takes-old _ (a .edges .now) _ (λ i j u. absurd (swept-none (a .n) (SettledBy (a .writers .now) (a .edges .now) (a .source) (a .load)) _ (λ z h. settled-none (a .writers .now) (a .edges .now) (a .source) (a .load) z (first .skips z (omega arith) h)) i j u)),
-    )
+waiting-requires-2 : tie.Need-waiting-requires-2
+waiting-requires-2 c κs = search needs
 
-settle-by-requires : tie.Need-settle-by-requires Inv-loop μ-loop
-settle-by-requires c κs =
-    let l = c .before .before .before in
-    (search needs, search needs, search needs, search needs, l .loop .inv .1 .long ∙ l .before .before .before .before .pre .3)
+slice-aggregate-take-row-2 : tie.Need-slice-aggregate-take-row-2
+slice-aggregate-take-row-2 c = search needs
 
-add-next : tie.Need-add-next Inv-loop μ-loop
-add-next c = search needs
+take-row-requires-2 : tie.Need-take-row-requires-2
+take-row-requires-2 c κs =
+    let s = c .before .before .before .before .before .before .before .before .before .before .before .before .before .before .before .before .before .before in
+    let j = c .before .before .before .before .before .before .before .before .before .take-row .ensures in
+    (s .pre .0, j .turned-long ∙ s .pre .3, j .long ∙ s .pre .2)
 
-next-requires-2 : tie.Need-next-requires-2 Inv-loop μ-loop
-next-requires-2 c κs = search needs
+same-length : tie.Need-same-length
+same-length c = c .before .before .before .before .take-row2 .ensures .turned-long ∙ c .before .before .before .before .before .before .before .before .before .before .before .before .before .before .take-row .ensures .long
 
-loop-less : tie.Need-loop-less Inv-loop μ-loop
-loop-less c =
-    let l = c .before .before .before in
-    let a = l .before .before .before .before .args in
-    omega (arith, next-on (a .writers .now) (a .load) (l .loop .x) _ (c .next2 .ensures) (omega arith))
+same-length-2 : tie.Need-same-length-2
+same-length-2 c = c .before .before .before .before .take-row2 .ensures .long ∙ c .before .before .before .before .before .before .before .before .before .before .before .before .before .before .take-row .ensures .turned-long
 
-loop-again : tie.Need-loop-again Inv-loop μ-loop
-loop-again c =
-    let l = c .before .before .before in
-    let a = l .before .before .before .before .args in
-    let x = l .loop .x in
-    let further = c .next2 .ensures in
-    let here : So (bit (a .writers .now) (a .load) x) = elim (l .loop .inv .0) [ inl b ↦ b | inr e ↦ absurd (omega arith) ] in
-    let step = swept-more (a .n) (SettledBy (a .writers .now) (a .edges .now) (a .source) (a .load)) x _ (omega arith) (next-on (a .writers .now) (a .load) x _ further (omega arith))
-    (λ z h k. settled-none (a .writers .now) (a .edges .now) (a .source) (a .load) z (further .skips z (omega arith) k)) in (
-      next-at (a .writers .now) (a .load) _ _ further,
-      ⊎-elim
-          (λ w.
-          let done : Takes (AskSourced (a .n) (a .source) (a .load) x) (l .loop .edges) (Settled (l .loop .edges) (a .source) (a .load) x) (c .before .if1 .edges) = rw (w .5) (w .2 .ensures) in
-          takes-then _ _ (l .loop .inv .1)
-          (settled-turn (a .n) (a .writers .now) (a .edges .now) (l .loop .edges) (c .before .if1 .edges) (a .source) (a .load) x (l .loop .inv .1 .keeps)
-          (turned (a .writers .now) (a .edges .now) (a .source) (a .load) x .1 (here, w .0 .taken)) done)
-          (λ i j. step i j .1))
-          (λ w.
-          let e : c .before .if1 .edges ≡ l .loop .edges = w .1 in
-          let own : x ≡ a .source = w .0 .left in
-          rw e (takes-then _ _ (l .loop .inv .1) (takes-old _ _ _ (λ i j v. absurd (settled-other (a .writers .now) (a .edges .now) (a .source) (a .load) x own i j v))) (λ i j. step i j .1)))
-          (c .before .if1 .came),
-    )
-
-same-length : tie.Need-same-length Inv-loop μ-loop
-same-length c = c .before .loop .inv .1 .long
-
-returns : tie.Need-returns Inv-loop μ-loop
+returns : tie.Need-returns
 returns c =
-    let l = c .before in
-    let a = l .before .before .before .before .args in
-    takes-ask _ _ _ (λ i j u. swept-all (a .n) (SettledBy (a .writers .now) (a .edges .now) (a .source) (a .load)) (l .loop .x) (omega arith) i j .1 u) (λ f K P g u. u) (l .loop .inv .1)
+    let a = c .before .before .before .before .before .before .before .before .before .before .before .before .before .before .before .before .before .before .before .before .before .before .before .args in
+    settled-takes RECORDS (a .writers .now) (a .edges .now) (a .turned .now) _ _ _ _ _ _ (a .source) (a .load) (c .before .before .before .before .before .before .before .before .before .before .before .before .before .before .before .before .before .before .waiting .ensures) (c .before .before .before .before .before .before .before .before .before .before .before .before .before .before .take-row .ensures) (c .before .before .before .before .before .before .before .before .waiting2 .ensures) (c .before .before .before .before .take-row2 .ensures)
 
 pub settle-for-spec : {M : Type 1} → statement M
-settle-for-spec = tie.close (tie.spec Inv-loop μ-loop next-requires loop-holds settle-by-requires add-next next-requires-2 loop-less loop-again same-length returns)
+settle-for-spec = tie.close (tie.spec waiting-requires slice-aggregate-take-row take-row-requires waiting-requires-2 slice-aggregate-take-row-2 take-row-requires-2 same-length same-length-2 returns)
