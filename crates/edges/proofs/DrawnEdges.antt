@@ -1,11 +1,13 @@
 -- What the functions that draw edges add is what the rules give.
 --
---   writer-at, earlier-at, early-at, reads-at == the tests of rules 2 to 5, as a loop reads them off two records
+--   writer-at, earlier-at, early-at, reads-at == the tests of rules 2 to 5, as a function reads them off two records
 --   address-at                                == its address
 --   stored-at, stored                         == a record that is noted by its address, and all of them
---   store-writer, store-own, store-none       == a record that is noted by the load's address writes it, unless it is the load; no other does
---   third-small, valued-at                    == a writer's turn for a load
---   valued-for, noted, not-writer             == the same in a frame, where a record writes the load's address and where not
+--   others-row, others-writers                == a row but for the load; the records noted by the load's address, but for it, are the writers
+--   row-laid, early-drawn                     == the writers' row added to the load's row; likewise where the load reads the first value
+--   third-small, second-at, second-none       == rules 3 and 2, whose source is there or not
+--   passed-by, passed-none, passed-other      == a writer's turn for a load by rules 3 and 5, and that of one not noted or not earlier
+--   noted, valued-all                         == the writers of a load, noted; what they give it, rule by rule
 --   loaded-none, loaded-more, loaded-skip     == a load's turn, and that of a record that does not read
 --   settled-at                                == another writer's turn for a load with a source, by rules 6 and 7
 --   turned, settled-by                        == the same of a number that is noted
@@ -29,19 +31,27 @@ use Rattle.trace.specs.Trace.{at, first}
 use Rattle.rules.specs.Frame.{Frame}
 use Rattle.trace.specs.Meaning.{frameOf}
 use Rattle.trace.specs.declared.Trace.{Trace}
-use Rattle.rows.specs.Bounds.{CELLS}
-use Rattle.rows.specs.Rows.{bit}
+use Rattle.rows.specs.Bounds.{WORDS, CELLS}
+use Rattle.rows.specs.Rows.{bit, Edges, Words}
 use Rattle.rows.specs.Put.{putOf}
 use Rattle.rows.specs.Empty.{emptyOf}
 use Rattle.rows.specs.Next.{NextInRow}
-use Rattle.rows.proofs.Whole.{empty-bit}
+use Rattle.rows.specs.AddRow.{addRowOf}
+use Rattle.rows.specs.DropRow.{dropRowOf}
+use Rattle.rows.proofs.Whole.{empty-bit, empty-long, empty-words}
+use Rattle.rows.proofs.Pair.{put-words}
+use Rattle.rows.proofs.Closing.{row-added}
+use Rattle.rows.proofs.Dropping.{row-dropped, drop-words}
 use Rattle.rules.specs.RuleTests.{writer?}
 use Rattle.edges.specs.inner.PairSets.{Only, Union}
 use Rattle.rows.specs.inner.AddedPairs.{Added}
 use Rattle.pairs.specs.SourceOf.{sourceOf}
-use Rattle.edges.specs.inner.DrawnEdges.{Stored, Valued, readsFirst, ValuedFor, Loaded, second, third, fourth, fifth, Settled, sixth, seventh, SettledBy}
+use Rattle.pairs.proofs.SourceOf.{source-of-is}
+use Rattle.pairs.proofs.KeptPairs.{earlier-iff}
+use Rattle.edges.specs.inner.DrawnEdges.{Stored, Valued, Passed, PassedBy, readsFirst, ValuedFor, Loaded, second, third, fourth, fifth, Settled, sixth, seventh, SettledBy}
 use Rattle.rules.proofs.RuleTests.{writer-iff}
-use Rattle.edges.proofs.PairSets.{adds-put, adds-only, adds-as, adds-or, union-none, union-more, union-skip}
+use Rattle.edges.proofs.LaterRecords.{from-empty, put-added}
+use Rattle.edges.proofs.PairSets.{adds-only, adds-as, adds-or, union-none, union-more, union-skip}
 
 module _ (t : Trace) (S L : ℕ) where
   pub writer-at : S < t .len → (w : Bool) (a b : ℕ) → w ≡ writes (at t S) → a ≡ address (at t S) → b ≡ address (at t L)
@@ -69,49 +79,128 @@ module _ (t : Trace) (S L : ℕ) where
   unfolding frameOf
   reads-at h r q = rw (so-lt {m = L} {n = t .len} .1 h) q
 
-module _ (e y : Bool) (source S L : ℕ) where
-  abbrev Parts : Rel
-  Parts i j =
-      Only (eqb S source && not e) S L i j
-      ⊎ (Only (ltb source RECORDS && not (eqb S source) && e) S source i j ⊎ (Only y L S i j ⊎ Only (y && e) S L i j))
-
-  parts : (i j : ℕ) → Parts i j → Valued e y source S L i j
-  parts i j (inl o) = second o
-  parts i j (inr (inl o)) = third o
-  parts i j (inr (inr (inl o))) = fourth o
-  parts i j (inr (inr (inr o))) = fifth o
-
-  whole : (i j : ℕ) → Valued e y source S L i j → Parts i j
-  whole i j (second o) = inl o
-  whole i j (third o) = inr (inl o)
-  whole i j (fourth o) = inr (inr (inl o))
-  whole i j (fifth o) = inr (inr (inr o))
-
-  pub valued-at : {a b c d g : List ℕ}
-      → Added a (Only (eqb S source && not e) S L) b
-      → Added b (Only (ltb source RECORDS && not (eqb S source) && e) S source) c
-      → Added c (Only y L S) d
-      → Added d (Only (y && e) S L) g
-      → Added a (Valued e y source S L) g
-  valued-at p q r s = adds-as (Valued e y source S L) (adds-or p (adds-or q (adds-or r s))) (λ i j. (parts i j, whole i j))
-
 -- rule 3 draws to a source that is there
-pub third-small : (b e : Bool) (source : ℕ) → So (ltb source RECORDS && b && e) → source < RECORDS
-third-small b e source s = and-iff (and-iff (so-lt {m = source} {n = RECORDS}) (same-iff {a = b})) (same-iff {a = e}) .0 s .0 .0
+pub third-small : (b : Bool) (source : ℕ) → So (ltb source RECORDS && b) → source < RECORDS
+third-small b source s = and-iff (so-lt {m = source} {n = RECORDS}) (same-iff {a = b}) .0 s .0
 
--- a record that writes the load's address has its turn, and one that does not has none
-pub valued-for : (f : Frame) (S L source : ℕ) (e y : Bool) → So (writer? f S L) → source ≡ sourceOf f L → e ≡ f .earlier S L → y ≡ readsFirst f L
-    → {a b : List ℕ} → Added a (Valued e y source S L) b → Added a (ValuedFor f L S) b
-valued-for f S L source e y w ps pe py {a} {b} p =
-    let q : Added a (Valued (f .earlier S L) (readsFirst f L) (sourceOf f L) S L) b = rw (ps, pe, py) at p in
-    adds-as (ValuedFor f L S) q (λ i j. (λ v. (w, v), λ v. v .1))
+-- rule 2, as a function reads it off two records
+pub second-at : (t : Trace) (S L : ℕ) → S < RECORDS → (e : Bool) → e ≡ frameOf t .earlier S L → not e ≡ (ltb S RECORDS && not (frameOf t .earlier S L))
+second-at t S L h e p = rw (p, so-lt {m = S} {n = RECORDS} .1 h) refl
 
-pub noted : (f : Frame) (S L : ℕ) → So (writer? f S L) → (a : List ℕ) → length a ≡ CELLS → S < RECORDS → L < RECORDS → Added a (Only (writer? f S L) L S) (putOf a L S)
-noted f S L w a l hS hL = adds-put a l (writer? f S L) w L S hL hS
+pub second-none : (b : Bool) (S : ℕ) → RECORDS ≤ S → (ltb S RECORDS && b) ≡ false
+second-none b S h = off (λ s. omega (arith, third-small b S s))
 
-pub not-writer : (f : Frame) (S L : ℕ) → writer? f S L ≡ false
-    → ((x y : ℕ) → Only (writer? f S L) L S x y → ⊥) × ((x y : ℕ) → ValuedFor f L S x y → ⊥)
-not-writer f S L w = (λ x y o. false≢true (sym w ∙ o .0), λ x y v. false≢true (sym w ∙ v .0))
+module _ (st : List ℕ) (words : Words st) (a L : ℕ) (h : L < RECORDS) (o q r : List ℕ) (po : o ≡ putOf (emptyOf WORDS) 0 L) (pq : q ≡ addRowOf st a (emptyOf WORDS) 0) (pr : r ≡ dropRowOf o 0 q 0) where
+  own : (y : ℕ) → So (bit o 0 y) ↔ ((_≡_ {A = ℕ} 0 0) × (y ≡ L))
+  own y = from-empty WORDS (λ i j. (i ≡ 0) × (j ≡ L)) o (rw po (put-added (emptyOf WORDS) 0 L (omega arith) h (omega (arith, empty-long WORDS)))) 0 y
+
+  given : Added (emptyOf WORDS) (λ i j. (i ≡ 0) × Edges st a j) q
+  given = rw pq (row-added st words a (emptyOf WORDS) 0 (omega arith) (omega (arith, empty-long WORDS)))
+
+  long : length q ≡ WORDS
+  long = given .long ∙ empty-long WORDS
+
+  pub others-row : Words r × ((y : ℕ) → Edges r 0 y ↔ (Edges st a y × (y ≡ L → ⊥)))
+  others-row = (
+    rw pr (drop-words o (rw po (put-words (emptyOf WORDS) 0 L (empty-words WORDS))) 0 q (given .words (empty-words WORDS)) 0),
+    λ y.
+        let d = row-dropped o 0 q 0 (omega arith) (omega (arith, long)) 0 y in
+        let g = from-empty WORDS _ q given 0 y in
+        rw pr (λ t. let u = d .0 t in (g .0 (u .0) .1, λ e. u .1 (refl, own y .1 (refl, e))), λ u. d .1 (g .1 (refl, u .0), λ e. u .1 (own y .0 (e .1) .1))),
+  )
+
+pub row-laid : (o : List ℕ) → Words o → (L : ℕ) → L < RECORDS → (e e′ : List ℕ) → length e ≡ CELLS → e′ ≡ addRowOf o 0 e L → Added e (λ i j. (i ≡ L) × Edges o 0 j) e′
+row-laid o w L h e e′ l q = rw q (row-added o w 0 e L h (omega (arith, h, l)))
+
+pub early-drawn : (y : Bool) → So y → (o : List ℕ) → Words o → (L : ℕ) → L < RECORDS → (e e′ : List ℕ) → length e ≡ CELLS → e′ ≡ addRowOf o 0 e L → Added e (λ i j. So y × (i ≡ L) × Edges o 0 j) e′
+early-drawn y t o w L h e e′ l q = adds-as _ (row-laid o w L h e e′ l q) (λ i j. (λ u. (t, u .0, u .1), λ u. (u .1, u .2)))
+
+module _ (f : Frame) (w : List ℕ) (y : Bool) (s L z : ℕ) where
+  pub passed-by : So (bit w 0 z) → So (f .earlier z L) → {a b : List ℕ} → Added a (Passed y s z L) b → Added a (PassedBy f w y s L z) b
+  passed-by t e p = adds-as (PassedBy f w y s L z) p (λ i j. (λ v. ((t, e), v), λ v. v .1))
+
+  pub passed-none : (So (bit w 0 z) → ⊥) → (i j : ℕ) → PassedBy f w y s L z i j → ⊥
+  passed-none n i j v = n (v .0 .0)
+
+  pub passed-other : (So (f .earlier z L) → ⊥) → (i j : ℕ) → PassedBy f w y s L z i j → ⊥
+  passed-other n i j v = n (v .0 .1)
+
+-- a row that has the writers of the load's address
+module _ (t : Trace) (L : ℕ) (o : List ℕ) (is : (x : ℕ) → Edges o 0 x ↔ So (writer? (frameOf t) x L)) where
+  writer-below : (x : ℕ) → So (writer? (frameOf t) x L) → x < t .len
+  unfolding frameOf
+  writer-below x w = and-iff (so-lt {m = x} {n = t .len}) (same-iff {a = writes (at t x)}) .0 (writer-iff (frameOf t) x L .0 w .writes) .0
+
+  pub noted : {a b : List ℕ} → Added a (λ i j. (i ≡ L) × Edges o 0 j) b → Added a (Union (t .len) (λ x. Only (writer? (frameOf t) x L) L x)) b
+  unfolding Union
+  noted p = adds-as _ p (λ i j. (
+    λ u. let w = is j .0 (u .1) in (j, writer-below j w, (w, u .0, refl)),
+    λ u. (u .2 .1, is j .1 (rw (u .2 .2) (u .2 .0))),
+  ))
+
+  module _ (small : t .len ≤ RECORDS) (s : ℕ) (source : s ≡ sourceOf (frameOf t) L) (y : Bool) (early : y ≡ readsFirst (frameOf t) L) where
+    abbrev Second : Rel
+    Second = Only (ltb s RECORDS && not (frameOf t .earlier s L)) s L
+
+    abbrev Fourth : Rel
+    Fourth i j = So y × (i ≡ L) × Edges o 0 j
+
+    abbrev Earlier : Rel
+    Earlier = Union L (PassedBy (frameOf t) o y s L)
+
+    abbrev Turn : ℕ → Rel
+    Turn S i j = So (writer? (frameOf t) S L) × Valued (frameOf t .earlier S L) y s S L i j
+
+    source-writes : s < RECORDS → So (writer? (frameOf t) s L)
+    source-writes h = rw source (writer-iff (frameOf t) (sourceOf (frameOf t) L) L .1 (source-of-is (frameOf t) L (rw source at h) .writer))
+
+    there : (i j : ℕ) → Second i j ⊎ (Fourth i j ⊎ Earlier i j) → Union (t .len) Turn i j
+    unfolding Union
+    there i j (inl u) =
+        let p = and-iff (so-lt {m = s} {n = RECORDS}) (same-iff {a = not (frameOf t .earlier s L)}) .0 (u .0) in
+        let w = source-writes (p .0) in
+        (s, writer-below s w, (w, second (and-iff (so-eq {m = s} {n = s}) (same-iff {a = not (frameOf t .earlier s L)}) .1 (refl, p .1), u .1, u .2)))
+    there i j (inr (inl u)) = let w = is j .0 (u .2) in (j, writer-below j w, (w, fourth (u .0, u .1, refl)))
+    there i j (inr (inr u)) =
+        let S = u .0 in
+        let w = is S .0 (u .2 .0 .0) in
+        let e = u .2 .0 .1 in (
+          S,
+          writer-below S w,
+          (
+            w,
+            elim (u .2 .1) [
+              | inl v ↦ third (and-iff (same-iff {a = ltb s RECORDS && not (eqb S s)}) (same-iff {a = frameOf t .earlier S L}) .1 (v .0, e), v .1, v .2)
+              | inr v ↦ fifth (and-iff (same-iff {a = y}) (same-iff {a = frameOf t .earlier S L}) .1 (v .0, e), v .1, v .2)
+            ],
+          ),
+        )
+
+    back-at : (S i j : ℕ) → S < t .len → So (writer? (frameOf t) S L) → Valued (frameOf t .earlier S L) y s S L i j → Second i j ⊎ (Fourth i j ⊎ Earlier i j)
+    unfolding Union
+    back-at S i j h w (second v) =
+        let p = and-iff (so-eq {m = S} {n = s}) (same-iff {a = not (frameOf t .earlier S L)}) .0 (v .0) in
+        inl (and-iff (so-lt {m = s} {n = RECORDS}) (same-iff {a = not (frameOf t .earlier s L)}) .1 (omega (arith, p .0), rw (p .0) at (p .1)), v .1 ∙ p .0, v .2)
+    back-at S i j h w (third v) =
+        let p = and-iff (same-iff {a = ltb s RECORDS && not (eqb S s)}) (same-iff {a = frameOf t .earlier S L}) .0 (v .0) in
+        inr (inr (S, earlier-iff t S L .0 (p .1) .0, ((is S .1 w, p .1), inl (p .0, v .1, v .2))))
+    back-at S i j h w (fourth v) = inr (inl (v .0, v .1, rw (v .2) (is S .1 w)))
+    back-at S i j h w (fifth v) =
+        let p = and-iff (same-iff {a = y}) (same-iff {a = frameOf t .earlier S L}) .0 (v .0) in
+        inr (inr (S, earlier-iff t S L .0 (p .1) .0, ((is S .1 w, p .1), inr (p .0, v .1, v .2))))
+
+    back : (i j : ℕ) → Union (t .len) Turn i j → Second i j ⊎ (Fourth i j ⊎ Earlier i j)
+    unfolding Union
+    back i j u = back-at (u .0) i j (u .1) (u .2 .0) (u .2 .1)
+
+    pub valued-all : {a b c d : List ℕ}
+        → Added a (Only (ltb s RECORDS && not (frameOf t .earlier s L)) s L) b
+        → Added b (λ i j. So y × (i ≡ L) × Edges o 0 j) c
+        → Added c (Union L (PassedBy (frameOf t) o y s L)) d
+        → Added a (Union (t .len) (ValuedFor (frameOf t) L)) d
+    valued-all {a} {b} {c} {d} p q r =
+        let all : Added a (Union (t .len) (λ S i j. So (writer? (frameOf t) S L) × Valued (frameOf t .earlier S L) y s S L i j)) d = adds-as (Union (t .len) Turn) (adds-or p (adds-or q r)) (λ i j. (there i j, back i j)) in
+        rw (source, early) at all
 
 pub loaded-none : (f : Frame) (n : ℕ) (s w e : List ℕ) → length s ≡ RECORDS → Loaded f n 0 s w w e e
 loaded-none f n s w e l = record { long = l; sources = λ L h. absurd (omega arith); writers = union-none _ w; edges = union-none _ e }
@@ -189,12 +278,13 @@ stored t s e none p a x = (
   λ q. p .pairs a x .1 (inr (x, and-iff (so-lt {m = x} {n = t .len}) (same-iff {a = writes (at t x)}) .0 (q .0) .0, (q .0, sym (q .1), refl))),
 )
 
-module _ (f : Frame) (s : List ℕ) (L a : ℕ) (same : a ≡ f .address L) (is : Stored f s (f .address L)) (x : ℕ) where
-  pub store-writer : So (bit s a x) → (x ≡ L → ⊥) → So (writer? f x L)
-  store-writer b d = let w = is x .0 (rw same at b) in writer-iff f x L .1 record { writes = w .0; same = w .1; other = d }
-
-  pub store-own : x ≡ L → writer? f x L ≡ false
-  store-own e = off (λ t. writer-iff f x L .0 t .other e)
-
-  pub store-none : (So (bit s a x) → ⊥) → writer? f x L ≡ false
-  store-none n = off (λ t. let w = writer-iff f x L .0 t in n (rw same (is x .1 (w .writes, w .same))))
+-- the records that are noted by the load's address, but for the load, are its writers
+pub others-writers : (f : Frame) (s : List ℕ) (L a : ℕ) → a ≡ f .address L → Stored f s (f .address L) → (o : List ℕ) → ((y : ℕ) → Edges o 0 y ↔ (Edges s a y × (y ≡ L → ⊥)))
+    → (x : ℕ) → Edges o 0 x ↔ So (writer? f x L)
+others-writers f s L a same is o less x = (
+  λ b.
+      let u = less x .0 b in
+      let w = is x .0 (rw same at (u .0)) in
+      writer-iff f x L .1 record { writes = w .0; same = w .1; other = u .1 },
+  λ t. let w = writer-iff f x L .0 t in less x .1 (rw same (is x .1 (w .writes, w .same)), w .other),
+)

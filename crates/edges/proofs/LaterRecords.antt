@@ -1,6 +1,7 @@
 -- The kept pairs drawn a row at a time, from the last record of a trace to its first.
 --
 --   from-empty                            == what is added to rows with no pair is all that they have
+--   put-added                             == one number more in a row
 --   filed-none, filed-more                == numbers filed in rows: none, and one more
 --   kind-small                            == a record is of some kind
 --   off-none, off-more                    == what is let off after a kind, kind by kind: where the model keeps the two, and where not
@@ -54,7 +55,7 @@ from-empty n R r a i j = (λ s. elim (a .pairs i j .0 s) [ inl e ↦ absurd (fal
 -- Records by kind and by address ------------------------------------------------------------------------------------------------------------
 
 -- one number more in a row of rows that reach that far
-put-added : (r : List ℕ) (x y : ℕ) → x < RECORDS → y < RECORDS → place x y < length r → Added r (λ i j. (i ≡ x) × (j ≡ y)) (putOf r x y)
+pub put-added : (r : List ℕ) (x y : ℕ) → x < RECORDS → y < RECORDS → place x y < length r → Added r (λ i j. (i ≡ x) × (j ≡ y)) (putOf r x y)
 put-added r x y hx hy l = record { long = put-long r x y; words = put-words r x y; pairs = λ i j. rw (put-in r x y hx hy) (mark-iff r x y hx hy l i j) }
 
 pub filed-none : (f : ℕ → ℕ) (r : List ℕ) → Added r (Filed 0 f) r

@@ -5,6 +5,8 @@
 --   paired t kept rows   == the pairs of rules 1 and 8, both lent as rows
 --   Stored f st a        == row a of st has the records that write the address a
 --   Valued e y s S L     == what a writer S of L's address gives L by rules 2 to 5, where s is L's source, told whether S is earlier and L reads the first value
+--   Passed y s S L       == what a writer S of L's address that is earlier gives L by rules 3 and 5, where s is L's source, told whether L reads the first value
+--   PassedBy f w y s L S == the same of any record S, where row 0 of w has the writers
 --   readsFirst f L       == L reads the first value of its address
 --   ValuedFor f L S      == what S gives L in a frame, if it writes L's address
 --   Settled c S L z      == what another writer z of L's address gives L, whose source is S, by rules 6 and 7 from the chains c
@@ -13,7 +15,7 @@
 --   Loaded f n k s w₀ w e₀ e == for each L below k, s has its source; if L reads, w has what is added to w₀, the writers of its address below n,
 --                               and e what is added to e₀, what they give it by rules 2 to 5
 use mathlib.Core.Path.{_≡_}
-use mathlib.Core.Logic.{_↔_}
+use mathlib.Core.Logic.{_↔_, _⊎_}
 use mathlib.Core.Bool.{Bool, So, not, _&&_, _||_}
 use mathlib.Core.List.{List}
 use Prim.Native.Nat.{ℕ, _<_}
@@ -47,6 +49,12 @@ pub data Valued (earlier early : Bool) (source S L x y : ℕ) : Type 0 where
   third : Only (ltb source RECORDS && not (eqb S source) && earlier) S source x y → Valued earlier early source S L x y
   fourth : Only early L S x y → Valued earlier early source S L x y
   fifth : Only (early && earlier) S L x y → Valued earlier early source S L x y
+
+abbrev pub Passed : Bool → ℕ → ℕ → ℕ → Rel
+Passed early source S L x y = Only (ltb source RECORDS && not (eqb S source)) S source x y ⊎ Only early S L x y
+
+abbrev pub PassedBy : Frame → List ℕ → Bool → ℕ → ℕ → ℕ → Rel
+PassedBy f w early source L S x y = (So (bit w 0 S) × So (f .earlier S L)) × Passed early source S L x y
 
 abbrev pub readsFirst : Frame → ℕ → Bool
 readsFirst f L = f .reads L && eqb (f .read L) (f .first (f .address L))

@@ -1,20 +1,22 @@
 // The forced edges, round by round, drawn into rows and closed.
 ghost use mathlib.Core.Path.{_≡_};
-ghost use mathlib.Core.Bool.{So, not};
+ghost use mathlib.Core.Bool.{So, not, _&&_};
 ghost use mathlib.Core.Logic.{_↔_};
-ghost use Prim.Native.Nat.{_<_, _≤_};
+ghost use Prim.Native.Nat.{ℕ, _<_, _≤_};
+ghost use lib.Dec.{ltb};
 ghost use lib.ListN.{length};
 ghost use Rattle.trace.specs.Bounds.{RECORDS};
 ghost use Rattle.trace.specs.WellFormed.{wellFormed};
 ghost use Rattle.trace.specs.Meaning.{frameOf};
 ghost use Rattle.rows.specs.Bounds.{CELLS};
+ghost use Rattle.rows.specs.Rows.{Edges, Words};
 ghost use Rattle.rows.specs.Lent.{lentOf};
 ghost use Rattle.rules.specs.RuleTests.{writer?};
 ghost use Rattle.edges.specs.Supposed.{supposedOf};
 ghost use Rattle.edges.specs.inner.PairSets.{Only, Union, Cover};
 ghost use Rattle.rows.specs.inner.AddedPairs.{Added};
 ghost use Rattle.pairs.specs.SourceOf.{sourceOf};
-ghost use Rattle.edges.specs.inner.DrawnEdges.{Spared, SparedFrom, paired, Stored, Valued, ValuedFor, Settled, SettledBy, SettledFor, Loaded};
+ghost use Rattle.edges.specs.inner.DrawnEdges.{Spared, SparedFrom, paired, Stored, Passed, PassedBy, ValuedFor, Settled, SettledBy, SettledFor, Loaded};
 ghost use Rattle.edges.specs.inner.RoundStep.{FirstRound, Closed, Advanced};
 ghost use Rattle.edges.specs.LastRound.{Ends};
 ghost use Rattle.edges.specs.inner.ClosedTables.{Inside};
@@ -107,17 +109,78 @@ fn draw_pairs(t: Trace, kept: &[u64], supposed: &[u64], edges: &mut [u64])
     draw_lent(t.len, supposed, &others, edges);
 }
 
-// Draws what x, a writer of a load's address, gives the load by rules 2 to 5, told whether x is earlier in its program order, and whether the
-// load reads the first value of the address.
-fn draw_value(earlier: bool, early: bool, source: usize, x: usize, load: usize, edges: &mut [u64])
+// Draws what x, an earlier writer of a load's address in its program order, gives the load by rules 3 and 5, told whether the load reads the first
+// value of the address.
+fn draw_value(early: bool, source: usize, x: usize, load: usize, edges: &mut [u64])
     requires { ⌜ (x < RECORDS) × (load < RECORDS) × (length (now edges) ≡ CELLS) ⌝ }
-    ensures { λ r. ⌜ Added (now (edges .entry)) (Valued earlier early source x load) (now (edges .exit)) ⌝ }
+    ensures { λ r. ⌜ Added (now (edges .entry)) (Passed early source x load) (now (edges .exit)) ⌝ }
 {
-    rows::put_if(edges, (x == source) & !earlier, x, load);
-    let other = (source < RECORDS) & (x != source);
-    rows::put_if(edges, other & earlier, x, source);
-    rows::put_if(edges, early, load, x);
-    rows::put_if(edges, early & earlier, x, load);
+    rows::put_if(edges, (source < RECORDS) & (x != source), x, source);
+    rows::put_if(edges, early, x, load);
+}
+
+// Draws what the earlier ones in its program order, of the writers of its address that a row has, give one load by rules 3 and 5.
+fn draw_values_from(
+    t: Trace,
+    others: &[u64],
+    early: bool,
+    source: usize,
+    load: usize,
+    edges: &mut [u64],
+)
+    requires { ⌜ (load < t .len) × (t .len ≤ RECORDS) × (length (now edges) ≡ CELLS) ⌝ }
+    ensures { λ r. ⌜ Added (now (edges .entry)) (Union load (PassedBy (frameOf t) (now (others .entry)) early source load)) (now (edges .exit)) ⌝ }
+{
+    let record = t.records[load];
+    let b = record.op;
+    let mut x = rows::next(others, 0, 0);
+    while x < load {
+        let record = t.records[x];
+        let a = record.op;
+        if a.thread() == b.thread() {
+            draw_value(early, source, x, load, edges);
+        }
+        x = rows::next(others, 0, x + 1);
+    }
+}
+
+// Draws the source of a load before it, unless it is earlier in its program order: rule 2.
+fn draw_source(t: Trace, source: usize, load: usize, edges: &mut [u64])
+    requires { ⌜ (load < t .len) × (t .len ≤ RECORDS) × (length (now edges) ≡ CELLS) ⌝ }
+    ensures { λ r. ⌜ Added (now (edges .entry)) (Only (ltb source RECORDS && not (frameOf t .earlier source load)) source load) (now (edges .exit)) ⌝ }
+{
+    if RECORDS <= source {
+        return;
+    }
+    let record = t.records[source];
+    let a = record.op;
+    let record = t.records[load];
+    let b = record.op;
+    let earlier = (source < load) & (a.thread() == b.thread());
+    rows::put_if(edges, !earlier, source, load);
+}
+
+// Draws a load that reads the first value of its address before the other writers, which a row has: rule 4.
+fn draw_early(early: bool, others: &[u64], load: usize, edges: &mut [u64])
+    requires { ⌜ (load < RECORDS) × (length (now edges) ≡ CELLS) ⌝ }
+    ensures { λ r. ⌜ Added (now (edges .entry)) (λ i j. So early × (i ≡ load) × Edges (now (others .entry)) 0 j) (now (edges .exit)) ⌝ }
+{
+    if early {
+        rows::add_row(others, 0, edges, load);
+    }
+}
+
+// What a row has but for the load, as a row.
+fn others_in(stores: &[u64], addr: usize, load: usize) -> [u64; rows::WORDS]
+    requires { ⌜ load < RECORDS ⌝ }
+    ensures { λ r. ⌜ Words r × ((y : ℕ) → Edges r 0 y ↔ (Edges (now (stores .entry)) addr y × (y ≡ load → ⊥))) ⌝ }
+{
+    let mut own = [0u64; rows::WORDS];
+    rows::put(&mut own, 0, load);
+    let mut others = [0u64; rows::WORDS];
+    rows::add_row(stores, addr, &mut others, 0);
+    rows::drop_row(&own, 0, &mut others, 0);
+    others
 }
 
 // Draws what every writer of its address gives one record as a load, by rules 2 to 5, and notes these writers.
@@ -135,23 +198,15 @@ fn draw_values_for(
     ensures { λ r. ⌜ Added (now (writers .entry)) (Union (t .len) (λ x. Only (writer? (frameOf t) x load) load x)) (now (writers .exit)) ⌝ }
     ensures { λ r. ⌜ Added (now (edges .entry)) (Union (t .len) (ValuedFor (frameOf t) load)) (now (edges .exit)) ⌝ }
 {
-    let n = t.len;
     let record = t.records[load];
     let b = record.op;
     let addr = b.address();
     let early = b.reads() & (b.read() == first(t, addr));
-    let row = addr as usize;
-    let mut x = rows::next(stores, row, 0);
-    while x < n {
-        if x != load {
-            rows::put(writers, load, x);
-            let record = t.records[x];
-            let a = record.op;
-            let earlier = (x < load) & (a.thread() == b.thread());
-            draw_value(earlier, early, source, x, load, edges);
-        }
-        x = rows::next(stores, row, x + 1);
-    }
+    let others = others_in(stores, addr as usize, load);
+    rows::add_row(&others, 0, writers, load);
+    draw_source(t, source, load, edges);
+    draw_early(early, &others, load, edges);
+    draw_values_from(t, &others, early, source, load, edges);
 }
 
 // Draws rules 2 to 5, and notes each record's source and the writers of each address that is read.
