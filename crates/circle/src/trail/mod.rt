@@ -19,20 +19,15 @@ fn add_row(walks: &[u64], m: usize, next: &mut [u64], x: usize)
     rows::add_row(walks, m, next, x);
 }
 
-// Adds to row x of `next` where an edge from x and then a walk leads: nowhere, if x has no edge.
+// Adds to row x of `next` where an edge from x and then a walk leads, edge by edge along row x.
 fn add_rows(edges: &[u64], walks: &[u64], next: &mut [u64], x: usize)
     requires { ⌜ (x < RECORDS) × (length (now next) ≡ CELLS) ⌝ }
     ensures { λ r. ⌜ Widened (now (next .entry)) (λ i j. (i ≡ x) × StepThen (Edges (now (edges .entry))) (Edges (now (walks .entry))) x j) (now (next .exit)) ⌝ }
 {
-    if rows::within(edges, x, &[0u64; rows::WORDS], 0) {
-        return;
-    }
-    let mut m: usize = 0;
+    let mut m = rows::next(edges, x, 0);
     while m < trace::RECORDS {
-        if rows::test(edges, x, m) {
-            add_row(walks, m, next, x);
-        }
-        m += 1;
+        add_row(walks, m, next, x);
+        m = rows::next(edges, x, m + 1);
     }
 }
 
@@ -86,14 +81,12 @@ fn closed_at(walks: &[u64]) -> usize
 fn step_to(edges: &[u64], reach: &[u64], x: usize, j: usize) -> usize
     ensures { λ r. ⌜ LowestBelow RECORDS (λ y. Edges (now (edges .entry)) x y × Edges (now (reach .entry)) j y) r ⌝ }
 {
-    let mut to: usize = 0;
+    let mut to = rows::next(edges, x, 0);
     while to < trace::RECORDS {
-        if rows::test(edges, x, to) {
-            if rows::test(reach, j, to) {
-                return to;
-            }
+        if rows::test(reach, j, to) {
+            return to;
         }
-        to += 1;
+        to = rows::next(edges, x, to + 1);
     }
     to
 }
