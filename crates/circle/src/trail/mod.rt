@@ -9,6 +9,7 @@ ghost use Rattle.rows.specs.Rows.{Edges};
 ghost use Rattle.circle.specs.inner.WalkRows.{Exactly, Widened, StepThen};
 ghost use Rattle.circle.specs.inner.LeastWalk.{LeastWalk, LowestBelow};
 ghost use Rattle.circle.specs.inner.BackSteps.{StepBack, Reach, Followed, LaidWay};
+ghost use Rattle.circle.specs.inner.Ring.{Others, RingOf};
 ghost use Rattle.circle.specs.ShownIn.{ShownIn};
 
 // Adds to row x of `next` what row m of `walks` has.
@@ -28,6 +29,36 @@ fn add_rows(edges: &[u64], walks: &[u64], next: &mut [u64], x: usize)
     while m < trace::RECORDS {
         add_row(walks, m, next, x);
         m = rows::next(edges, x, m + 1);
+    }
+}
+
+// The records that are in no pair with themselves: of chains, those on no circle.
+fn off_circles(chains: &[u64]) -> [u64; rows::WORDS]
+    ensures { λ r. ⌜ Others (now (chains .entry)) r ⌝ }
+{
+    let mut others = [0u64; rows::WORDS];
+    let mut x: usize = 0;
+    while x < trace::RECORDS {
+        rows::put_if(&mut others, !rows::test(chains, x, x), 0, x);
+        x += 1;
+    }
+    others
+}
+
+// Makes `ring` the edges that join records on circles; no other edge lies on a closed walk.
+pub(crate) fn lay_ring(edges: &[u64], chains: &[u64], ring: &mut [u64])
+    requires { ⌜ length (now ring) ≡ CELLS ⌝ }
+    ensures { λ r. ⌜ RingOf (now (edges .entry)) (now (chains .entry)) (now (ring .exit)) ⌝ }
+{
+    let others = off_circles(chains);
+    rows::clear(ring);
+    let mut x: usize = 0;
+    while x < trace::RECORDS {
+        if rows::test(chains, x, x) {
+            add_row(edges, x, ring, x);
+            rows::drop_row(&others, 0, ring, x);
+        }
+        x += 1;
     }
 }
 
