@@ -5,6 +5,7 @@
 --   circled-none   == rounds that end without a circle have none
 --   circled-some   == the circle of the round at which they end, with the rules that were named, is the one shown
 --   circle-none-of == nothing was laid where the last round has no circle
+--   ring-laid      == what is shown of the edges between records on circles is what is shown of the last round
 --   circle-laid    == what was laid is the circle shown
 --   circle-model   == nothing is laid under a model that does not exist
 --   circle-kept    == what is shown from the rows of a model's kept pairs is shown under the model
@@ -12,13 +13,14 @@
 use mathlib.Core.Path.{_≡_, refl, sym, ap, ap₂, _∙_, subst}
 use mathlib.Core.Logic.{inl, inr, _↔_}
 use mathlib.Core.Bool.{Bool, true, false, So, false≢true}
-use mathlib.Core.List.{List, [], _∷_}
+use mathlib.Core.List.{List}
 use mathlib.Core.Option.{Option, none, some, Option·some-injective}
 use Prim.Native.Nat.{ℕ, zero, suc, _≤_, _<_}
 use native.Mathlib.Omega.{arith}
 use lib.ListN.{length, getD, take, replicate, length-replicate}
 use lib.Seq.{length-take-le, getD-take}
 use Rattle.laws.specs.Relation.{Rel, Table}
+use Rattle.laws.proofs.Relation.{chain-mono}
 use Rattle.laws.proofs.Tests.{off, test}
 use Rattle.trace.specs.Bounds.{RECORDS}
 use Rattle.rules.specs.Frame.{Frame, Good}
@@ -33,11 +35,12 @@ use Rattle.rows.proofs.Whole.{empty-bit}
 use Rattle.pairs.specs.Kept.{modelled, keptOf}
 use Rattle.rules.specs.Rules.{Edge, nothing}
 use Rattle.edges.specs.Supposed.{supposedOf}
-use Rattle.rules.specs.Circle.{Run, Circle as Ring, Shown, after}
+use Rattle.rules.specs.Circle.{Shown, after}
 use Rattle.rules.specs.ShownCircle.{Circled}
 use Rattle.edges.specs.LastRound.{Ends}
 use Rattle.circle.specs.ShownIn.{circleOf, ShownIn}
 use Rattle.circle.specs.inner.NamedRules.{RulesNamed}
+use Rattle.circle.specs.inner.Ring.{RingOf}
 use Rattle.edges.specs.KeptRows.{KeptRows}
 use Rattle.edges.specs.ForcedPairs.{answered, RoundedBy}
 use Rattle.circle.specs.CircleOf.{ruledOf, CircleBy, CircleOf}
@@ -49,16 +52,9 @@ use Rattle.rules.proofs.Circle.{circle-none, circle-iff}
 use Rattle.rules.proofs.Closing.{last-clear}
 use Rattle.rules.proofs.ShownCircle.{rule-computed, circled-one}
 use Rattle.circle.proofs.ShownIn.{zeros, same-used}
+use Rattle.circle.proofs.Ring.{circle-mono, shown-ring}
 
 -- What is shown goes by the edges alone -----------------------------------------------------------------------------------------------------
-
-run-mono : (E F : Rel) → ((x y : ℕ) → E x y → F x y) → (a : ℕ) (xs : List ℕ) (z : ℕ) → Run E a xs z → Run F a xs z
-run-mono E F h a [] z r = h a z r
-run-mono E F h a (b ∷ bs) z r = (h a b (r .0), run-mono E F h b bs z (r .1))
-
-circle-mono : (E F : Rel) → ((x y : ℕ) → E x y → F x y) → (c : List ℕ) → Ring E c → Ring F c
-circle-mono E F h [] c = c
-circle-mono E F h (x ∷ xs) c = run-mono E F h x xs x c
 
 pub shown-same : (E F : Rel) → ((x y : ℕ) → E x y ↔ F x y) → (a : Option (List ℕ)) → Shown E a → Shown F a
 shown-same E F q none s = λ d c. s d (circle-mono F E (λ x y. q x y .1) d c)
@@ -125,6 +121,12 @@ module _ (t : Trace) (K : Table) (n : ℕ) (supposed : List ℕ) (last : Round) 
         (subst (λ (b : Bool). Ends (frameOf t) K nothing (last .number) b (last .before) (last .edges) (last .chains)) c (bare s)));
     nothing = λ _. z;
   }
+
+  pub ring-laid : (ring : List ℕ) (len : ℕ) (os : List ℕ) → last .circle ≡ true → RingOf (last .edges) (last .chains) ring → ShownIn ring RECORDS len os → ShownIn (last .edges) RECORDS len os
+  ring-laid ring len os c is = elim (test (wellFormed t)) [
+    | inl s ↦ let ends = bare s in shown-ring (last .edges) (last .chains) ring RECORDS len os (ends .edges-full .long) (λ x h. ends .chains-has x x .1 (chain-mono (λ x y. ends .edges-has x y .0) x x h)) is
+    | inr a ↦ absurd (false≢true (sym (d .none a .1) ∙ c))
+  ]
 
   pub circle-laid : (r : Circle) (wiped : List ℕ) → last .circle ≡ true → ShownIn (last .edges) RECORDS (r .len) (r .operations) → wiped ≡ replicate RECORDS 0
       → RulesNamed (frameOf t) K (bit (last .before)) (take (r .len) (r .operations)) (r .len) wiped (r .rules) → CircleBy t K r

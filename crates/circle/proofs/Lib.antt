@@ -7,4 +7,5 @@ pub mod Tracing
 pub mod ShownIn
 pub mod Unique
 pub mod NamedRules
+pub mod Ring
 pub mod CircleOf

@@ -7,12 +7,14 @@
 --   added-none    == before the first turn
 --   added-turn    == a turn adds the pairs of its number
 --   added-skip    == or there are none
+--   added-far     == or there are none up to a further number
 --   added-exactly == what rows that had no pair hold in the end
 use mathlib.Core.Path.{_≡_, refl, sym, _∙_, subst}
 use mathlib.Core.Logic.{_⊎_, inl, inr, _↔_}
 use mathlib.Core.Bool.{So, false≢true}
 use mathlib.Core.List.{List}
-use Prim.Native.Nat.{ℕ, _+_, _<_}
+use Prim.Native.Nat.{ℕ, _+_, _<_, _≤_}
+use native.Mathlib.Decide.{decLt}
 use native.Mathlib.Omega.{arith}
 use lib.ListN.{length}
 use Rattle.laws.specs.Relation.{Rel}
@@ -70,6 +72,12 @@ module _ (before : List ℕ) where
 
     pub added-skip : (n : ℕ) (now : List ℕ) → Widened before (Some n B) now → ((x y : ℕ) → B n x y → ⊥) → Widened before (Some (n + 1) B) now
     added-skip n now a d = added-turn n now now a record { long = refl; pairs = λ x y. (inl, λ s. elim s [ inl e ↦ e | inr b ↦ absurd (d x y b) ]) }
+
+    pub added-far : (n k : ℕ) (now : List ℕ) → n ≤ k → Widened before (Some n B) now → ((m x y : ℕ) → n ≤ m → m < k → B m x y → ⊥) → Widened before (Some k B) now
+    added-far n k now l a d = added-same (Some n B) (Some k B) now (λ x y. (
+      λ s. (s .0, omega (arith, s .1), s .2),
+      λ s. elim (decLt (s .0) n) [ yes h ↦ (s .0, h, s .2) | no h ↦ absurd (d (s .0) x y (omega arith) (s .1) (s .2)) ],
+    )) a
 
 pub added-exactly : (n : ℕ) (A : Rel) (after : List ℕ) → Widened (emptyOf n) A after → Exactly after A
 added-exactly n A after a x y = (

@@ -3,3 +3,4 @@ pub mod WalkRows
 pub mod LeastWalk
 pub mod NamedRules
 pub mod BackSteps
+pub mod Ring

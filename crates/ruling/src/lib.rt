@@ -11,22 +11,35 @@ ghost use Rattle.ruling.specs.inner.RuleParts.{beforeSource, afterLoad};
 ghost use Rattle.rules.specs.ShownCircle.{rule?};
 use pairs::frame::begins;
 use pairs::frame::earlier;
+use pairs::frame::earlier_by;
 use pairs::frame::source;
 use pairs::frame::writer;
+use pairs::frame::writer_by;
 use pairs::kept;
 use pairs::op_at;
 use trace::Trace;
 
-// Whether y is the source of a load that x, another writer, is known to be before: by program order, or where chains count by a chain.
+// Whether y is the source of a load that x, another writer, is known to be before: by program order, or where chains count by a chain. Both write the
+// load's address, so that two of which one does not write the other's need no look at the loads.
 fn before_source(t: Trace, chains: &[u64], chained: bool, x: usize, y: usize) -> bool
     ensures { λ r. ⌜ r ≡ any (t .len) (beforeSource (frameOf t) chained (bit (now (chains .entry))) x y) ⌝ }
 {
+    if !(writer(t, x, y) & writer(t, y, x)) {
+        return false;
+    }
     let n = t.len;
+    let a = op_at(t, x);
     let mut load: usize = 0;
     while load < n {
-        let known = (chained & rows::test(chains, x, load)) | (!chained & earlier(t, x, load));
-        if source(t, y, load) & writer(t, x, load) & (x != y) & known {
-            return true;
+        let b = op_at(t, load);
+        if writer_by(n, a, x, b, load) {
+            let known = (chained & rows::test(chains, x, load))
+                | (!chained & earlier_by(a, x, b, load));
+            if known {
+                if source(t, y, load) {
+                    return true;
+                }
+            }
         }
         load += 1;
     }
@@ -37,11 +50,16 @@ fn before_source(t: Trace, chains: &[u64], chained: bool, x: usize, y: usize) ->
 fn after_load(t: Trace, chains: &[u64], x: usize, y: usize) -> bool
     ensures { λ r. ⌜ r ≡ any (t .len) (afterLoad (frameOf t) (bit (now (chains .entry))) x y) ⌝ }
 {
+    if !writer(t, y, x) {
+        return false;
+    }
     let n = t.len;
     let mut from: usize = 0;
     while from < n {
-        if source(t, from, x) & writer(t, y, x) & (y != from) & rows::test(chains, from, y) {
-            return true;
+        if (y != from) & rows::test(chains, from, y) {
+            if source(t, from, x) {
+                return true;
+            }
         }
         from += 1;
     }

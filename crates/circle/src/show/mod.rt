@@ -8,6 +8,7 @@ ghost use Rattle.rows.specs.Lent.{lentOf};
 ghost use Rattle.rules.specs.Circle.{after};
 ghost use Rattle.circle.specs.inner.NamedRules.{RulesNamed};
 ghost use Rattle.circle.specs.CircleOf.{CircleBy, CircleOf};
+use crate::trail::lay_ring;
 use crate::trail::shown;
 use edges::force::last_round_by;
 use edges::kept::kept_rows;
@@ -55,7 +56,7 @@ fn name_rules(
 }
 
 // The circle that is shown for a trace with lent kept pairs, of the first round that has one, with the lowest rule of each edge by that round.
-// There is none where no round has one, and for a trace that is not well formed.
+// There is none where no round has one, and for a trace that is not well formed. Few records lie on circles, so only the edges between those are looked at.
 pub fn circle_by(t: Trace, kept: &[u64]) -> Circle
     ensures { λ r. ⌜ CircleBy t (lentOf t (now (kept .entry))) r ⌝ }
 {
@@ -65,8 +66,11 @@ pub fn circle_by(t: Trace, kept: &[u64]) -> Circle
     let last = last_round_by(t, kept, &supposed);
     if last.circle {
         let edges = last.edges;
+        let chains = last.chains;
         let before = last.before;
-        let len = shown(&edges, &mut operations);
+        let mut ring = [0u64; rows::CELLS];
+        lay_ring(&edges, &chains, &mut ring);
+        let len = shown(&ring, &mut operations);
         name_rules(t, kept, &before, len, &operations, &mut rules);
         return Circle {
             len,

@@ -9,6 +9,7 @@ ghost use Rattle.rows.specs.Rows.{Edges};
 ghost use Rattle.circle.specs.inner.WalkRows.{Exactly, Widened, StepThen};
 ghost use Rattle.circle.specs.inner.LeastWalk.{LeastWalk, LowestBelow};
 ghost use Rattle.circle.specs.inner.BackSteps.{StepBack, Reach, Followed, LaidWay};
+ghost use Rattle.circle.specs.inner.Ring.{Others, RingOf};
 ghost use Rattle.circle.specs.ShownIn.{ShownIn};
 
 // Adds to row x of `next` what row m of `walks` has.
@@ -19,20 +20,45 @@ fn add_row(walks: &[u64], m: usize, next: &mut [u64], x: usize)
     rows::add_row(walks, m, next, x);
 }
 
-// Adds to row x of `next` where an edge from x and then a walk leads: nowhere, if x has no edge.
+// Adds to row x of `next` where an edge from x and then a walk leads, edge by edge along row x.
 fn add_rows(edges: &[u64], walks: &[u64], next: &mut [u64], x: usize)
     requires { ⌜ (x < RECORDS) × (length (now next) ≡ CELLS) ⌝ }
     ensures { λ r. ⌜ Widened (now (next .entry)) (λ i j. (i ≡ x) × StepThen (Edges (now (edges .entry))) (Edges (now (walks .entry))) x j) (now (next .exit)) ⌝ }
 {
-    if rows::within(edges, x, &[0u64; rows::WORDS], 0) {
-        return;
-    }
-    let mut m: usize = 0;
+    let mut m = rows::next(edges, x, 0);
     while m < trace::RECORDS {
-        if rows::test(edges, x, m) {
-            add_row(walks, m, next, x);
+        add_row(walks, m, next, x);
+        m = rows::next(edges, x, m + 1);
+    }
+}
+
+// The records that are in no pair with themselves: of chains, those on no circle.
+fn off_circles(chains: &[u64]) -> [u64; rows::WORDS]
+    ensures { λ r. ⌜ Others (now (chains .entry)) r ⌝ }
+{
+    let mut others = [0u64; rows::WORDS];
+    let mut x: usize = 0;
+    while x < trace::RECORDS {
+        rows::put_if(&mut others, !rows::test(chains, x, x), 0, x);
+        x += 1;
+    }
+    others
+}
+
+// Makes `ring` the edges that join records on circles; no other edge lies on a closed walk.
+pub(crate) fn lay_ring(edges: &[u64], chains: &[u64], ring: &mut [u64])
+    requires { ⌜ length (now ring) ≡ CELLS ⌝ }
+    ensures { λ r. ⌜ RingOf (now (edges .entry)) (now (chains .entry)) (now (ring .exit)) ⌝ }
+{
+    let others = off_circles(chains);
+    rows::clear(ring);
+    let mut x: usize = 0;
+    while x < trace::RECORDS {
+        if rows::test(chains, x, x) {
+            add_row(edges, x, ring, x);
+            rows::drop_row(&others, 0, ring, x);
         }
-        m += 1;
+        x += 1;
     }
 }
 
@@ -86,14 +112,12 @@ fn closed_at(walks: &[u64]) -> usize
 fn step_to(edges: &[u64], reach: &[u64], x: usize, j: usize) -> usize
     ensures { λ r. ⌜ LowestBelow RECORDS (λ y. Edges (now (edges .entry)) x y × Edges (now (reach .entry)) j y) r ⌝ }
 {
-    let mut to: usize = 0;
+    let mut to = rows::next(edges, x, 0);
     while to < trace::RECORDS {
-        if rows::test(edges, x, to) {
-            if rows::test(reach, j, to) {
-                return to;
-            }
+        if rows::test(reach, j, to) {
+            return to;
         }
-        to += 1;
+        to = rows::next(edges, x, to + 1);
     }
     to
 }
