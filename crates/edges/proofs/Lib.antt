@@ -3,6 +3,7 @@ pub mod Supposed
 pub mod PairSets
 pub mod DrawnEdges
 pub mod SourcesLaid
+pub mod MissingSources
 pub mod LentPairs
 pub mod LaterRecords
 pub mod KeptRows

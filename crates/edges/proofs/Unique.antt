@@ -1,6 +1,7 @@
 -- No second answer meets the contract of a public function.
 --
 --   FUNCTION-settles == the contract settles what the function gives back
+use mathlib.Core.Path.{_∙_, sym}
 use denote.Ref.{now}
 use Rattle.laws.specs.Settles.{Settles}
 use Rattle.rows.specs.Lent.{lentOf}
@@ -10,6 +11,8 @@ use Rattle.edges.proofs.RoundBefore.{prior-one}
 use Rattle.edges.proofs.SourcesLaid.{sources-one}
 use Rattle.edges.proofs.sources.sources_of.Reads as sources-of
 use Rattle.edges.proofs.sources.sources_of.Kinds as sources-of-kinds
+use Rattle.edges.proofs.sources.missing.Reads as missing
+use Rattle.edges.proofs.sources.missing.Kinds as missing-kinds
 use Rattle.edges.proofs.kept.kept_rows.Reads as kept-rows
 use Rattle.edges.proofs.kept.kept_rows.Kinds as kept-rows-kinds
 use Rattle.edges.proofs.force.last_round.Reads as last-round
@@ -28,6 +31,9 @@ kept-rows-settles κs a x y s t p q = kept-rows-one (a .0) (a .1 .0) x y p q
 
 pub sources-of-settles : Settles 0 sources-of-kinds.ps sources-of-kinds.r sources-of.Post
 sources-of-settles κs a x y s t p q = sources-one (a .0) x y p q
+
+pub missing-settles : Settles 0 missing-kinds.ps missing-kinds.r missing.Post
+missing-settles κs a x y s t p q = p ∙ sym q
 
 pub last-round-settles : Settles 1 last-round-kinds.ps last-round-kinds.r last-round.Post
 last-round-settles κs a x y s t p q = rounded-one (a .0) (now (a .1 .1 .0)) (a .1 .0) x y p q

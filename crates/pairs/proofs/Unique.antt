@@ -19,8 +19,6 @@ use Rattle.pairs.proofs.kept.Reads as kept
 use Rattle.pairs.proofs.kept.Kinds as kept-kinds
 use Rattle.pairs.proofs.source_of.Reads as source-of
 use Rattle.pairs.proofs.source_of.Kinds as source-of-kinds
-use Rattle.pairs.proofs.sources.missing.Reads as missing
-use Rattle.pairs.proofs.sources.missing.Kinds as missing-kinds
 use Rattle.pairs.proofs.frame.operation.Reads as operation
 use Rattle.pairs.proofs.frame.operation.Kinds as operation-kinds
 use Rattle.pairs.proofs.frame.earlier_by.Reads as earlier-by
@@ -59,9 +57,6 @@ kept-settles κs a x y s t p q = p ∙ sym q
 
 pub source-of-settles : Settles 0 source-of-kinds.ps source-of-kinds.r source-of.Post
 source-of-settles κs a x y s t p q = p ∙ sym q
-
-pub missing-settles : Settles 0 missing-kinds.ps missing-kinds.r missing.Post
-missing-settles κs a x y s t p q = p ∙ sym q
 
 pub operation-settles : Settles 0 operation-kinds.ps operation-kinds.r operation.Post
 operation-settles κs a x y s t p q = p ∙ sym q

@@ -5,6 +5,7 @@ pub mod Meaning
 pub mod Good
 pub mod Growth
 pub mod Faults
+pub mod Marks
 pub mod Lost
 pub mod Unique
 pub mod Records

@@ -8,3 +8,4 @@ pub mod FormFacts
 pub mod Fault
 pub mod Cores
 pub mod Meaning
+pub mod inner

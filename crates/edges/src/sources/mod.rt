@@ -1,4 +1,4 @@
-// The sources of all records at once, each looked for among the writers of its address.
+// The sources of all records at once, each looked for among the writers of its address; and the first record that lacks its own.
 ghost use mathlib.Core.Path.{_≡_};
 ghost use Prim.Native.Nat.{ℕ, _≤_};
 ghost use lib.ListN.{length, getD};
@@ -6,12 +6,16 @@ ghost use Rattle.trace.specs.Bounds.{RECORDS};
 ghost use Rattle.trace.specs.Meaning.{frameOf};
 ghost use Rattle.rows.specs.Bounds.{CELLS};
 ghost use Rattle.rows.specs.inner.AddedPairs.{Added};
+ghost use Rattle.pairs.specs.MissingOf.{missingOf};
 ghost use Rattle.edges.specs.inner.PairSets.{Only, Union};
 ghost use Rattle.edges.specs.inner.DrawnEdges.{Stored};
 ghost use Rattle.edges.specs.inner.SourcesLaid.{WrittenLaid, SourceIn, SourcesLaid};
 ghost use Rattle.edges.specs.SourcesOf.{SourcesOf};
+use pairs::sources::Found;
 use trace::RECORDS;
 use trace::Trace;
+use trace::first;
+use trace::form::well_formed;
 
 // Notes who writes which address: a row for each.
 pub(crate) fn note_stores(t: Trace, stores: &mut [u64])
@@ -103,4 +107,27 @@ pub fn sources_of(t: Trace) -> [usize; RECORDS]
     note_stores(t, &mut stores);
     lay_sources(t, &stores, &mut sources);
     sources
+}
+
+// The lowest record that lacks its source: it reads a value that is neither its address's first one nor written by another. For a trace that is not
+// well formed, nothing.
+pub fn missing(t: Trace) -> Found
+    ensures { λ r. ⌜ r ≡ missingOf t ⌝ }
+{
+    if !well_formed(t) {
+        return Found::Nothing;
+    }
+    let n = t.len;
+    let sources = sources_of(t);
+    let mut load: usize = 0;
+    while load < n {
+        let record = t.records[load];
+        let op = record.op;
+        let later = op.reads() & (op.read() != first(t, op.address()));
+        if later & (RECORDS <= sources[load]) {
+            return Found::At(load);
+        }
+        load += 1;
+    }
+    Found::Nothing
 }

@@ -1,13 +1,15 @@
 // When a trace is well formed, and what may stand next in one.
 ghost use mathlib.Core.Path.{_≡_};
-ghost use Prim.Native.Nat.{_≤_};
+ghost use mathlib.Core.Bool.{So};
+ghost use Prim.Native.Nat.{_<_, _≤_};
 ghost use lib.Dec.{ltb, leb};
 ghost use Rattle.laws.specs.Tests.{_⇒_, all};
-ghost use Rattle.trace.specs.Bounds.{RECORDS, VALUES};
+ghost use Rattle.trace.specs.Bounds.{RECORDS, ADDRESSES, VALUES};
 ghost use Rattle.trace.specs.Op.{writesTo};
 ghost use Rattle.trace.specs.Trace.{at};
 ghost use Rattle.trace.specs.Fault.{faultOf};
 ghost use Rattle.trace.specs.WellFormed.{bounded, writtenBefore, fresh, follows, isIdle, wellFormed};
+ghost use Rattle.trace.specs.inner.Marks.{place, marked, markOf, noteOf, Marks};
 use crate::ADDRESSES;
 use crate::Fault;
 use crate::Op;
@@ -16,6 +18,15 @@ use crate::THREADS;
 use crate::Trace;
 use crate::VALUES;
 use crate::first;
+
+// The bits of a word of marks.
+const WIDTH: usize = 64;
+
+// The words of marks that an address has.
+const WORDS: usize = 4;
+
+// The words of the marks of all addresses.
+const MARKS: usize = ADDRESSES as usize * WORDS;
 
 // Whether this operation writes the value to the address.
 fn writes_to(op: Op, addr: u8, value: u16) -> bool
@@ -132,19 +143,79 @@ fn is_idle(op: Op) -> bool
     false
 }
 
+// Which word has the mark of a value at an address. Values share marks: a mark tells only that some such value was written there.
+fn place(addr: u8, value: u16) -> usize
+    requires { ⌜ addr < ADDRESSES ⌝ }
+    ensures { λ r. ⌜ r ≡ place addr value ⌝ }
+{
+    (addr as usize) * WORDS + (value as usize) / WIDTH % WORDS
+}
+
+// Whether the mark of a value at an address is set.
+fn marked(marks: &[u64; MARKS], addr: u8, value: u16) -> bool
+    requires { ⌜ addr < ADDRESSES ⌝ }
+    ensures { λ r. ⌜ r ≡ marked (now (marks .entry)) addr value ⌝ }
+{
+    let i = place(addr, value);
+    let word = marks[i] >> ((value as usize) % WIDTH);
+    word % 2 == 1
+}
+
+// Sets the mark of a value at an address.
+fn mark(marks: &mut [u64; MARKS], addr: u8, value: u16)
+    requires { ⌜ addr < ADDRESSES ⌝ }
+    ensures { λ r. ⌜ now (marks .exit) ≡ markOf (now (marks .entry)) addr value ⌝ }
+{
+    let i = place(addr, value);
+    let word = marks[i];
+    marks[i] = word | (1u64 << ((value as usize) % WIDTH));
+}
+
+// Marks what an operation writes.
+fn note(marks: &mut [u64; MARKS], op: Op)
+    requires { ⌜ So (bounded op) ⌝ }
+    ensures { λ r. ⌜ now (marks .exit) ≡ noteOf (now (marks .entry)) op ⌝ }
+{
+    if op.writes() {
+        mark(marks, op.address(), op.written());
+    }
+}
+
+// Whether an operation may stand after the first n records, told their marks: a value without a mark none of them wrote, so that they are looked
+// through only for one that has it.
+fn follows_marks(t: Trace, n: usize, op: Op, marks: &[u64; MARKS]) -> bool
+    requires { ⌜ Marks t n (now marks) ⌝ }
+    ensures { λ r. ⌜ r ≡ follows t n op ⌝ }
+{
+    if !bounded(op) {
+        return false;
+    }
+    if op.writes() {
+        let addr = op.address();
+        let value = op.written();
+        if marked(marks, addr, value) {
+            return fresh(t, n, op);
+        }
+        return value != first(t, addr);
+    }
+    true
+}
+
 // Whether each used record may stand after those before it.
 fn used_follow(t: Trace) -> bool
     requires { ⌜ t .len ≤ RECORDS ⌝ }
     ensures { λ r. ⌜ r ≡ all (t .len) (λ i. follows t i (at t i)) ⌝ }
 {
     let n = t.len;
+    let mut marks = [0u64; MARKS];
     let mut i = 0;
     while i < n {
         let record = t.records[i];
         let op = record.op;
-        if !follows(t, i, op) {
+        if !follows_marks(t, i, op, &marks) {
             return false;
         }
+        note(&mut marks, op);
         i += 1;
     }
     true

@@ -7,8 +7,8 @@ use Rattle.reasons.proofs.listing.write.Statement.{statement}
 use Rattle.reasons.proofs.listing.write.Tie as tie
 use Rattle.reasons.proofs.listing.write.Reads as reads
 use Rattle.reasons.proofs.listing.write.Lts as lts
+use Rattle.edges.proofs.sources.missing.Reads as missing-reads
 use Rattle.pairs.proofs.modelled.Reads as modelled-reads
-use Rattle.pairs.proofs.sources.missing.Reads as missing-reads
 use Rattle.reasons.proofs.listing.lay_paper.Reads as lay-paper-reads
 use Rattle.search.proofs.first.first_order.Reads as first-order-reads
 use Rattle.trace.proofs.form.well_formed.Reads as well-formed-reads
