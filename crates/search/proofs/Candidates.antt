@@ -19,13 +19,10 @@ use Rattle.laws.proofs.Tests.{test, off, eq?}
 use Rattle.trace.specs.Bounds.{RECORDS}
 use Rattle.rules.specs.Frame.{Frame, Writer, Source}
 use Rattle.rows.specs.Rows.{bit, Words}
-use Rattle.rows.specs.Bounds.{WORDS}
-use Rattle.rows.specs.Empty.{emptyOf}
 use Rattle.rows.specs.Next.{NextInRow}
-use Rattle.rows.specs.AddRow.{addRowOf}
-use Rattle.rows.specs.DropRow.{dropRowOf}
+use Rattle.rows.specs.Rest.{restOf}
 use Rattle.rows.proofs.Rows.{bit-bounds}
-use Rattle.rows.proofs.Whole.{empty-long}
+use Rattle.rows.proofs.Resting.{rest-long, rest-has}
 use Rattle.pairs.proofs.SourceOf.{source-of-is, source-of-has}
 use Rattle.rules.specs.Ready.{Ready}
 use Rattle.rules.specs.inner.EarlyStop.{Stop, unread, covered}
@@ -33,12 +30,9 @@ use Rattle.search.specs.inner.Rest.{Rest}
 use Rattle.search.specs.inner.SearchTables.{Tables, Led, Laid}
 use Rattle.rows.specs.inner.Sets.{Holds}
 use Rattle.search.specs.inner.Candidates.{MayCome, Readied, Unread, Covered, Enough}
-use Rattle.search.proofs.Rowing.{rowed, rest-out}
 
-pub rest-of : (from : List ℕ) → Words from → (x : ℕ) (out : List ℕ) (y : ℕ) (one two : List ℕ) → one ≡ addRowOf from x (emptyOf WORDS) 0 → two ≡ dropRowOf out y one 0 → Rest from x out y two
-rest-of from words x out y one two e d =
-    let r = rowed from words x out y 0 (omega arith) (emptyOf WORDS) one two (omega (arith, empty-long WORDS)) e d in
-    record { long = r .long ∙ empty-long WORDS; has = rest-out _ _ two r }
+pub rest-of : (from : List ℕ) → Words from → (x : ℕ) (out : List ℕ) (y : ℕ) (r : List ℕ) → r ≡ restOf from x out y → Rest from x out y r
+rest-of from words x out y r e = rw e record { long = rest-long from words x out y; has = rest-has from words x out y }
 
 -- what is not left of a row was dropped
 pub in-rest : {from out r : List ℕ} {x y : ℕ} → Rest from x out y r → (z : ℕ) → So (bit from x z) → (So (bit r 0 z) → ⊥) → So (bit out y z)

@@ -100,13 +100,6 @@ own-out y hy own e x =
       λ d. subst (λ (r : List ℕ). So (bit r 0 x)) (sym e) (more .1 (inr d)),
     )
 
--- what a set has that lost a row, and was empty
-pub rest-out : (In Out : ℕ → Type 0) (rest : List ℕ) → Rowed 0 In Out (emptyOf WORDS) rest → (x : ℕ) → Edges rest 0 x ↔ (In x × (Out x → ⊥))
-rest-out In Out rest r x = (
-  λ u. let g = r .pairs 0 x .0 u in (elim (g .0) [ inl v ↦ absurd (false≢true (sym (empty-bit WORDS 0 x) ∙ v)) | inr h ↦ h .1 ], λ o. g .1 (refl, o)),
-  λ h. r .pairs 0 x .1 (inr (refl, h .0), λ o. h .1 (o .1)),
-)
-
 pub filling-none : (n : ℕ) (R : Table) (rows : List ℕ) → rows ≡ emptyOf CELLS → Filling 0 n R rows
 filling-none n R rows e = rw e (record {
   long = empty-long CELLS;

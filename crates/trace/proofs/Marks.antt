@@ -24,30 +24,30 @@ use Rattle.trace.specs.Bounds.{ADDRESSES}
 use Rattle.trace.specs.Op.{address, written, writes}
 use Rattle.trace.specs.Trace.{at, first}
 use Rattle.trace.specs.WellFormed.{bounded, writtenBefore, fresh, follows}
-use Rattle.trace.specs.inner.Marks.{WIDTH, MARKS, place, marked, markOf, noteOf, Marks}
+use Rattle.trace.specs.inner.Marks.{MARKWIDTH, MARKS, markPlace, hasMark, withMark, noteOf, Marks}
 use Rattle.trace.specs.declared.Op.{Op}
 use Rattle.trace.specs.declared.Trace.{Trace}
 use Rattle.trace.proofs.WellFormed.{bounded-iff, written-before-iff}
 
 module _ (marks : List ℕ) (a v : ℕ) where
-  pub mark-long : length (markOf marks a v) ≡ length marks
-  unfolding markOf
-  mark-long = length-set marks (place a v) _
+  pub mark-long : length (withMark marks a v) ≡ length marks
+  unfolding withMark
+  mark-long = length-set marks (markPlace a v) _
 
-  module _ (within : place a v < length marks) where
-    pub mark-own : So (marked (markOf marks a v) a v)
-    unfolding markOf marked
-    mark-own = rw (getD-set-same marks (place a v) (bitOr (getD marks (place a v) 0) (2 ^ (v % WIDTH))) 0 within, bitOf-or, bitOf-power, eq-eqb (v % WIDTH) (v % WIDTH) refl, or-true) refl
+  module _ (within : markPlace a v < length marks) where
+    pub mark-own : So (hasMark (withMark marks a v) a v)
+    unfolding withMark hasMark
+    mark-own = rw (getD-set-same marks (markPlace a v) (bitOr (getD marks (markPlace a v) 0) (2 ^ (v % MARKWIDTH))) 0 within, bitOf-or, bitOf-power, eq-eqb (v % MARKWIDTH) (v % MARKWIDTH) refl, or-true) refl
 
-    pub mark-keeps : (b w : ℕ) → So (marked marks b w) → So (marked (markOf marks a v) b w)
-    unfolding markOf marked
-    mark-keeps b w s = elim (eq? (place b w) (place a v)) [
-      | inl e ↦ rw (e, getD-set-same marks (place a v) (bitOr (getD marks (place a v) 0) (2 ^ (v % WIDTH))) 0 within, bitOf-or, (rw e at s)) refl
-      | inr d ↦ rw (getD-set-other marks (place a v) (place b w) (bitOr (getD marks (place a v) 0) (2 ^ (v % WIDTH))) 0 d) s
+    pub mark-keeps : (b w : ℕ) → So (hasMark marks b w) → So (hasMark (withMark marks a v) b w)
+    unfolding withMark hasMark
+    mark-keeps b w s = elim (eq? (markPlace b w) (markPlace a v)) [
+      | inl e ↦ rw (e, getD-set-same marks (markPlace a v) (bitOr (getD marks (markPlace a v) 0) (2 ^ (v % MARKWIDTH))) 0 within, bitOf-or, (rw e at s)) refl
+      | inr d ↦ rw (getD-set-other marks (markPlace a v) (markPlace b w) (bitOr (getD marks (markPlace a v) 0) (2 ^ (v % MARKWIDTH))) 0 d) s
     ]
 
 -- the word of a mark is among those of all addresses
-pub place-in : (marks : List ℕ) (a v : ℕ) → length marks ≡ MARKS → a < ADDRESSES → place a v < length marks
+pub place-in : (marks : List ℕ) (a v : ℕ) → length marks ≡ MARKS → a < ADDRESSES → markPlace a v < length marks
 place-in marks a v l h = omega arith
 
 pub marks-none : (t : Trace) → Marks t 0 (replicate MARKS 0)
@@ -58,10 +58,10 @@ module _ (t : Trace) (n : ℕ) (marks : List ℕ) (m : Marks t n marks) where
   unfolding noteOf
   marks-more keeps = go (writes (at t n)) refl
     where
-      within : place (address (at t n)) (written (at t n)) < length marks
+      within : markPlace (address (at t n)) (written (at t n)) < length marks
       within = place-in marks (address (at t n)) (written (at t n)) (m .long) (bounded-iff (at t n) .0 keeps .address-below)
 
-      go : (b : Bool) → writes (at t n) ≡ b → Marks t (n + 1) (cond b (markOf marks (address (at t n)) (written (at t n))) marks)
+      go : (b : Bool) → writes (at t n) ≡ b → Marks t (n + 1) (cond b (withMark marks (address (at t n)) (written (at t n))) marks)
       go true e =
           record {
             long = mark-long marks (address (at t n)) (written (at t n)) ∙ m .long;
@@ -76,9 +76,9 @@ module _ (t : Trace) (n : ℕ) (marks : List ℕ) (m : Marks t n marks) where
             each = λ j h s. elim (eq? j n) [ inl q ↦ absurd (false≢true (sym e ∙ (rw q at s))) | inr d ↦ m .each j (omega arith) s ];
           }
 
-  pub unmarked : (a v : ℕ) → marked marks a v ≡ false → writtenBefore t n a v ≡ false
-  unmarked a v e = off (λ s. let w = written-before-iff t n a v .0 s in false≢true (sym e ∙ sym (ap₂ (marked marks) (w .2 .there) (w .2 .value)) ∙ m .each (w .0) (w .1) (w .2 .does)))
+  pub unmarked : (a v : ℕ) → hasMark marks a v ≡ false → writtenBefore t n a v ≡ false
+  unmarked a v e = off (λ s. let w = written-before-iff t n a v .0 s in false≢true (sym e ∙ sym (ap₂ (hasMark marks) (w .2 .there) (w .2 .value)) ∙ m .each (w .0) (w .1) (w .2 .does)))
 
-  pub follows-unmarked : (o : Op) → So (bounded o) → So (writes o) → marked marks (address o) (written o) ≡ false → follows t n o ≡ not (eqb (written o) (first t (address o)))
+  pub follows-unmarked : (o : Op) → So (bounded o) → So (writes o) → hasMark marks (address o) (written o) ≡ false → follows t n o ≡ not (eqb (written o) (first t (address o)))
   unfolding follows fresh
   follows-unmarked o keeps does e = simp (keeps, does, unmarked (address o) (written o) e, and-true)

@@ -11,10 +11,7 @@ ghost use Rattle.search.specs.inner.Rest.{Rest};
 pub(crate) fn rest(from: &[u64], x: usize, out: &[u64], y: usize) -> [u64; rows::WORDS]
     ensures { λ r. ⌜ Rest (now (from .entry)) x (now (out .entry)) y r ⌝ }
 {
-    let mut left = [0u64; rows::WORDS];
-    rows::add_row(from, x, &mut left, 0);
-    rows::drop_row(out, y, &mut left, 0);
-    left
+    rows::rest(from, x, out, y)
 }
 
 // The set with y in it.

@@ -1,12 +1,12 @@
 -- Marks of what was written: a bit for each value at an address, which other values share.
 --
---   WIDTH, WORDS     == how many bits a word of marks has, and how many words an address
---   MARKS            == how many words the marks of all addresses have
---   place a v        == which word has the mark of the value v at address a
---   marked marks a v == that mark is set
---   markOf marks a v == the marks with that one set
---   noteOf marks o   == the marks with that of what o writes set, if it writes
---   Marks t n marks  == every value that one of the first n records wrote is marked at its address
+--   MARKWIDTH, MARKWORDS == how many bits a word of marks has, and how many words an address
+--   MARKS                == how many words the marks of all addresses have
+--   markPlace a v        == which word has the mark of the value v at address a
+--   hasMark marks a v    == that mark is set
+--   withMark marks a v   == the marks with that one set
+--   noteOf marks o       == the marks with that of what o writes set, if it writes
+--   Marks t n marks      == every value that one of the first n records wrote is marked at its address
 use mathlib.Core.Path.{_≡_}
 use mathlib.Core.Bool.{Bool, So, cond}
 use mathlib.Core.List.{List}
@@ -20,27 +20,27 @@ use Rattle.trace.specs.Trace.{at}
 use Rattle.trace.specs.declared.Op.{Op}
 use Rattle.trace.specs.declared.Trace.{Trace}
 
-abbrev pub WIDTH : ℕ
-WIDTH = 64
+abbrev pub MARKWIDTH : ℕ
+MARKWIDTH = 64
 
-abbrev pub WORDS : ℕ
-WORDS = 4
+abbrev pub MARKWORDS : ℕ
+MARKWORDS = 4
 
 abbrev pub MARKS : ℕ
-MARKS = ADDRESSES * WORDS
+MARKS = ADDRESSES * MARKWORDS
 
-abbrev pub place : ℕ → ℕ → ℕ
-place a v = a * WORDS + v / WIDTH % WORDS
+abbrev pub markPlace : ℕ → ℕ → ℕ
+markPlace a v = a * MARKWORDS + v / MARKWIDTH % MARKWORDS
 
-unfoldable pub marked : List ℕ → ℕ → ℕ → Bool
-marked marks a v = bitOf (getD marks (place a v) 0) (v % WIDTH)
+unfoldable pub hasMark : List ℕ → ℕ → ℕ → Bool
+hasMark marks a v = bitOf (getD marks (markPlace a v) 0) (v % MARKWIDTH)
 
-unfoldable pub markOf : List ℕ → ℕ → ℕ → List ℕ
-markOf marks a v = set marks (place a v) (bitOr (getD marks (place a v) 0) (2 ^ (v % WIDTH)))
+unfoldable pub withMark : List ℕ → ℕ → ℕ → List ℕ
+withMark marks a v = set marks (markPlace a v) (bitOr (getD marks (markPlace a v) 0) (2 ^ (v % MARKWIDTH)))
 
 unfoldable pub noteOf : List ℕ → Op → List ℕ
-noteOf marks o = cond (writes o) (markOf marks (address o) (written o)) marks
+noteOf marks o = cond (writes o) (withMark marks (address o) (written o)) marks
 
 pub record Marks (t : Trace) (n : ℕ) (marks : List ℕ) : Type 0 where
   pub long : length marks ≡ MARKS
-  pub each : (j : ℕ) → j < n → So (writes (at t j)) → So (marked marks (address (at t j)) (written (at t j)))
+  pub each : (j : ℕ) → j < n → So (writes (at t j)) → So (hasMark marks (address (at t j)) (written (at t j)))

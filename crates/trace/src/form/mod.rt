@@ -9,7 +9,7 @@ ghost use Rattle.trace.specs.Op.{writesTo};
 ghost use Rattle.trace.specs.Trace.{at};
 ghost use Rattle.trace.specs.Fault.{faultOf};
 ghost use Rattle.trace.specs.WellFormed.{bounded, writtenBefore, fresh, follows, isIdle, wellFormed};
-ghost use Rattle.trace.specs.inner.Marks.{place, marked, markOf, noteOf, Marks};
+ghost use Rattle.trace.specs.inner.Marks.{markPlace, hasMark, withMark, noteOf, Marks};
 use crate::ADDRESSES;
 use crate::Fault;
 use crate::Op;
@@ -20,13 +20,13 @@ use crate::VALUES;
 use crate::first;
 
 // The bits of a word of marks.
-const WIDTH: usize = 64;
+const MARK_WIDTH: usize = 64;
 
 // The words of marks that an address has.
-const WORDS: usize = 4;
+const MARK_WORDS: usize = 4;
 
 // The words of the marks of all addresses.
-const MARKS: usize = ADDRESSES as usize * WORDS;
+const MARKS: usize = ADDRESSES as usize * MARK_WORDS;
 
 // Whether this operation writes the value to the address.
 fn writes_to(op: Op, addr: u8, value: u16) -> bool
@@ -146,29 +146,29 @@ fn is_idle(op: Op) -> bool
 // Which word has the mark of a value at an address. Values share marks: a mark tells only that some such value was written there.
 fn place(addr: u8, value: u16) -> usize
     requires { ⌜ addr < ADDRESSES ⌝ }
-    ensures { λ r. ⌜ r ≡ place addr value ⌝ }
+    ensures { λ r. ⌜ r ≡ markPlace addr value ⌝ }
 {
-    (addr as usize) * WORDS + (value as usize) / WIDTH % WORDS
+    (addr as usize) * MARK_WORDS + (value as usize) / MARK_WIDTH % MARK_WORDS
 }
 
 // Whether the mark of a value at an address is set.
 fn marked(marks: &[u64; MARKS], addr: u8, value: u16) -> bool
     requires { ⌜ addr < ADDRESSES ⌝ }
-    ensures { λ r. ⌜ r ≡ marked (now (marks .entry)) addr value ⌝ }
+    ensures { λ r. ⌜ r ≡ hasMark (now (marks .entry)) addr value ⌝ }
 {
     let i = place(addr, value);
-    let word = marks[i] >> ((value as usize) % WIDTH);
+    let word = marks[i] >> ((value as usize) % MARK_WIDTH);
     word % 2 == 1
 }
 
 // Sets the mark of a value at an address.
 fn mark(marks: &mut [u64; MARKS], addr: u8, value: u16)
     requires { ⌜ addr < ADDRESSES ⌝ }
-    ensures { λ r. ⌜ now (marks .exit) ≡ markOf (now (marks .entry)) addr value ⌝ }
+    ensures { λ r. ⌜ now (marks .exit) ≡ withMark (now (marks .entry)) addr value ⌝ }
 {
     let i = place(addr, value);
     let word = marks[i];
-    marks[i] = word | (1u64 << ((value as usize) % WIDTH));
+    marks[i] = word | (1u64 << ((value as usize) % MARK_WIDTH));
 }
 
 // Marks what an operation writes.

@@ -6,7 +6,7 @@ use lib.Dec.{eqb}
 use Rattle.trace.specs.Op.{address, written, writes}
 use Rattle.trace.specs.Trace.{first}
 use Rattle.trace.specs.WellFormed.{bounded, fresh, follows}
-use Rattle.trace.specs.inner.Marks.{marked}
+use Rattle.trace.specs.inner.Marks.{hasMark}
 use Rattle.trace.proofs.WellFormed.{bounded-iff}
 use Rattle.trace.proofs.Marks.{follows-unmarked}
 use borrow.Author.Needs.{needs}
@@ -54,8 +54,8 @@ returns-3 c =
     let d = w .before .before .before in
     let s = d .before .before .before in
     let a = s .args in
-    let free : marked (a .marks .now) (address (a .op)) (written (a .op)) ≡ false =
-    sym (ap₂ (marked (a .marks .now)) (w .before .address .ensures) (w .written .ensures)) ∙ sym (c .before .before .marked .ensures) ∙ c .before .if3 .left in
+    let free : hasMark (a .marks .now) (address (a .op)) (written (a .op)) ≡ false =
+    sym (ap₂ (hasMark (a .marks .now)) (w .before .address .ensures) (w .written .ensures)) ∙ sym (c .before .before .marked .ensures) ∙ c .before .if3 .left in
     ap not (ap₂ eqb (w .written .ensures) (c .first .ensures ∙ ap (first (a .t)) (w .before .address .ensures)))
     ∙ sym (follows-unmarked (a .t) (a .n) (a .marks .now) (s .pre) (a .op) (keeps (d .before)) (sym (d .writes .ensures) ∙ w .before .before .if2 .taken) free)
 

@@ -3,7 +3,7 @@ use mathlib.Core.Path.{refl}
 use Prim.Native.Nat.{_%_}
 use native.Mathlib.Omega.{arith}
 use Rattle.laws.proofs.Bits.{shift-one}
-use Rattle.trace.specs.inner.Marks.{WIDTH, markOf}
+use Rattle.trace.specs.inner.Marks.{MARKWIDTH, withMark}
 use borrow.Author.Needs.{needs}
 use Rattle.trace.proofs.form.mark.Statement.{statement}
 use Rattle.trace.proofs.form.mark.Tie as tie
@@ -27,8 +27,8 @@ element-write-marks : tie.Need-element-write-marks
 element-write-marks c = search needs
 
 returns : tie.Need-returns
-unfolding markOf
-returns c = rw (c .before .place .ensures, shift-one {k = c .before .before .args .value % WIDTH} {w = WIDTH} (omega arith)) refl
+unfolding withMark
+returns c = rw (c .before .place .ensures, shift-one {k = c .before .before .args .value % MARKWIDTH} {w = MARKWIDTH} (omega arith)) refl
 
 pub mark-spec : {M : Type 1} → statement M
 mark-spec =

@@ -2,7 +2,7 @@
 use mathlib.Core.Path.{_≡_, refl, sym, ap₂, _∙_}
 use mathlib.Core.Bool.{true, false}
 use Rattle.trace.specs.Op.{writes}
-use Rattle.trace.specs.inner.Marks.{markOf, noteOf}
+use Rattle.trace.specs.inner.Marks.{withMark, noteOf}
 use Rattle.trace.proofs.WellFormed.{bounded-iff}
 use borrow.Author.Needs.{needs}
 use Rattle.trace.proofs.form.note.Statement.{statement}
@@ -25,7 +25,7 @@ unfolding noteOf
 returns c =
     let w = c .before .before .before .before .before in
     let does : writes (w .before .args .op) ≡ true = sym (w .writes .ensures) ∙ c .before .before .before .before .if1 .taken in
-    simp does (c .mark .ensures ∙ ap₂ (markOf (w .before .args .marks .now)) (c .before .before .address .ensures) (c .before .written .ensures))
+    simp does (c .mark .ensures ∙ ap₂ (withMark (w .before .args .marks .now)) (c .before .before .address .ensures) (c .before .written .ensures))
 
 returns-2 : tie.Need-returns-2
 unfolding noteOf
