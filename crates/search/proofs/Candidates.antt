@@ -26,16 +26,16 @@ use Rattle.rows.proofs.Resting.{rest-long, rest-has}
 use Rattle.pairs.proofs.SourceOf.{source-of-is, source-of-has}
 use Rattle.rules.specs.Ready.{Ready}
 use Rattle.rules.specs.inner.EarlyStop.{Stop, unread, covered}
-use Rattle.search.specs.inner.Rest.{Rest}
+use Rattle.search.specs.inner.LeftOver.{LeftOver}
 use Rattle.search.specs.inner.SearchTables.{Tables, Led, Laid}
 use Rattle.rows.specs.inner.Sets.{Holds}
 use Rattle.search.specs.inner.Candidates.{MayCome, Readied, Unread, Covered, Enough}
 
-pub rest-of : (from : List ℕ) → Words from → (x : ℕ) (out : List ℕ) (y : ℕ) (r : List ℕ) → r ≡ restOf from x out y → Rest from x out y r
+pub rest-of : (from : List ℕ) → Words from → (x : ℕ) (out : List ℕ) (y : ℕ) (r : List ℕ) → r ≡ restOf from x out y → LeftOver from x out y r
 rest-of from words x out y r e = rw e record { long = rest-long from words x out y; has = rest-has from words x out y }
 
 -- what is not left of a row was dropped
-pub in-rest : {from out r : List ℕ} {x y : ℕ} → Rest from x out y r → (z : ℕ) → So (bit from x z) → (So (bit r 0 z) → ⊥) → So (bit out y z)
+pub in-rest : {from out r : List ℕ} {x y : ℕ} → LeftOver from x out y r → (z : ℕ) → So (bit from x z) → (So (bit r 0 z) → ⊥) → So (bit out y z)
 in-rest {from} {out} {r} {x} {y} p z t n = elim (test (bit out y z)) [ inl u ↦ u | inr u ↦ absurd (n (p .has z .1 (t, λ v. false≢true (sym u ∙ v)))) ]
 
 pub next-on : {m : ℕ} (row : List ℕ) (z r : ℕ) → NextInRow row m (z + 1) r → z < RECORDS → z < r
@@ -46,10 +46,10 @@ next-at row from r n = elim (n .there) [ inl t ↦ inl (t .1) | inr e ↦ inr e 
 
 -- what may be ready is left to place
 module _ {n : ℕ} {operations before readers sources placed : List ℕ} where
-  pub in-left : {left : List ℕ} → Rest operations 0 placed 0 left → (x : ℕ) → Readied n operations before readers sources placed x → So (bit left 0 x)
+  pub in-left : {left : List ℕ} → LeftOver operations 0 placed 0 left → (x : ℕ) → Readied n operations before readers sources placed x → So (bit left 0 x)
   in-left p x r = p .has x .1 (r .operation, r .unplaced)
 
-  pub readied : {left : List ℕ} (y : ℕ) → y < RECORDS → Rest operations 0 placed 0 left → MayCome n before readers sources placed y → So (bit left 0 y) ⊎ (y ≡ RECORDS) → Readied n operations before readers sources placed y
+  pub readied : {left : List ℕ} (y : ℕ) → y < RECORDS → LeftOver operations 0 placed 0 left → MayCome n before readers sources placed y → So (bit left 0 y) ⊎ (y ≡ RECORDS) → Readied n operations before readers sources placed y
   readied y h p free (inl t) = let (o, u) = p .has y .0 t in record { operation = o; unplaced = u; free = free }
   readied y h p free (inr e) = absurd (omega arith)
 

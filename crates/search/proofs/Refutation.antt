@@ -56,7 +56,7 @@ use Rattle.pairs.proofs.SourceOf.{source-of-is}
 use Rattle.search.specs.inner.SearchTables.{Tables, Laid}
 use Rattle.rows.specs.inner.Sets.{Holds}
 use Rattle.search.specs.inner.Refutation.{RankedRows, Below, Parted, Leads, Sixth, Settling, Ranking, Grown, Partly, Unranked, Falls, Refuted}
-use Rattle.search.specs.inner.Rest.{Rest}
+use Rattle.search.specs.inner.LeftOver.{LeftOver}
 use Rattle.search.proofs.Rowing.{own-out}
 use Rattle.search.proofs.Candidates.{lacks, in-rest}
 
@@ -140,13 +140,13 @@ module _ (set : List ℕ) (S L : ℕ) (a b : List ℕ) where
 
 -- what the rules ask of a ranking for one load, with what is not placed of the writers of its address
 module _ (n : ℕ) (writers sources placed set : List ℕ) (L : ℕ) (l : L < n) where
-  pub part-one : So (bit placed 0 (getD sources L 0)) → Rest writers L placed 0 set → (pos : ℕ → ℕ) → Ranking n writers sources placed pos → Leads L set pos
+  pub part-one : So (bit placed 0 (getD sources L 0)) → LeftOver writers L placed 0 set → (pos : ℕ → ℕ) → Ranking n writers sources placed pos → Leads L set pos
   part-one due r pos o z t =
       let h = r .has z .0 t in
       let b = o L l (bit-bounds placed 0 (getD sources L 0) due .1) z (h .0) (λ e. h .1 (subst (λ (k : ℕ). So (bit placed 0 k)) (sym e) due)) in
       b .seventh (b .split due (off (h .1)))
 
-  pub settle-one : getD sources L 0 < RECORDS → Rest writers L placed 0 set → (pos : ℕ → ℕ) → Ranking n writers sources placed pos → Settling set (getD sources L 0) L pos
+  pub settle-one : getD sources L 0 < RECORDS → LeftOver writers L placed 0 set → (pos : ℕ → ℕ) → Ranking n writers sources placed pos → Settling set (getD sources L 0) L pos
   settle-one s r pos o z t d = let b = o L l s z (r .has z .0 t .0) d in (b .sixth, b .seventh)
 
 -- one number more is put where a test passed
@@ -158,7 +158,7 @@ put-some set next true z l h e p q =
 put-some set next false z l h e p q = rw e (l, q)
 
 -- what a row has that another has not lost: both have it
-pub both : {from out r s : List ℕ} {x y : ℕ} → Rest from x out y r → Rest from x r 0 s → (z : ℕ) → So (bit s 0 z) → So (bit from x z) × So (bit out y z)
+pub both : {from out r s : List ℕ} {x y : ℕ} → LeftOver from x out y r → LeftOver from x r 0 s → (z : ℕ) → So (bit s 0 z) → So (bit from x z) × So (bit out y z)
 both p q z t = let h = q .has z .0 t in (h .0, in-rest p z (h .0) (h .1))
 
 pub partly-none : (before a : List ℕ) → Partly before a a

@@ -6,5 +6,5 @@ pub mod TablesLaid
 pub mod SearchAnswer
 pub mod DeadSets
 pub mod Refutation
-pub mod Rest
+pub mod LeftOver
 pub mod SearchBelow

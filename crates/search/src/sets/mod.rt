@@ -5,11 +5,11 @@ ghost use lib.ListN.{length};
 ghost use Rattle.trace.specs.Bounds.{RECORDS};
 ghost use Rattle.rows.specs.Bounds.{WORDS};
 ghost use Rattle.rows.specs.inner.Sets.{More};
-ghost use Rattle.search.specs.inner.Rest.{Rest};
+ghost use Rattle.search.specs.inner.LeftOver.{LeftOver};
 
 // What row x of one table has and row y of another has not.
 pub(crate) fn rest(from: &[u64], x: usize, out: &[u64], y: usize) -> [u64; rows::WORDS]
-    ensures { λ r. ⌜ Rest (now (from .entry)) x (now (out .entry)) y r ⌝ }
+    ensures { λ r. ⌜ LeftOver (now (from .entry)) x (now (out .entry)) y r ⌝ }
 {
     rows::rest(from, x, out, y)
 }
