@@ -1,4 +1,5 @@
 // The entries for C and Rust, over numbers and byte slices. Each keeps the promise of the function behind it.
+#![tactic(auto)]
 
 mod answers;
 pub mod cuts;

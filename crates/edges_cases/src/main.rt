@@ -1,5 +1,7 @@
 // Prints what the rules force in each trace that is named as an argument, under each model: the round at which the rounds end,
 // and the circle that is shown with its rules, or every held pair.
+#![tactic(auto)]
+
 use circle::show::Circle;
 use edges::Forced;
 use saying::{say, say_u8, say_u16, say_usize};

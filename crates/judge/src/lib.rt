@@ -1,2 +1,4 @@
 // The judge of a proposed order.
+#![tactic(auto)]
+
 pub mod judging;

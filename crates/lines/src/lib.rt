@@ -1,6 +1,8 @@
 // Document 01's form of a reader of lines, kept for its own sake: no other crate calls it, as the reader walks by place.
 // A text read line by line: a struct holds the lent text and a place in it. The work is done by functions on the text and the place; those
 // over the struct only take it apart and put it together.
+#![tactic(auto)]
+
 ghost use Rattle.std.specs.Prelude.{◌≡◌};
 ghost use Rattle.text.specs.Lines.{next_at};
 ghost use Rattle.text.specs.Part.{LineOf};
@@ -8,7 +10,7 @@ ghost use Rattle.text.specs.Part.{LineOf};
 use text::Cursor;
 
 // The lent text, and where the next line starts.
-#[derive(Drop)]
+#[derive(Clone, Copy)]
 pub struct Reader<'a> {
     pub text: &'a [u8],
     pub at: usize,

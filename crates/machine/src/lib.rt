@@ -1,4 +1,6 @@
 // A plain machine beside the rules: SC with one memory, TSO with a first-in first-out store buffer a core. It runs a trace by a lent list of steps.
+#![tactic(auto)]
+
 use trace::{ADDRESSES, RECORDS};
 
 mod cores;
@@ -13,7 +15,7 @@ pub const STEPS: usize = 2 * RECORDS;
 
 // Which records ran, which stores wait in their core's buffer, and what memory holds. A core's entries stand in the order of its records, which is
 // the order in which they went in.
-#[derive(Drop)]
+#[derive(Clone, Copy)]
 struct Machine {
     ran: [bool; RECORDS],
     waits: [bool; RECORDS],
@@ -21,7 +23,7 @@ struct Machine {
 }
 
 // Whether a step is possible, and the machine after it; where it is not, the machine as it was.
-#[derive(Drop)]
+#[derive(Clone, Copy)]
 struct Stepped {
     possible: bool,
     machine: Machine,
@@ -29,7 +31,7 @@ struct Stepped {
 
 // How a run ends: no such model, a trace that is not well formed, an impossible step and its place, or all steps done, and whether all records ran
 // and the buffers are empty.
-#[derive(Drop)]
+#[derive(Clone, Copy)]
 pub enum Ran {
     NoModel,
     NotWellFormed,
@@ -38,7 +40,7 @@ pub enum Ran {
 }
 
 // Steps on their way: which records ran, and the first len places of the list.
-#[derive(Drop)]
+#[derive(Clone, Copy)]
 struct Built {
     ran: [bool; RECORDS],
     steps: [u8; STEPS],
@@ -46,7 +48,7 @@ struct Built {
 }
 
 // What comes of an order: no such model, a trace that is not well formed, a list that is no valid order, or steps.
-#[derive(Drop)]
+#[derive(Clone, Copy)]
 pub enum Given {
     NoModel,
     NotWellFormed,
@@ -55,7 +57,7 @@ pub enum Given {
 }
 
 // Steps from an order: the first len places of the list; unused places 0.
-#[derive(Drop)]
+#[derive(Clone, Copy)]
 pub struct Steps {
     pub given: Given,
     pub len: usize,

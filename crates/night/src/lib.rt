@@ -1,4 +1,6 @@
 // A night's worth: many runs of one test program, each told by the words of what its loads saw, judged in one call.
+#![tactic(auto)]
+
 use trace::RECORDS;
 
 mod blocks;
@@ -9,7 +11,7 @@ pub mod seeing;
 pub const BLOCK: usize = 2 + 2 * RECORDS;
 
 // What a night's worth of runs is answered: a word that is too large is told with its run and its place among the words of the run.
-#[derive(Drop)]
+#[derive(Clone, Copy)]
 pub enum Answer {
     Done,
     NotWellFormed,
@@ -19,7 +21,7 @@ pub enum Answer {
 }
 
 // The first run with a word that is too large, and the lowest such word of it, if there is one.
-#[derive(Drop)]
+#[derive(Clone, Copy)]
 enum Large {
     At(usize, usize),
     Nothing,

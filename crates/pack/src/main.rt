@@ -1,5 +1,7 @@
 // A text on standard input, the packed file of its trace on standard output. A text that is turned back has the line of its refusal on standard error,
 // and nothing is written. Where it could not read or write, or was given words, it says so on standard error.
+#![tactic(auto)]
+
 use libc::STDOUT_FILENO;
 use packed::packing::write_whole;
 use packed::{FILE, Wrote};

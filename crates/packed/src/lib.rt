@@ -1,4 +1,6 @@
 // A trace in a packed file, both ways. Document 02 has the layout; specs/Layout.antt says it again.
+#![tactic(auto)]
+
 ghost use Rattle.std.specs.Prelude.{◌≡◌};
 ghost use Rattle.packed.specs.FileRead.{file_reason_number};
 
@@ -22,14 +24,14 @@ pub const FILE: usize = HEAD + FIRST * FIRSTS + RECORD * RECORDS;
 pub const VERSION: u16 = 1;
 
 // What the fields of a record are: a record, or none.
-#[derive(Drop)]
+#[derive(Clone, Copy)]
 pub enum Entry {
     Of(Op),
     Nothing,
 }
 
 // Why a file is turned back. The first four are a text's too, and so is the last, which only `read_whole` gives: a core is lost.
-#[derive(Drop)]
+#[derive(Clone, Copy)]
 pub enum Reason {
     PastBound,
     FirstValue,
@@ -42,28 +44,28 @@ pub enum Reason {
 }
 
 // What one record gets.
-#[derive(Drop)]
+#[derive(Clone, Copy)]
 enum Turn {
     Taken(Op),
     Refused(Reason),
 }
 
 // What a file gets: the line is a record's number plus 1, and 0 outside a record.
-#[derive(Drop)]
+#[derive(Clone, Copy)]
 pub enum Answer {
     Good,
     Refused { reason: Reason, line: usize },
 }
 
 // The answer, and the trace; beside a refusal the empty one.
-#[derive(Drop)]
+#[derive(Clone, Copy)]
 pub struct Reading {
     pub answer: Answer,
     pub trace: Trace,
 }
 
 // What the writer says: how many bytes it wrote, or why none. Only `write_whole` says that a core is lost.
-#[derive(Drop)]
+#[derive(Clone, Copy)]
 pub enum Wrote {
     Length(usize),
     NotWellFormed,

@@ -1,4 +1,6 @@
 // Which pairs of a trace a model keeps, and from whom its loads and swaps read.
+#![tactic(auto)]
+
 ghost use Rattle.std.specs.Prelude.{◌≡◌};
 ghost use Rattle.trace.specs.Trace.{at};
 ghost use Rattle.trace.specs.Meaning.{frame_of};

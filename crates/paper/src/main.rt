@@ -1,6 +1,8 @@
 // Why a trace has no order, at the bench: a text on standard input, and on standard output the list of reasons, in words or with the word `numbers` in numbers.
 // The model is named by a word, `sc`, `tso`, `pso` or `wmo`; without it the first model that has a list is shown. What is turned back is told on
 // standard error; so is what could not be read or written, and how the program is used.
+#![tactic(auto)]
+
 mod asking;
 mod lines;
 
@@ -20,7 +22,7 @@ const ROOM: usize = 32769;
 const NUMBERS: usize = 65536;
 
 // What came of asking for a list: its model and how many numbers it has, none where it is not shown, and whether it is too long to be shown.
-#[derive(Drop)]
+#[derive(Clone, Copy)]
 struct Found {
     model: u8,
     count: usize,

@@ -1,5 +1,7 @@
 // The small reader at the bench: a file with the text of a trace and one with a list of numbers; for each model whether the list is accepted, a line each, or
 // the line of a text that is turned back. More than one trace and list may be named, each trace with its list behind it.
+#![tactic(auto)]
+
 ghost use Rattle.std.specs.Prelude.{◌≤◌, length};
 
 use papers::reading::{Acceptance, accepts};
@@ -16,7 +18,7 @@ const NUMBERS: usize = 65536;
 const BYTES: usize = 393216;
 
 // What a file has: how many numbers, and whether it has nothing else.
-#[derive(Drop)]
+#[derive(Clone, Copy)]
 struct NumbersRead {
     count: usize,
     good: bool,

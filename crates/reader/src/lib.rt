@@ -1,4 +1,6 @@
 // Text to trace: any text whatever gets the trace that it writes, or the number of what is wrong with it and the line.
+#![tactic(auto)]
+
 ghost use Rattle.std.specs.Prelude.{◌≡◌, ◌+◌, ◌<◌, ◌≤◌, length, drop};
 ghost use Rattle.trace.specs.Trace.{empty};
 ghost use Rattle.text.specs.Lines.{lines};
@@ -24,7 +26,7 @@ const LINE: usize = 80;
 pub const LOST: u8 = 22;
 
 // A line of one of the four forms, its numbers not yet held to their bounds.
-#[derive(Drop)]
+#[derive(Clone, Copy)]
 pub enum Raw {
     Load {
         thread: u32,
@@ -49,21 +51,21 @@ pub enum Raw {
 }
 
 // A raw record, or that the line is of no form.
-#[derive(Drop)]
+#[derive(Clone, Copy)]
 pub enum Form {
     Of(Raw),
     Nothing,
 }
 
 // An init line, its numbers not yet held to their bounds, or that the line is none.
-#[derive(Drop)]
+#[derive(Clone, Copy)]
 pub enum Init {
     Of { addr: u32, value: u32 },
     Nothing,
 }
 
 // Why a text is turned back: the numbers 1 to 8 in order, and 17.
-#[derive(Drop)]
+#[derive(Clone, Copy)]
 pub enum Reason {
     LongText,
     LongLine,
@@ -77,14 +79,14 @@ pub enum Reason {
 }
 
 // What one line gets.
-#[derive(Drop)]
+#[derive(Clone, Copy)]
 pub enum Turn {
     Taken(Op),
     Refused(Reason),
 }
 
 // What a text gets: lines are counted from 1, and number 1 comes with line 0. Only `read_whole` says that a core is lost, number 22.
-#[derive(Drop)]
+#[derive(Clone, Copy)]
 pub enum Answer {
     Good,
     Refused { reason: Reason, line: usize },
@@ -92,21 +94,21 @@ pub enum Answer {
 }
 
 // The answer, and the trace; beside a refusal the empty one.
-#[derive(Drop)]
+#[derive(Clone, Copy)]
 pub struct Reading {
     pub answer: Answer,
     pub trace: Trace,
 }
 
 // Where the bad line of a text starts, and where it ends, before its feed; both 0 where no line is to blame.
-#[derive(Drop)]
+#[derive(Clone, Copy)]
 pub struct Place {
     pub start: usize,
     pub end: usize,
 }
 
 // A reading, and where the line starts and ends, before its feed, that it is about; both 0 where it is about none.
-#[derive(Drop)]
+#[derive(Clone, Copy)]
 struct Stand {
     reading: Reading,
     start: usize,
@@ -114,7 +116,7 @@ struct Stand {
 }
 
 // Where the init lines at the top end: the trace of their first values, the place behind them, and the number of the line there.
-#[derive(Drop)]
+#[derive(Clone, Copy)]
 struct Opening {
     trace: Trace,
     at: usize,

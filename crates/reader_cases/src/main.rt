@@ -1,5 +1,7 @@
 // Reads each text that is named as an argument and prints what the reader answers: the records and the first values other than 0, or the number and the
 // line; then where the part lies, and its bytes.
+#![tactic(auto)]
+
 use libc::STDOUT_FILENO;
 use reader::{Answer, Place};
 use saying::{say, say_u8, say_u16, say_usize};

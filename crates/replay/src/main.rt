@@ -1,5 +1,7 @@
 // A replay at the bench: a text on standard input; for SC and for TSO the verdict's line, and below that of an order the machine's steps, a line each.
 // A text that is turned back has its one line. Where it could not read or write, or was given words, it says so on standard error.
+#![tactic(auto)]
+
 ghost use Rattle.std.specs.Prelude.{◌<◌};
 
 mod walk;

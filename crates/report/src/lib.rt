@@ -1,4 +1,6 @@
 // The text of an answer: what the program prints, made byte by byte in a lent buffer.
+#![tactic(auto)]
+
 ghost use Rattle.std.specs.Prelude.{◌≡◌, length};
 ghost use Rattle.report.specs.Bounds.{REPORT};
 ghost use Rattle.pairs.specs.Kept.{MODELS};

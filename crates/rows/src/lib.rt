@@ -1,5 +1,7 @@
 // A relation on record numbers, kept as rows of bits: RECORDS rows of WORDS words. Every promise speaks of the relation, `bit` of
 // specs/Rows.antt, so that no crate above knows which bit of which word a pair has.
+#![tactic(auto)]
+
 ghost use Rattle.std.specs.Prelude.{◌≡◌, cond, ◌↔◌, ℕ, ◌<◌, ◌≤◌, ltb, length};
 ghost use Rattle.std.proofs.Math.Bool.{So};
 ghost use Rattle.laws.specs.Bits.{bit_of};

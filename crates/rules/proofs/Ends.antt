@@ -6,7 +6,7 @@
 --   step-joins, held-joins      == they join operations, where the pairs do
 use mathlib.Core.Bool.{So}
 use Prim.Native.Nat.{ℕ, zero, suc, ◌<◌}
-use Rattle.laws.specs.Relation.{Rel, Table, one, more}
+use Rattle.laws.specs.Relation.{Rel, Table, Chain, one, more}
 use Rattle.rules.specs.Frame.{Frame, Good, Writer}
 use Rattle.rules.specs.Rules.{Gives, rule1, rule2, rule3, rule4, rule5, rule6, rule7, rule8, Step, Chains, Held, InRecords, Joins}
 
@@ -36,10 +36,14 @@ module _ (f : Frame) (g : Good f) (K P : Table) where
         go (rule7 S s w d h) = both (reader s.reads) (writer w)
         go (rule8 k) = supposed x y k
 
+    -- a chain of steps begins and ends as its first and its last step do
+    chain-ends : (C : Rel) (x y : ℕ) → Chain (Step f K P C) x y → A x × B y
+    chain-ends C x y (one e) = step-ends C x y e
+    chain-ends C x y (more {y = z} e c) = ((step-ends C x z e).0, (chain-ends C z y c).1)
+
     pub chains-ends : (k x y : ℕ) → Chains f K P k x y → A x × B y
     chains-ends zero x y c = absurd c
-    chains-ends (suc k) x y (one e) = step-ends (Chains f K P k) x y e
-    chains-ends (suc k) x y (more {y = z} e c) = ((step-ends (Chains f K P k) x z e).0, (chains-ends (suc k) z y c).1)
+    chains-ends (suc k) x y c = chain-ends (Chains f K P k) x y c
 
   module _ (inK : InRecords f K) (in_p : InRecords f P) where
     pub step-within : (C : Rel) (x y : ℕ) → Step f K P C x y → (x < f.records) × (y < f.records)

@@ -1,4 +1,6 @@
 // Which rule gives an edge of a trace, no pairs supposed: the tests of the rules, one edge at a time.
+#![tactic(auto)]
+
 ghost use Rattle.std.specs.Prelude.{◌≡◌};
 ghost use Rattle.laws.specs.Tests.{any};
 ghost use Rattle.trace.specs.Meaning.{frame_of};

@@ -1,5 +1,7 @@
 // What the programs share: words and numbers on standard output and standard error, the line of a refusal, and all of standard input. No contract
 // can say what is written; each function that writes says whether it could write all of it.
+#![tactic(auto)]
+
 pub mod input;
 
 use libc::{STDERR_FILENO, STDOUT_FILENO};

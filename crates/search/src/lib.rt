@@ -1,4 +1,6 @@
 // The first valid order of a trace, by a recursive search over placed operations: what it looks at, the search, and the entry.
+#![tactic(auto)]
+
 pub mod first;
 mod refute;
 mod seek;
@@ -7,7 +9,7 @@ mod split;
 mod tables;
 
 // The first valid order, where one is found: its first len places; unused places 0.
-#[derive(Drop)]
+#[derive(Clone, Copy)]
 pub struct Order {
     pub found: bool,
     pub len: usize,

@@ -1,4 +1,5 @@
 // A session on a trace and a model: records are added, pairs are supposed and taken back, and the edges that the rules force from them are held.
+#![tactic(auto)]
 
 pub mod calls;
 
@@ -8,21 +9,21 @@ use trace::Trace;
 pub const PAIRS: usize = 16;
 
 // A supposed pair: the first record before the second.
-#[derive(Drop)]
+#[derive(Clone, Copy)]
 pub struct Pair {
     pub first: usize,
     pub second: usize,
 }
 
 // The pairs that stand, the latest last; unused places hold the pair 0, 0.
-#[derive(Drop)]
+#[derive(Clone, Copy)]
 pub struct Stack {
     pub pairs: [Pair; PAIRS],
     pub count: usize,
 }
 
 // A session as a whole. The table of held edges is empty while contradicted.
-#[derive(Drop)]
+#[derive(Clone, Copy)]
 pub struct Session {
     pub trace: Trace,
     pub model: u8,
@@ -32,7 +33,7 @@ pub struct Session {
 }
 
 // Why a call is turned back; specs/Numbers.antt has document 01's numbers. The last four are those of a record to be added.
-#[derive(Drop)]
+#[derive(Clone, Copy)]
 pub enum Reason {
     NoModel,
     NotWellFormed,
@@ -48,7 +49,7 @@ pub enum Reason {
 }
 
 // What a call gets. A load or swap that waits for its source is told by its record.
-#[derive(Drop)]
+#[derive(Clone, Copy)]
 pub enum Answer {
     Done,
     Held,
@@ -59,7 +60,7 @@ pub enum Answer {
 }
 
 // The answer, and the session after the call.
-#[derive(Drop)]
+#[derive(Clone, Copy)]
 pub struct Reply {
     pub answer: Answer,
     pub session: Session,

@@ -1,6 +1,8 @@
 // Talks with a session on a trace: each line of a script is a call, and its answer is printed behind it; a trace's line adds its record. After each call
 // the session is compared with one that the library opens afresh on all the records, with the pairs that should still stand supposed in turn; where it is
 // another, that is said. A script can also forge the session, and make calls at random.
+#![tactic(auto)]
+
 use pairs::kind;
 use reader::forms::form;
 use reader::{Form, Raw};
@@ -13,7 +15,7 @@ use trace::{FIRSTS, Op, RECORDS, Record, Trace};
 
 // A talk: the records that should be there, the pairs that should stand, the latest answer and the session. Of a forged session nothing is expected but that
 // it comes back as it was.
-#[derive(Drop)]
+#[derive(Clone, Copy)]
 struct Talk {
     trace: Trace,
     model: u8,
@@ -24,7 +26,7 @@ struct Talk {
 }
 
 // How many calls were answered how, and how many sessions were as they should be.
-#[derive(Drop)]
+#[derive(Clone, Copy)]
 struct Counts {
     right: u64,
     done: u64,

@@ -1,6 +1,8 @@
 // A faulty trace cut down at the bench: a text on standard input and a model's number as its one word; what is left as a text on standard output, and on
 // standard error the old number of each record, each core that was renumbered, and the verdicts on what is left. Whatever else there is to say, that
 // nothing is wrong, a missing source or a text that is turned back, is said on standard error too.
+#![tactic(auto)]
+
 mod cores;
 
 use cores::{closed_up, numbered, used};

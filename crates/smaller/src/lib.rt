@@ -1,4 +1,6 @@
 // A faulty trace cut down to what still shows the fault.
+#![tactic(auto)]
+
 pub mod cut;
 mod part;
 
@@ -6,7 +8,7 @@ use trace::{RECORDS, Trace};
 
 // What comes of the question. The first two turn it back: a model that does not exist, a trace that is not well formed; and so does a record without a
 // source. A trace that has an order has nothing wrong.
-#[derive(Drop)]
+#[derive(Clone, Copy)]
 pub enum Answer {
     NoModel,
     NotWellFormed,
@@ -17,7 +19,7 @@ pub enum Answer {
 
 // The answer; what is left as a trace of its own, and the old number of each of its records. Unused places are 0, and beside any answer but Cut the
 // trace is empty.
-#[derive(Drop)]
+#[derive(Clone, Copy)]
 pub struct Smaller {
     pub answer: Answer,
     pub trace: Trace,

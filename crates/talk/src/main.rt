@@ -1,6 +1,8 @@
 // A talk with a session on standard input, line by line as it comes: a trace's line adds its record or its first value, a call is made on the session, and
 // each line is answered by one line on standard output before the next is looked at. Where it could not read or write, or was given words, it says so on
 // standard error.
+#![tactic(auto)]
+
 ghost use Rattle.std.specs.Prelude.{◌≤◌, length};
 
 mod asking;
@@ -23,7 +25,7 @@ const TURNS: u64 = 18446744073709551615;
 const FEED: u8 = 10;
 
 // A talk after a piece of the input: how many bytes of the line that has not ended are kept, and whether all answers could be written.
-#[derive(Drop)]
+#[derive(Clone, Copy)]
 struct Heard {
     talk: Talk,
     count: usize,

@@ -1,4 +1,6 @@
 // What the bench records: a trace is an array of records and how many of them are used.
+#![tactic(auto)]
+
 ghost use Rattle.std.specs.Prelude.{◌≡◌};
 ghost use Rattle.trace.specs.Op.{thread, address, read, written, reads, writes, fence};
 ghost use Rattle.trace.specs.Trace.{empty, started, pushed, first};
@@ -19,7 +21,7 @@ pub const FIRSTS: usize = 16;
 pub const VALUES: u32 = 65536;
 
 // One recorded step of a core, carrying only its own numbers.
-#[derive(Drop)]
+#[derive(Clone, Copy)]
 pub enum Op {
     Load {
         thread: u8,
@@ -130,13 +132,13 @@ impl Op {
 }
 
 // One place of a trace. It stands around its operation because arrays hold structs.
-#[derive(Drop)]
+#[derive(Clone, Copy)]
 pub struct Record {
     pub op: Op,
 }
 
 // What is wrong with one record more, by document 01's numbers 4, 6, 7 and 8, in order.
-#[derive(Drop)]
+#[derive(Clone, Copy)]
 pub enum Fault {
     Nothing,
     PastBound,
@@ -147,7 +149,7 @@ pub enum Fault {
 
 // The first len places are used; the others hold a fence of thread 0, so that equal traces are equal throughout. Beside them, the value that each
 // address begins with.
-#[derive(Drop)]
+#[derive(Clone, Copy)]
 pub struct Trace {
     pub records: [Record; RECORDS],
     pub len: usize,

@@ -1,5 +1,7 @@
 // A packed file on standard input, the text of its trace on standard output. A file that is turned back has the line of its refusal on standard error,
 // and nothing is written. Where it could not read or write, or was given words, it says so on standard error.
+#![tactic(auto)]
+
 use libc::STDOUT_FILENO;
 use packed::unpacking::read_whole;
 use packed::{Answer, number};

@@ -1,10 +1,12 @@
 // The verdict on a trace under a model: what a stranger asks for in one call.
+#![tactic(auto)]
+
 pub mod tell;
 
 use trace::RECORDS;
 
 // What a verdict comes to. The last two turn the question back: a model that does not exist, a trace that is not well formed.
-#[derive(Drop)]
+#[derive(Clone, Copy)]
 pub enum Outcome {
     NoSource(usize),
     Circle,
@@ -15,7 +17,7 @@ pub enum Outcome {
 }
 
 // The outcome with its operations: those of the circle or of the order, and for a circle the rule of each edge. Unused places are 0.
-#[derive(Drop)]
+#[derive(Clone, Copy)]
 pub struct Verdict {
     pub outcome: Outcome,
     pub len: usize,

@@ -1,5 +1,7 @@
 // The program at the bench: a text on standard input, one line for each model on standard output, or the line of a refusal. Where it could not read or
 // write, or was given words, it says so on standard error.
+#![tactic(auto)]
+
 use libc::STDOUT_FILENO;
 use saying::input::fill;
 use saying::tell;

@@ -1,6 +1,8 @@
 // The signature of what a text's loads saw: a text on standard input, a line of words for each of the eight threads on standard output. With the word `back`
 // the input has an empty line and words behind the text, and what the loads saw with these words is printed, a line each, by record number. What is turned back
 // is told on standard error, and nothing is printed; so is what could not be read or written, and how the program is used.
+#![tactic(auto)]
+
 mod list;
 
 use list::{empty_line, numbers};

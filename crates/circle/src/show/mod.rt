@@ -15,7 +15,7 @@ use ruling::lowest_rule_by;
 use trace::{RECORDS, Trace};
 
 // The circle that is shown: the first len operations, each with the rule of the edge that leads on from it. Unused places are 0.
-#[derive(Drop)]
+#[derive(Clone, Copy)]
 pub struct Circle {
     pub len: usize,
     pub operations: [u16; RECORDS],

@@ -29,14 +29,14 @@ use trace::Trace;
 pub(crate) const UNLIKE: u8 = 12;
 
 // What lent bytes are: those of a session, or not, and then the session of the empty trace under model 1 stands beside it.
-#[derive(Drop)]
+#[derive(Clone, Copy)]
 pub(crate) struct Lent {
     pub like: bool,
     pub session: Session,
 }
 
 // What opening comes to, before there are bytes to hold it.
-#[derive(Drop)]
+#[derive(Clone, Copy)]
 struct Opened {
     number: u8,
     session: Session,

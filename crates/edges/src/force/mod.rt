@@ -30,14 +30,14 @@ use trace::form::well_formed;
 use trace::{RECORDS, Trace, first};
 
 // Where the rounds end: the number of the round, and whether it has a circle.
-#[derive(Drop)]
+#[derive(Clone, Copy)]
 pub struct End {
     pub number: usize,
     pub circle: bool,
 }
 
 // The round at which the rounds end: its number, whether it has a circle, the chains before it, its edges and its chains, as rows.
-#[derive(Drop)]
+#[derive(Clone, Copy)]
 pub struct Round {
     pub number: usize,
     pub circle: bool,
@@ -47,7 +47,7 @@ pub struct Round {
 }
 
 // A round before another one: its number, its edges and its chains, as rows.
-#[derive(Drop)]
+#[derive(Clone, Copy)]
 pub struct Prior {
     pub number: usize,
     pub edges: [u64; rows::CELLS],

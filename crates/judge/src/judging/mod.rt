@@ -20,7 +20,7 @@ use trace::form::well_formed;
 use trace::{Op, RECORDS, Trace, first};
 
 // What a proposed list is: a valid order, or the condition that it fails first, with the place or the records concerned.
-#[derive(Drop)]
+#[derive(Clone, Copy)]
 pub enum Judgement {
     Yes,
     NoModel,

@@ -1,7 +1,7 @@
 // What the words behind the program's name ask for.
 
 // Whether the numbers are wanted instead of words, the model, 0 for the first that has a list, and whether the words could be understood.
-#[derive(Drop)]
+#[derive(Clone, Copy)]
 pub struct Wanted {
     pub numbers: bool,
     pub model: u8,

@@ -15,7 +15,7 @@ pub const OPEN: usize = 1024;
 const ENTRIES: usize = 65536;
 
 // An entry, with the places of the entries that it rests on: from the first up to the end, where the next entry begins.
-#[derive(Drop)]
+#[derive(Clone, Copy)]
 struct Entry {
     rule: u16,
     x: u16,
@@ -25,7 +25,7 @@ struct Entry {
 }
 
 // How far the words have come: the number of the next entry, how many splits are open, whether there was room for them, and whether all could be written.
-#[derive(Drop)]
+#[derive(Clone, Copy)]
 struct Walk {
     next: usize,
     open: usize,

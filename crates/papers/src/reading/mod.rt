@@ -18,7 +18,7 @@ use trace::Trace;
 use trace::form::well_formed;
 
 // What a list of numbers is: a paper that is accepted, or none; or there is no such model, or the trace is not well formed.
-#[derive(Drop)]
+#[derive(Clone, Copy)]
 pub enum Acceptance {
     NoModel,
     NotWellFormed,
@@ -27,7 +27,7 @@ pub enum Acceptance {
 }
 
 // Where a row of entries leads: from one record to another, or nowhere.
-#[derive(Drop)]
+#[derive(Clone, Copy)]
 pub enum Link {
     Between(u16, u16),
     Nowhere,
@@ -135,7 +135,7 @@ fn divides(t: Trace, x: usize, y: usize, k: usize) -> bool
 }
 
 // What an entry does: the branch goes on with so many entries, all branches are closed, or the entry may not stand there.
-#[derive(Drop)]
+#[derive(Clone, Copy)]
 pub enum Turn {
     Goes(usize),
     Closed,

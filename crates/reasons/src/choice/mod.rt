@@ -21,7 +21,7 @@ use trace::{RECORDS, Trace};
 const BOTH: usize = 3;
 
 // A pair that may be split on, and how much that is worth: its rank is 0 where there is none, otherwise 1, and 1 more for each side that falls.
-#[derive(Drop)]
+#[derive(Clone, Copy)]
 pub(crate) struct Choice {
     pub(crate) rank: usize,
     pub(crate) x: usize,
@@ -29,7 +29,7 @@ pub(crate) struct Choice {
 }
 
 // What comes next in a branch: its circle, or a split on two operations.
-#[derive(Drop)]
+#[derive(Clone, Copy)]
 pub(crate) enum Next {
     Circle,
     Split(usize, usize),

@@ -31,7 +31,7 @@ use trace::form::well_formed;
 
 // What comes of the question. The first two turn it back: a model that does not exist, a trace that is not well formed. A list that is shown comes with
 // its length.
-#[derive(Drop)]
+#[derive(Clone, Copy)]
 pub enum Listed {
     NoModel,
     NotWellFormed,

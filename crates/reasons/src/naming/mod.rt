@@ -8,14 +8,14 @@ ghost use Rattle.reasons.specs.inner.Laid.{PutAt, EntriesTold};
 use papers::BRANCH;
 
 // The place after numbers that were laid, or that they pass the limit.
-#[derive(Drop)]
+#[derive(Clone, Copy)]
 pub(crate) enum Put {
     At(usize),
     Full,
 }
 
 // How many entries the branch has and the place after them, once they are told, or that there is no room for them.
-#[derive(Drop)]
+#[derive(Clone, Copy)]
 pub(crate) enum Told {
     On(usize, usize),
     Over,

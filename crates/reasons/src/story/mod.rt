@@ -22,7 +22,7 @@ use ruling::lowest_rule;
 use trace::{RECORDS, Trace};
 
 // What an edge rests on: nothing, if it is bare; or a chain of the round of a number, from one record to another by so many steps. And the rule that gives it.
-#[derive(Drop)]
+#[derive(Clone, Copy)]
 pub(crate) struct Rest {
     pub(crate) bare: bool,
     pub(crate) rule: u16,

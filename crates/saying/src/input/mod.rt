@@ -7,7 +7,7 @@ use libc::STDIN_FILENO;
 const TRIES: usize = 1000;
 
 // What came: how many bytes, and whether they are all, up to the input's end or to the end of the memory.
-#[derive(Drop)]
+#[derive(Clone, Copy)]
 pub struct Input {
     pub count: usize,
     pub whole: bool,

@@ -5,7 +5,7 @@ ghost use Rattle.talk.specs.Command.{command_of, cut_command};
 use text::templates::fit;
 
 // What a line asks of the session, its numbers cut where they are past every bound; or that it asks nothing.
-#[derive(Drop)]
+#[derive(Clone, Copy)]
 pub enum Command {
     Suppose { first: u32, second: u32 },
     Ask { first: u32, second: u32 },

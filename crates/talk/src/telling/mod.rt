@@ -25,14 +25,14 @@ const NO_FORM: u8 = 3;
 const NO_MODEL: u8 = 9;
 
 // A session, and which addresses have an init line.
-#[derive(Drop)]
+#[derive(Clone, Copy)]
 pub struct Talk {
     pub session: Session,
     pub given: [bool; FIRSTS],
 }
 
 // What a line is answered: a record that was added has its number, and a refusal the documents' number.
-#[derive(Drop)]
+#[derive(Clone, Copy)]
 pub enum Told {
     Done,
     Record(usize),
@@ -45,7 +45,7 @@ pub enum Told {
 }
 
 // The answer to a line, and the talk after it.
-#[derive(Drop)]
+#[derive(Clone, Copy)]
 pub struct Said {
     pub told: Told,
     pub talk: Talk,

@@ -7,14 +7,14 @@ const TENTH: u64 = 1844674407370955161;
 const MAX: u64 = 18446744073709551615;
 
 // What stands there: how many words, and whether there is nothing else.
-#[derive(Drop)]
+#[derive(Clone, Copy)]
 pub struct NumbersRead {
     pub count: usize,
     pub good: bool,
 }
 
 // The digits at a place: their number, the place behind them, and whether 64 bits are enough.
-#[derive(Drop)]
+#[derive(Clone, Copy)]
 struct Digits {
     value: u64,
     end: usize,
