@@ -290,14 +290,14 @@ abbrev pub same_test : Bool → Bool → Bool
 same_test true b = b
 same_test false b = not b
 
-same_test : (a b : Bool) → So (same_test a b) → a ≡ b
-same_test true true t = refl
-same_test true false t = sym t
-same_test false true t = t
-same_test false false t = refl
+same_test-one : (a b : Bool) → So (same_test a b) → a ≡ b
+same_test-one true true t = refl
+same_test-one true false t = sym t
+same_test-one false true t = t
+same_test-one false false t = refl
 
 abbrev pub masks : ℕ → ℕ → Bool
 masks k m = all WIDTH (λ j. same_test (bit_of m j) (low k j))
 
 pub masked : (k d m : ℕ) → k < HALVINGS → d ≡ 2 ^ k → So (masks k m) → Mask k d m
-masked k d m f e t = record { few = f; power = e; places = λ j l. same_test (bit_of m j) (low k j) ((so-all WIDTH (λ j. same_test (bit_of m j) (low k j))).0 t j l) }
+masked k d m f e t = record { few = f; power = e; places = λ j l. same_test-one (bit_of m j) (low k j) ((so-all WIDTH (λ j. same_test (bit_of m j) (low k j))).0 t j l) }

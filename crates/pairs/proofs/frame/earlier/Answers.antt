@@ -1,0 +1,9 @@
+-- `pairs::frame::earlier`: the test by records, of both.
+use Rattle.trace.specs.Meaning.{frame_of}
+use Rattle.pairs.specs.RecordTests.{earlier_by}
+use borrow.Author.Rules.{rules}
+use Rattle.pairs.proofs.frame.earlier.Goals as goal
+
+pub returns : goal.returns
+unfolding frame_of earlier_by
+returns c = (cc)

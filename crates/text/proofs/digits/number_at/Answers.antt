@@ -1,0 +1,41 @@
+-- `text::digits::number_at`: the run at the place is no number, or it is one.
+use mathlib.Core.Path.{◌≡◌, sym, ap, ◌∙◌}
+use mathlib.Core.List.{List}
+use mathlib.Core.Logic.{inl, inr}
+use Prim.Native.Nat.{ℕ, ◌+◌, ◌<◌}
+use native.Mathlib.Omega.{arith}
+use lib.ListN.{length, drop}
+use Rattle.text.specs.Number.{digits}
+use Rattle.text.specs.declared.Run.{Run}
+use Rattle.text.proofs.Numbers.{first-digit, number-missing, number-there}
+use borrow.Author.Rules.{rules}
+use Rattle.text.proofs.digits.number_at.Goals.{After-run_at-run, Else-end-at}
+use Rattle.text.proofs.digits.number_at.Goals as goal
+
+-- where the run ends
+ended : (c : After-run_at-run) → c.run_at-run.result.end ≡ c.args.at + length (digits (drop c.args.at c.args.line.now))
+ended c = ap (λ (r : Run). r.end) c.run_at-run.ensures
+
+-- past the first test there are digits
+some-digits : (c : Else-end-at) → 0 < length (digits (drop c.args.at c.args.line.now))
+some-digits c = omega (arith, ended c.before)
+
+pub returns-then-end-at : goal.returns-then-end-at
+returns-then-end-at c = number-missing c.args.line.now c.args.at (inl (omega (arith, ended (goal.at.returns-then-end-at c).After-run_at-run)))
+
+pub bounds-line-at : goal.bounds-line-at
+bounds-line-at c = (first-digit c.args.line.now c.args.at (some-digits (goal.at.bounds-line-at c).Else-end-at)).0
+
+pub returns-then-at-end : goal.returns-then-at-end
+returns-then-at-end c =
+    number-missing c.args.line.now c.args.at
+    (inr (omega (arith, ended (goal.at.returns-then-at-end c).After-run_at-run), (first-digit c.args.line.now c.args.at (some-digits (goal.at.returns-then-at-end c).Else-end-at)).1 ∙ c.if-line-at-eq48.true))
+
+pub returns-else-at-end : goal.returns-else-at-end
+returns-else-at-end c =
+    number-there c.args.line.now c.args.at c.run_at-run.result c.run_at-run.ensures (some-digits (goal.at.returns-else-at-end c).Else-end-at) (inr (omega (arith, ended (goal.at.returns-else-at-end c).After-run_at-run)))
+
+pub returns-else-line-at-eq48 : goal.returns-else-line-at-eq48
+returns-else-line-at-eq48 c =
+    number-there c.args.line.now c.args.at c.run_at-run.result c.run_at-run.ensures (some-digits (goal.at.returns-else-line-at-eq48 c).Else-end-at)
+    (inl (λ e. c.if-line-at-eq48.false (sym (first-digit c.args.line.now c.args.at (some-digits (goal.at.returns-else-line-at-eq48 c).Else-end-at)).1 ∙ e)))

@@ -1,0 +1,25 @@
+-- `text::walk::line_end`: the line seen from `i` ends where the line seen from `at` does.
+-- `text::walk::line_end`: the line seen from `i` ends where the line seen from `at` does.
+use mathlib.Core.Path.{◌≡◌}
+use Prim.Native.Nat.{◌-◌}
+use native.Mathlib.Omega.{arith}
+use borrow.Author.Rules.{rules}
+use lib.ListN.{length}
+use Rattle.text.specs.Lines.{end_at}
+use Rattle.text.proofs.Lines.{end-here, end_on, end-last}
+use Rattle.text.proofs.walk.line_end.Goals as goal
+
+pub returns-then-text-i-eq-FEED : goal.returns-then-text-i-eq-FEED
+returns-then-text-i-eq-FEED c =
+    let e = end-here c.args.text.now c.loop-i.i c.loop-i-test.true c.if-text-i-eq-FEED.true in
+    omega arith
+
+pub loop-i-preserved : goal.loop-i-preserved
+loop-i-preserved c =
+    let e = end_on c.args.text.now c.loop-i.i c.loop-i-test.true c.if-text-i-eq-FEED.false in
+    omega arith
+
+pub returns : goal.returns
+returns c =
+    let e = end-last c.args.text.now c.loop-i.i c.loop-i-test.false in
+    omega arith
