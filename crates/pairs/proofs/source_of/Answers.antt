@@ -41,8 +41,11 @@ loop-i-preserved c =
     let a = c.args in (
       omega arith,
       below_more _ c.loop-i.i c.loop-i.invariant.1
-          ((elim c.if-written-value.branch [ then-written-value+else-i-n w ↦ sym (source-at a.t c.loop-i.i a.load _ _ _ c.op_at-b.ensures (c.first-begins.ensures ∙ ap (first a.t) (c.address.ensures ∙ ap address c.op_at-b.ensures)) w.reads_from.ensures)
-          ∙ w.if-i-n.false | else-written-value w ↦ source-other a.t a.load _ (c.read-value.ensures ∙ ap read c.op_at-b.ensures) c.loop-i.i _ c.written.ensures w.if-written-value.false ])),
+          ((elim c.if-written-value.branch [
+            | then-written-value+else-i-n w ↦ sym (source-at a.t c.loop-i.i a.load _ _ _ c.op_at-b.ensures (c.first-begins.ensures ∙ ap (first a.t) (c.address.ensures ∙ ap address c.op_at-b.ensures)) w.reads_from.ensures)
+                ∙ w.if-i-n.false
+            | else-written-value w ↦ source-other a.t a.load _ (c.read-value.ensures ∙ ap read c.op_at-b.ensures) c.loop-i.i _ c.written.ensures w.if-written-value.false
+          ])),
     )
 
 pub returns : goal.returns

@@ -27,9 +27,12 @@ loop-i-preserved c =
     let a = c.args in
     let at = a.x * WORDS + c.loop-i.i in
     let step = taken_word a.from.now a.m a.to.now a.x c.loop-i.i c.loop-i.to c.loop-i.invariant.2 in
-    (elim c.if-at-to.branch [ then-at-to w ↦ let e : c.if-at-to.to ≡ or_of c.loop-i.to at c.word-q.result = w.to-is in
-    (omega arith, ap length e ∙ or_long c.loop-i.to at _ ∙ c.loop-i.invariant.1, e ∙ step c.word-q.result c.word-q.ensures) | else-at-to w ↦ let e : c.if-at-to.to ≡ c.loop-i.to = w.to-is in
-    (omega arith, ap length e ∙ c.loop-i.invariant.1, e ∙ taken-past a.from.now a.m a.to.now a.x c.loop-i.i c.loop-i.to c.loop-i.invariant.2 w.if-at-to.false) ])
+    (elim c.if-at-to.branch [
+      | then-at-to w ↦ let e : c.if-at-to.to ≡ or_of c.loop-i.to at c.word-q.result = w.to-is in
+          (omega arith, ap length e ∙ or_long c.loop-i.to at _ ∙ c.loop-i.invariant.1, e ∙ step c.word-q.result c.word-q.ensures)
+      | else-at-to w ↦ let e : c.if-at-to.to ≡ c.loop-i.to = w.to-is in
+          (omega arith, ap length e ∙ c.loop-i.invariant.1, e ∙ taken-past a.from.now a.m a.to.now a.x c.loop-i.i c.loop-i.to c.loop-i.invariant.2 w.if-at-to.false)
+    ])
 
 pub shape_of-to : goal.shape_of-to
 shape_of-to c = c.loop-i.invariant.1

@@ -18,9 +18,12 @@ pub loop-i-preserved : goal.loop-i-preserved
 loop-i-preserved c =
     let l = c.loop-i in
     let a = c.args in
-    (elim c.if-y-n.branch [ then-y-n w ↦ let e : c.if-y-n.out ≡ or_of l.out ((a.q * WIDTH + l.i) * WORDS + a.p) (get_or a.square.now l.i 0) = w.out-is in
-    (omega arith, rw e (square-row a.out.now a.square.now a.n a.p a.q l.i l.out l.invariant.1 (λ i. omega (arith, c.type_inv.square i)) (omega arith) (omega arith) (omega arith) w.if-y-n.true (omega (arith, l.invariant.1.long)))) | else-y-n w ↦ let e : c.if-y-n.out ≡ l.out = w.out-is in
-    (omega arith, rw e (square-skip a.out.now a.square.now a.n a.p a.q l.i l.out l.invariant.1 w.if-y-n.false)) ])
+    (elim c.if-y-n.branch [
+      | then-y-n w ↦ let e : c.if-y-n.out ≡ or_of l.out ((a.q * WIDTH + l.i) * WORDS + a.p) (get_or a.square.now l.i 0) = w.out-is in
+          (omega arith, rw e (square-row a.out.now a.square.now a.n a.p a.q l.i l.out l.invariant.1 (λ i. omega (arith, c.type_inv.square i)) (omega arith) (omega arith) (omega arith) w.if-y-n.true (omega (arith, l.invariant.1.long))))
+      | else-y-n w ↦ let e : c.if-y-n.out ≡ l.out = w.out-is in
+          (omega arith, rw e (square-skip a.out.now a.square.now a.n a.p a.q l.i l.out l.invariant.1 w.if-y-n.false))
+    ])
 
 pub shape_of-out : goal.shape_of-out
 shape_of-out c = c.loop-i.invariant.1.long

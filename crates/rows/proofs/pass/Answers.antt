@@ -37,9 +37,12 @@ loop-x-preserved c =
     let a = c.args in
     let now = c.loop-x.invariant.1 in (
       omega arith,
-      (elim c.if-has.branch [ then-has w ↦ let done : Added c.loop-x.rows (Row c.loop-x.rows c.loop-x.x a.k) c.if-has.rows = rw w.rows-is w.join.ensures in
-          pass-join a.rows.now c.loop-x.rows a.k c.loop-x.x now c.if-has.rows (sym c.has.ensures ∙ w.if-has.true) done | else-has w ↦ let e : c.if-has.rows ≡ c.loop-x.rows = w.rows-is in
-          rw e (pass-skip a.rows.now c.loop-x.rows a.k c.loop-x.x now (sym c.has.ensures ∙ w.if-has.false)) ]),
+      (elim c.if-has.branch [
+        | then-has w ↦ let done : Added c.loop-x.rows (Row c.loop-x.rows c.loop-x.x a.k) c.if-has.rows = rw w.rows-is w.join.ensures in
+            pass-join a.rows.now c.loop-x.rows a.k c.loop-x.x now c.if-has.rows (sym c.has.ensures ∙ w.if-has.true) done
+        | else-has w ↦ let e : c.if-has.rows ≡ c.loop-x.rows = w.rows-is in
+            rw e (pass-skip a.rows.now c.loop-x.rows a.k c.loop-x.x now (sym c.has.ensures ∙ w.if-has.false))
+      ]),
     )
 
 pub shape_of-rows : goal.shape_of-rows
