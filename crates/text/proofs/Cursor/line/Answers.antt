@@ -4,7 +4,6 @@ use native.Mathlib.Omega.{arith}
 use lib.ListN.{length}
 use Rattle.text.proofs.Lines.{end-last, end-within}
 use Rattle.text.proofs.Part.{start-here, start-end}
-use borrow.Author.Rules.{rules}
 use Rattle.text.proofs.Cursor.line.Goals as goal
 
 pub returns-then-text-at : goal.returns-then-text-at
@@ -17,3 +16,6 @@ pub returns : goal.returns
 returns c =
     let a = c.args in
     rw (start-here a.text.now a.self.at (omega arith), sym c.line_end-e.ensures) (record { block = refl; place = omega arith; bytes = refl })
+
+pub slice_bounds-result-end-2 : goal.slice_bounds-result-end-2
+slice_bounds-result-end-2 c = let a = c.args in omega (arith, end-within a.text.now a.self.at (omega arith))

@@ -1,7 +1,6 @@
 -- `text::Cursor::next`: past the feed, or at the end.
 use borrow.Author.Tests.{le-leb, lt-leb, lt-ltb, le-ltb}
 use Rattle.text.specs.Lines.{next_at}
-use borrow.Author.Rules.{rules}
 use Rattle.text.proofs.Cursor.next.Goals as goal
 
 pub returns-then-text-at : goal.returns-then-text-at

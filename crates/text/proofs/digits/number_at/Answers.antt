@@ -1,14 +1,12 @@
 -- `text::digits::number_at`: the run at the place is no number, or it is one.
 use mathlib.Core.Path.{◌≡◌, sym, ap, ◌∙◌}
-use mathlib.Core.List.{List}
 use mathlib.Core.Logic.{inl, inr}
-use Prim.Native.Nat.{ℕ, ◌+◌, ◌<◌}
+use Prim.Native.Nat.{◌+◌, ◌<◌}
 use native.Mathlib.Omega.{arith}
 use lib.ListN.{length, drop}
 use Rattle.text.specs.Number.{digits}
 use Rattle.text.specs.declared.Run.{Run}
 use Rattle.text.proofs.Numbers.{first-digit, number-missing, number-there}
-use borrow.Author.Rules.{rules}
 use Rattle.text.proofs.digits.number_at.Goals.{After-run_at-run, Else-end-at}
 use Rattle.text.proofs.digits.number_at.Goals as goal
 
@@ -18,7 +16,7 @@ ended c = ap (λ (r : Run). r.end) c.run_at-run.ensures
 
 -- past the first test there are digits
 some-digits : (c : Else-end-at) → 0 < length (digits (drop c.args.at c.args.line.now))
-some-digits c = omega (arith, ended c.before)
+some-digits c = omega (arith, ap (λ (r : Run). r.end) c.run_at-run.ensures)
 
 pub returns-then-end-at : goal.returns-then-end-at
 returns-then-end-at c = number-missing c.args.line.now c.args.at (inl (omega (arith, ended (goal.at.returns-then-end-at c).After-run_at-run)))

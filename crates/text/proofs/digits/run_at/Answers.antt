@@ -1,15 +1,13 @@
 -- `text::digits::run_at`: the run seen from `i` behind the number so far is the run at `at`.
 use mathlib.Core.Path.{◌≡◌, sym, ap, ◌∙◌}
 use mathlib.Core.Bool.{true}
-use Prim.Native.Nat.{◌+◌, ◌≤◌, ◌-◌}
+use Prim.Native.Nat.{◌+◌}
 use native.Mathlib.Omega.{arith}
 use borrow.Author.Tests.{not-true, not-false}
-use lib.ListN.{length, get_or}
-use Rattle.trace.specs.Bounds.{VALUES}
-use Rattle.text.specs.Number.{run_at, is_digit}
+use lib.ListN.{get_or}
+use Rattle.text.specs.Number.{is_digit}
 use Rattle.text.proofs.Numbers.{run_from, run_on, run-stop, run_none}
 use Rattle.text.proofs.Decimal.{digit-iff}
-use borrow.Author.Rules.{rules}
 use Rattle.text.proofs.digits.run_at.Goals.{Else-not-is_digit}
 use Rattle.text.proofs.digits.run_at.Goals as goal
 

@@ -1,14 +1,9 @@
-use mathlib.Core.Path.{◌≡◌, sym, ap, ◌∙◌}
-use mathlib.Core.Bool.{true}
-use Prim.Native.Nat.{◌+◌, ◌≤◌, ◌-◌}
-use native.Mathlib.Omega.{arith}
-use borrow.Author.Tests.{not-true, not-false}
-use lib.ListN.{length, get_or}
+use mathlib.Core.Path.{◌≡◌}
+use Prim.Native.Nat.{◌≤◌, ◌-◌}
+use lib.ListN.{length}
 use Rattle.trace.specs.Bounds.{VALUES}
-use Rattle.text.specs.Number.{run_at, is_digit}
-use Rattle.text.proofs.Numbers.{run_from, run_on, run-stop, run_none}
-use Rattle.text.proofs.Decimal.{digit-iff}
-use borrow.Author.Rules.{rules}
+use Rattle.text.specs.Number.{run_at}
+use Rattle.text.proofs.Numbers.{run_from}
 use Rattle.text.proofs.digits.run_at.Given as goal
 
 abbrev pub invariant-loop-i : goal.invariant-loop-i

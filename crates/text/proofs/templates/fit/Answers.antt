@@ -1,15 +1,13 @@
 -- `text::templates::fit`: what is left of the template against what is left of the line gives the same as the whole.
 use mathlib.Core.Path.{◌≡◌, refl, sym, ap, ◌∙◌}
-use mathlib.Core.Logic.{⊎_elim}
 use mathlib.Core.List.{List, [], ◌∷◌}
-use Prim.Native.Nat.{ℕ, ◌+◌, ◌≤◌, ◌-◌}
+use Prim.Native.Nat.{ℕ, ◌+◌}
 use native.Mathlib.Numerals.{add-one}
 use native.Mathlib.Omega.{arith}
 use lib.ListN.{length, drop, get_or, length-set, drop_of_length-le}
 use lib.Seq.{drop-cons}
-use Rattle.text.specs.Template.{NUMBERS, found, fit_from, fitted, missed}
+use Rattle.text.specs.Template.{found, fit_from, fitted}
 use Rattle.text.proofs.Fits.{step-missing, step-hole, step-byte, fit-end, fit-over}
-use borrow.Author.Rules.{rules}
 use Rattle.text.proofs.templates.fit.Goals.{After-loop-k, In-loop-k, else-t-eq-HOLE, then-t-eq-HOLE}
 use Rattle.text.proofs.templates.fit.Goals as goal
 
@@ -18,10 +16,10 @@ unfolding fitted
 loop-k-init c = (omega arith, omega arith, refl, refl)
 
 next : In-loop-k → ℕ
-next c = get_or c.before.before.before.before.args.template.now c.before.loop.k 0
+next c = get_or c.args.template.now c.loop-k.k 0
 
 rest : In-loop-k → List ℕ
-rest c = drop (c.before.loop.k + 1) c.before.before.before.before.args.template.now
+rest c = drop (c.loop-k.k + 1) c.args.template.now
 
 whole : (c : In-loop-k) → fit_from c.loop-k.n c.loop-k.numbers (found (next c ∷ rest c) (drop c.loop-k.i c.args.line.now)) ≡ fitted c.args.template.now (drop c.args.at c.args.line.now)
 unfolding next rest
@@ -44,17 +42,20 @@ pub loop-k-preserved : goal.loop-k-preserved
 unfolding next rest
 loop-k-preserved c =
     let q = sym c.in-At.is ∙ c.step_at.ensures in
-    (elim c.if-t-eq-HOLE.branch [ then-t-eq-HOLE w ↦ (
-      omega arith,
-      omega arith,
-      rw w.numbers-is (ap length w.2.ensures ∙ length-set c.loop-k.numbers c.loop-k.n _ ∙ c.loop-k.invariant.2),
-      rw (w.numbers-is, w.n-is) (ap (λ (ps : List ℕ). fit_from (c.loop-k.n + 1) ps (found (rest (goal.at.loop-k-preserved c).In-loop-k) (drop c.in-At.end c.args.line.now))) w.2.ensures ∙ step-hole (next (goal.at.loop-k-preserved c).In-loop-k) (rest (goal.at.loop-k-preserved c).In-loop-k) c.args.line.now c.loop-k.i w.if-t-eq-HOLE.true c.loop-k.n c.loop-k.numbers q ∙ whole (goal.at.loop-k-preserved c).In-loop-k),
-    ) | else-t-eq-HOLE w ↦ (
-      omega arith,
-      omega arith,
-      rw w.numbers-is c.loop-k.invariant.2,
-      rw (w.numbers-is, w.n-is) (ap (fit_from c.loop-k.n c.loop-k.numbers) (step-byte (next (goal.at.loop-k-preserved c).In-loop-k) (rest (goal.at.loop-k-preserved c).In-loop-k) c.args.line.now c.loop-k.i w.if-t-eq-HOLE.false q) ∙ whole (goal.at.loop-k-preserved c).In-loop-k),
-    ) ])
+    (elim c.if-t-eq-HOLE.branch [
+      | then-t-eq-HOLE w ↦ (
+        omega arith,
+        omega arith,
+        rw w.numbers-is (ap length w.put.ensures ∙ length-set c.loop-k.numbers c.loop-k.n _ ∙ c.loop-k.invariant.2),
+        rw (w.numbers-is, w.n-is) (ap (λ (ps : List ℕ). fit_from (c.loop-k.n + 1) ps (found (rest (goal.at.loop-k-preserved c).In-loop-k) (drop c.in-At.end c.args.line.now))) w.put.ensures ∙ step-hole (next (goal.at.loop-k-preserved c).In-loop-k) (rest (goal.at.loop-k-preserved c).In-loop-k) c.args.line.now c.loop-k.i w.if-t-eq-HOLE.true c.loop-k.n c.loop-k.numbers q ∙ whole (goal.at.loop-k-preserved c).In-loop-k),
+      )
+      | else-t-eq-HOLE w ↦ (
+        omega arith,
+        omega arith,
+        rw w.numbers-is c.loop-k.invariant.2,
+        rw (w.numbers-is, w.n-is) (ap (fit_from c.loop-k.n c.loop-k.numbers) (step-byte (next (goal.at.loop-k-preserved c).In-loop-k) (rest (goal.at.loop-k-preserved c).In-loop-k) c.args.line.now c.loop-k.i w.if-t-eq-HOLE.false q) ∙ whole (goal.at.loop-k-preserved c).In-loop-k),
+      )
+    ])
 
 -- past the loop no template is left
 over : (c : After-loop-k) → fit_from c.loop-k.n c.loop-k.numbers (found [] (drop c.loop-k.i c.args.line.now)) ≡ fitted c.args.template.now (drop c.args.at c.args.line.now)

@@ -1,14 +1,7 @@
-use mathlib.Core.Path.{◌≡◌, refl, sym, ap, ◌∙◌}
-use mathlib.Core.Logic.{⊎_elim}
-use mathlib.Core.List.{List, [], ◌∷◌}
-use Prim.Native.Nat.{ℕ, ◌+◌, ◌≤◌, ◌-◌}
-use native.Mathlib.Numerals.{add-one}
-use native.Mathlib.Omega.{arith}
-use lib.ListN.{length, drop, get_or, length-set, drop_of_length-le}
-use lib.Seq.{drop-cons}
-use Rattle.text.specs.Template.{NUMBERS, found, fit_from, fitted, missed}
-use Rattle.text.proofs.Fits.{step-missing, step-hole, step-byte, fit-end, fit-over}
-use borrow.Author.Rules.{rules}
+use mathlib.Core.Path.{◌≡◌}
+use Prim.Native.Nat.{◌≤◌, ◌-◌}
+use lib.ListN.{length, drop}
+use Rattle.text.specs.Template.{NUMBERS, found, fit_from, fitted}
 use Rattle.text.proofs.templates.fit.Given as goal
 
 abbrev pub invariant-loop-k : goal.invariant-loop-k

@@ -1,7 +1,6 @@
 -- `text::templates::put`: past the last place nothing is set.
 use mathlib.Core.Path.{sym}
 use lib.Seq.{set_out}
-use borrow.Author.Rules.{rules}
 use Rattle.text.proofs.templates.put.Goals as goal
 
 pub returns-else-n-numbers : goal.returns-else-n-numbers

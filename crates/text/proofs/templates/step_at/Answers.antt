@@ -1,7 +1,6 @@
 -- `text::templates::step_at`: a hole takes a number, any other byte itself.
 use mathlib.Core.Path.{◌∙◌}
 use Rattle.text.proofs.Fits.{step-number, step-there, step_other, step_past}
-use borrow.Author.Rules.{rules}
 use Rattle.text.proofs.templates.step_at.Goals as goal
 
 pub returns-then-t-eq-HOLE : goal.returns-then-t-eq-HOLE

@@ -1,11 +1,6 @@
 -- `text::walk::line_end`: the line seen from `i` ends where the line seen from `at` does.
 -- `text::walk::line_end`: the line seen from `i` ends where the line seen from `at` does.
-use mathlib.Core.Path.{◌≡◌}
-use Prim.Native.Nat.{◌-◌}
 use native.Mathlib.Omega.{arith}
-use borrow.Author.Rules.{rules}
-use lib.ListN.{length}
-use Rattle.text.specs.Lines.{end_at}
 use Rattle.text.proofs.Lines.{end-here, end_on, end-last}
 use Rattle.text.proofs.walk.line_end.Goals as goal
 

@@ -1,10 +1,7 @@
 use mathlib.Core.Path.{◌≡◌}
 use Prim.Native.Nat.{◌-◌}
-use native.Mathlib.Omega.{arith}
-use borrow.Author.Rules.{rules}
 use lib.ListN.{length}
 use Rattle.text.specs.Lines.{end_at}
-use Rattle.text.proofs.Lines.{end-here, end_on, end-last}
 use Rattle.text.proofs.walk.line_end.Given as goal
 
 abbrev pub invariant-loop-i : goal.invariant-loop-i
