@@ -43,7 +43,6 @@ use Rattle.rows.proofs.Pair.{put-words}
 use Rattle.rows.proofs.Closing.{row-added}
 use Rattle.rows.proofs.Sets.{put-more}
 use Rattle.rows.proofs.Resting.{rest_has, rest-words}
-use Rattle.edges.specs.LastRound.{Full}
 use Rattle.edges.specs.inner.RoundStep.{Closed}
 use Rattle.edges.specs.inner.ClosedTables.{Twin, WithPairs, OnePair, FromTo, Spread, Spans, Inside, TakenIn, ForwardPart}
 use Rattle.edges.proofs.PairSets.{adds_none, adds-as, adds_then}

@@ -15,7 +15,7 @@
 --   next-on, next-at, next-seen               == a row's next number is further on; it is in the row, or there is none; what a walk along the row has passed one step later
 use mathlib.Core.Path.{◌≡◌, refl, sym, ◌∙◌}
 use mathlib.Core.Logic.{◌⊎◌, inl, inr, ◌↔◌}
-use mathlib.Core.Bool.{Bool, true, false, So, not, ◌&&◌, false≢true}
+use mathlib.Core.Bool.{Bool, false, So, not, ◌&&◌, false≢true}
 use mathlib.Core.List.{List}
 use Prim.Native.Nat.{ℕ, ◌+◌, ◌<◌, ◌≤◌}
 use native.Mathlib.Decide.{dec_lt}

@@ -19,7 +19,6 @@ use Prim.Native.Nat.{ℕ, suc, ◌-◌, ◌*◌, ◌<◌, ◌≤◌}
 use native.Mathlib.Decide.{dec_le}
 use native.Mathlib.Omega.{arith}
 use lib.ListN.{length}
-use Rattle.laws.specs.Tests.{any}
 use Rattle.laws.specs.Relation.{Rel, Table, ◌⊆◌, one}
 use Rattle.laws.proofs.GrowingTables.{pairs}
 use Rattle.laws.proofs.Tests.{so-any, last?, test-one}

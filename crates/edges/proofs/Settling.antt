@@ -6,8 +6,8 @@
 --   settling-fewer   == a pass that changes something leaves fewer pairs out
 --   settling-end     == a pass that changed nothing, and no circle: the rows are the closing
 --   settling-circle  == a circle: the empty rows are
-use mathlib.Core.Path.{◌≡◌, refl, sym, ◌∙◌, ap, subst}
-use mathlib.Core.Logic.{◌↔◌, ◌⊎◌}
+use mathlib.Core.Path.{◌≡◌, sym, ◌∙◌, ap, subst}
+use mathlib.Core.Logic.{◌↔◌}
 use mathlib.Core.Bool.{Bool, true, false, So, false≢true}
 use mathlib.Core.List.{List}
 use Prim.Native.Nat.{ℕ, ◌-◌, ◌*◌, ◌<◌, ◌≤◌}
@@ -15,7 +15,7 @@ use native.Mathlib.Decide.{dec_le}
 use native.Mathlib.Omega.{arith}
 use lib.ListN.{length, get_or}
 use Rattle.laws.specs.Tests.{any}
-use Rattle.laws.specs.Relation.{Rel, Table, ◌⊆◌, one}
+use Rattle.laws.specs.Relation.{Rel, Table, one}
 use Rattle.laws.proofs.GrowingTables.{pairs}
 use Rattle.laws.specs.inner.Joined.{SelfLed}
 use Rattle.laws.proofs.Tests.{so-any, test-one}
@@ -28,7 +28,6 @@ use Rattle.rows.specs.Empty.{empty_of}
 use Rattle.rows.proofs.Rows.{bit-bounds}
 use Rattle.rows.proofs.Whole.{empty-bit, empty-long, empty-words, rows-one}
 use Rattle.rules.specs.Rules.{InRecords}
-use Rattle.pairs.specs.SourceOf.{source_of}
 use Rattle.pairs.proofs.SourceOf.{source-of-is}
 use Rattle.rules.proofs.Growing.{growing-chain, growing-circle, growing-end, growing-stop}
 use Rattle.edges.specs.inner.PairSets.{Union}

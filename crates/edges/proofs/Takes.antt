@@ -7,15 +7,15 @@
 --   turns-none, turns_more, turns-skip == what a loop takes in
 --   settled-mono                       == rules 6 and 7 for one load and one other writer: more rows give no less
 --   settled-takes, load-turn           == one load, by two rows; a load's turn, said of the rows that a pass began with
-use mathlib.Core.Path.{◌≡◌, refl, sym, ap, ◌∙◌, subst}
-use mathlib.Core.Logic.{◌↔◌, ◌⊎◌, inl, inr, ◌≢◌}
-use mathlib.Core.Bool.{Bool, So, not, ◌&&◌, false≢true}
+use mathlib.Core.Path.{◌≡◌, refl, sym, ◌∙◌, subst}
+use mathlib.Core.Logic.{◌⊎◌, inl, inr, ◌≢◌}
+use mathlib.Core.Bool.{So, not, ◌&&◌, false≢true}
 use mathlib.Core.List.{List}
 use Prim.Native.Nat.{ℕ, ◌+◌, ◌<◌, ◌≤◌}
 use native.Mathlib.Omega.{arith}
 use lib.Dec.{eqb}
-use lib.ListN.{length, get_or}
-use Rattle.laws.specs.Relation.{Rel, Table, ◌⊆◌, Transitive}
+use lib.ListN.{get_or}
+use Rattle.laws.specs.Relation.{Rel, Table, ◌⊆◌}
 use Rattle.laws.specs.inner.Joined.{Turned}
 use Rattle.laws.proofs.Relation.{chain-least}
 use Rattle.laws.proofs.Tests.{eq?, and-iff, not_iff, same-iff, so-eq, test}

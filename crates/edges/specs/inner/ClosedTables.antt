@@ -12,7 +12,6 @@
 use Rattle.std.specs.Prelude.{◌≡◌, ◌⊎◌, ◌↔◌, List, ℕ, ◌<◌, length}
 use Rattle.std.proofs.Math.Bool.{So}
 use Rattle.laws.specs.Relation.{Rel, ◌⊆◌, Transitive, Chain}
-use Rattle.rows.specs.Bounds.{WORDS, CELLS}
 use Rattle.rows.specs.Rows.{bit, Edges, Words}
 use Rattle.rows.specs.inner.AddedPairs.{Added}
 use Rattle.edges.specs.LastRound.{Full}

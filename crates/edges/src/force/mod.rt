@@ -188,11 +188,11 @@ fn draw_values_for(
     writers: &mut [u64],
     edges: &mut [u64],
 )
-    requires load_lt_len { (load < t.len) × (t.len ≤ RECORDS) × (source ≡ source_of (frame_of t) load) }
+    requires below { (load < t.len) × (t.len ≤ RECORDS) × (source ≡ source_of (frame_of t) load) }
     requires stored { Stored (frame_of t) stores.now ((frame_of t).address load) }
-    requires writers_len { (length writers.old ≡ CELLS) × (length edges.old ≡ CELLS) }
-    ensures added { Added writers.old (Union t.len (λ x. Only (writer? (frame_of t) x load) load x)) writers.new }
-    ensures added_2 { Added edges.old (Union t.len (ValuedFor (frame_of t) load)) edges.new }
+    requires lengths { (length writers.old ≡ CELLS) × (length edges.old ≡ CELLS) }
+    ensures noted { Added writers.old (Union t.len (λ x. Only (writer? (frame_of t) x load) load x)) writers.new }
+    ensures drawn { Added edges.old (Union t.len (ValuedFor (frame_of t) load)) edges.new }
 {
     let record = t.records[load];
     let b = record.op;
@@ -378,7 +378,7 @@ fn settle_all(
 ) -> bool
     requires { (n ≤ RECORDS) × (length sources.now ≡ RECORDS) × (length edges.old ≡ CELLS) × (length turned.old ≡ CELLS) }
     ensures takes { Takes (AskNoted n sources.now writers.now) edges.old turned.old (Union n (SettledFor n sources.now writers.now edges.old)) edges.new turned.new }
-    ensures variant { So result ↔ (edges.old ≡ edges.new) }
+    ensures settled { So result ↔ (edges.old ≡ edges.new) }
 {
     let mut before = [0u64; rows::CELLS];
     rows::copy(edges, &mut before);

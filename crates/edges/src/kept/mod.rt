@@ -22,8 +22,8 @@ const SHELF: usize = KINDS as usize * rows::WORDS;
 // Notes which records are of which kind, and which have which address: a row for each.
 fn note_records(t: Trace, kinds: &mut [u64], places: &mut [u64])
     requires { (t.len ≤ RECORDS) × (length kinds.old ≡ SHELF) × (length places.old ≡ CELLS) }
-    ensures added { Added kinds.old (Filed t.len (λ y. kind_of (at t y))) kinds.new }
-    ensures added_2 { Added places.old (Filed t.len (λ y. address (at t y))) places.new }
+    ensures kinds_noted { Added kinds.old (Filed t.len (λ y. kind_of (at t y))) kinds.new }
+    ensures places_noted { Added places.old (Filed t.len (λ y. address (at t y))) places.new }
 {
     let n = t.len;
     let mut y: usize = 0;
