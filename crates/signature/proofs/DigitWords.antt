@@ -9,15 +9,15 @@
 --   packed-one               == two lists of digits have equal words exactly when they are equal
 --   take_more                == words behind those of the digits change nothing
 use mathlib.Core.Path.{◌≡◌, refl, sym, ap, ap₂, ◌∙◌, subst}
-use mathlib.Core.Logic.{◌↔◌, ◌⊎◌, inl, inr}
+use mathlib.Core.Logic.{◌↔◌}
 use mathlib.Core.Bool.{Bool, true, false, cond, So, ◌&&◌, false≢true}
 use mathlib.Core.List.{List, [], ◌∷◌, ◌++◌}
-use Prim.Native.Nat.{ℕ, zero, suc, ◌+◌, ◌-◌, ◌*◌, ◌/◌, ◌%◌, ◌<◌, ◌≤◌}
-use native.Mathlib.Nat.{add-mul-mod_self_left, add-mul-div_left, mod-eq_of_lt, div-eq_of_lt, mod-lt, mod-add-div, mul_assoc, mul-suc, mul-le-mul_left, not-suc-le-zero}
+use Prim.Native.Nat.{ℕ, suc, ◌+◌, ◌*◌, ◌/◌, ◌%◌, ◌<◌, ◌≤◌}
+use native.Mathlib.Nat.{add-mul-mod_self_left, add-mul-div_left, mod-eq_of_lt, div-eq_of_lt, mod-lt, mod-add-div}
 use native.Mathlib.Omega.{arith}
 use lib.Dec.{eqb, leb}
 use lib.ListN.{length}
-use Rattle.laws.proofs.Tests.{test, and-iff, same-iff, so-eq, so-le}
+use Rattle.laws.proofs.Tests.{and-iff, same-iff, so-eq}
 use Rattle.signature.specs.DigitWords.{LIMIT, onto, least, rest, next_words, words_from, pack_from, take_from, words_of, packed, taken}
 
 pub data Digits : List ℕ → List ℕ → Type 0 where

@@ -4,13 +4,12 @@
 --   split-few   == two tests that exclude each other pass no more than one that has both
 --   range_small == a load's list is at most one longer than the trace
 --   words-few, words-loads == no more words than records, and no more than loads
-use mathlib.Core.Path.{◌≡◌, refl, sym, ap, ◌∙◌}
-use mathlib.Core.Logic.{◌⊎◌, inl, inr}
+use mathlib.Core.Path.{◌≡◌, refl, sym, ◌∙◌}
 use mathlib.Core.Bool.{Bool, true, false, cond, So, ◌&&◌, false≢true}
-use mathlib.Core.List.{List, [], ◌∷◌, ◌++◌}
-use Prim.Native.Nat.{ℕ, zero, suc, ◌+◌, ◌*◌, ◌<◌, ◌≤◌}
+use mathlib.Core.List.{List, [], ◌∷◌}
+use Prim.Native.Nat.{ℕ, zero, suc, ◌+◌, ◌*◌, ◌≤◌}
 use native.Mathlib.Omega.{arith}
-use lib.Dec.{eqb, leb}
+use lib.Dec.{leb}
 use lib.ListN.{length, length-append}
 use Rattle.laws.specs.Picks.{picks}
 use Rattle.laws.proofs.Tests.{and-iff, same-iff, so-le, off}
@@ -18,7 +17,7 @@ use Rattle.trace.specs.Bounds.{THREADS}
 use Rattle.trace.specs.Op.{thread, reads, written}
 use Rattle.trace.specs.Trace.{at}
 use Rattle.trace.specs.declared.Trace.{Trace}
-use Rattle.signature.specs.DigitWords.{LIMIT, words_from, words_of, packed}
+use Rattle.signature.specs.DigitWords.{LIMIT, words_from, words_of}
 use Rattle.signature.specs.Reads.{other, each, values, range_of, reader, readers, loads}
 use Rattle.signature.specs.Signature.{thread_words, words_up_to, words_by}
 use Rattle.signature.proofs.Lists.{each_long}

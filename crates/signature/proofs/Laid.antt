@@ -6,17 +6,17 @@
 --   ran-goal      == nor do all records
 --   thread-laid   == the words of a thread are laid down
 --   all_laid      == so are those of all threads
+--   laid_count    == so many words has the program
 --   thread-count  == so many words has a thread by itself
 --   tops-laid, signature-laid == the largest words; those of the reads
 use mathlib.Core.Path.{◌≡◌, refl, sym, ap, ap₂, ◌∙◌, subst}
-use mathlib.Core.Logic.{◌⊎◌, inl, inr}
 use mathlib.Core.Bool.{Bool, true, false, cond, So, false≢true}
 use mathlib.Core.List.{List, [], ◌∷◌, ◌++◌, append_assoc, append-nil}
 use Prim.Native.Nat.{ℕ, zero, suc, ◌+◌, ◌-◌, ◌*◌, ◌<◌, ◌≤◌}
 use native.Mathlib.Numerals.{add-one}
 use native.Mathlib.Omega.{arith}
 use lib.Dec.{ltb, leb}
-use lib.ListN.{length, get_or, set, take, replicate, length-append, length-set, length-replicate}
+use lib.ListN.{length, set, take, length-append, length-set, length-replicate}
 use lib.Seq.{length-take-le, take-suc-set}
 use borrow.Author.Tests.{lt-ltb, le-ltb, ltb-true}
 use Rattle.laws.specs.Tests.{any}
@@ -26,7 +26,7 @@ use Rattle.laws.proofs.Tests.{so-any, off, so-le}
 use Rattle.laws.proofs.Loops.{any-stops}
 use Rattle.laws.proofs.Picks.{picks-none}
 use Rattle.trace.specs.Bounds.{RECORDS, THREADS}
-use Rattle.trace.specs.Op.{reads, read}
+use Rattle.trace.specs.Op.{read}
 use Rattle.trace.specs.Trace.{at}
 use Rattle.trace.specs.declared.Trace.{Trace}
 use Rattle.signature.specs.DigitWords.{LIMIT, onto, pack_from, packed}
@@ -39,7 +39,7 @@ use Rattle.signature.specs.inner.LoadLists.{DigitsBelow}
 use Rattle.signature.specs.declared.Open.{Open}
 use Rattle.signature.proofs.DigitWords.{Digits, none, one, pack-some}
 use Rattle.signature.proofs.Lists.{pick_all, pick-in, each_long}
-use Rattle.signature.proofs.Signature.{Chosen, digits, reader-iff, up-like, top-chosen, thread-long}
+use Rattle.signature.proofs.Signature.{reader-iff, up-like, top-chosen, thread-long}
 use Rattle.signature.proofs.Few.{pick-short, of-few, range_small, words-few}
 use Rattle.signature.proofs.Loop.{lift, lift-same, lift-new, lift-end, product-less, digit-fits}
 
@@ -258,6 +258,9 @@ module _ (t : Trace) (few : t.len ≤ RECORDS) where
 
   pub tops_fit : (all_from t true none_laid 0 THREADS).count ≤ RECORDS
   tops_fit = (words-laid t true (top_below t) few).1.fits
+
+  pub laid_count : (o : Open) → o ≡ all_from t true none_laid 0 THREADS → o.count ≡ length (tops t)
+  laid_count o e = ap (λ (o : Open). o.count) e ∙ tops-count
 
   pub thread-count : (τ : ℕ) → (thread_of t τ true none_laid).count ≡ word_count t τ
   unfolding readers

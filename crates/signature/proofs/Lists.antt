@@ -10,7 +10,7 @@
 --   by_place, by-bound    == numbers taken by their place
 --   append-parts          == two lists of equal beginnings, as long, are joined to equal ones only where both parts are equal
 use mathlib.Core.Path.{◌≡◌, refl, sym, ap, ap₂, ◌∙◌, subst}
-use mathlib.Core.Logic.{◌≢◌, ◌⊎◌, inl, inr}
+use mathlib.Core.Logic.{◌≢◌, inl, inr}
 use mathlib.Core.Bool.{Bool, true, false, cond, So, false≢true}
 use mathlib.Core.List.{List, [], ◌∷◌, ◌++◌}
 use Prim.Native.Nat.{ℕ, zero, suc, ◌+◌, ◌-◌, ◌<◌, ◌≤◌}
@@ -131,6 +131,8 @@ each_on g h (y ∷ ys) e = ap₂ (λ a l. a ∷ l) (e y (omega (arith, count-her
 pub by_place : (q : ℕ → Bool) (i k : ℕ) (rs ds : List ℕ) → Digits rs ds → length rs ≡ length (picks q i k) → each (λ x. get_or ds (pos (picks q i k) x) 0) (picks q i k) ≡ ds
 unfolding picks each
 by_place q i zero [] [] none l = refl
+by_place q i zero [] (d ∷ ds) g l = elim g [ ]
+by_place q i zero (r ∷ rs) [] g l = elim g [ ]
 by_place q i zero (r ∷ rs) (d ∷ ds) (one h g) l = absurd (omega (arith, l))
 by_place q i (suc k) rs ds g l = go (q i) l (by_place q (suc i) k)
   where
@@ -140,6 +142,8 @@ by_place q i (suc k) rs ds g l = go (q i) l (by_place q (suc i) k)
     front : ((rs ds : List ℕ) → Digits rs ds → length rs ≡ length (picks q (suc i) k) → each (λ x. get_or ds (pos (picks q (suc i) k) x) 0) (picks q (suc i) k) ≡ ds)
         → (rs ds : List ℕ) → Digits rs ds → length rs ≡ suc (length (picks q (suc i) k)) → each (λ x. get_or ds (pos (i ∷ picks q (suc i) k) x) 0) (i ∷ picks q (suc i) k) ≡ ds
     front rec [] [] none l = absurd (omega (arith, l))
+    front rec [] (d ∷ ds) g l = elim g [ ]
+    front rec (r ∷ rs) [] g l = elim g [ ]
     front rec (r ∷ rs) (d ∷ ds) (one h g) l = ap₂ (λ a b. a ∷ b) (ap (λ (n : ℕ). get_or (d ∷ ds) n 0) (pos-here i i (picks q (suc i) k) refl))
         (each_on (λ x. get_or (d ∷ ds) (pos (i ∷ picks q (suc i) k) x) 0) (λ x. get_or ds (pos (picks q (suc i) k) x) 0) (picks q (suc i) k) (shift d ds) ∙ rec rs ds g (omega arith))
 
@@ -152,6 +156,8 @@ by_place q i (suc k) rs ds g l = go (q i) l (by_place q (suc i) k)
 pub by-bound : (h : ℕ → ℕ) (xs ds : List ℕ) → Digits (each h xs) ds → (x : ℕ) → 0 < count x xs → get_or ds (pos xs x) 0 < h x
 unfolding each count
 by-bound h [] [] none x k = absurd (not-suc-le-zero k)
+by-bound h [] (d ∷ ds) g x k = elim g [ ]
+by-bound h (y ∷ ys) [] g x k = elim g [ ]
 by-bound h (y ∷ ys) (d ∷ ds) (one b g) x k = elim (eq? x y) [
   | inl e ↦ subst (λ (n : ℕ). get_or (d ∷ ds) n 0 < h x) (sym (pos-here x y ys e)) (subst (λ (x : ℕ). d < h x) (sym e) b)
   | inr n ↦ subst (λ (j : ℕ). get_or (d ∷ ds) j 0 < h x) (sym (pos-later x y ys n)) (by-bound h ys ds g x (omega (arith, count-later x y ys n, k)))

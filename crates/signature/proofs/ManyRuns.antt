@@ -7,30 +7,29 @@
 --   reading-start, reading-fits, part_room, reading-more, reading-end == it is so at first, after one run more, and at the end it is all
 --   some_words            == where there are words, a run has some
 --   runs-ten, runs-reads, runs-words, runs-answer, runs-large, runs_done == what is answered, by the tests that lead there
-use mathlib.Core.Path.{◌≡◌, refl, sym, ap, ap₂, ◌∙◌, subst}
-use mathlib.Core.Logic.{◌≢◌, ◌⊎◌, inl, inr}
-use mathlib.Core.Bool.{Bool, true, false, cond, So}
-use mathlib.Core.List.{List, [], ◌∷◌, ◌++◌, append_assoc}
-use mathlib.Core.Option.{Option, none, some}
-use Prim.Native.Nat.{ℕ, zero, suc, ◌+◌, ◌-◌, ◌*◌, ◌/◌, ◌<◌, ◌≤◌}
+use mathlib.Core.Path.{◌≡◌, refl, sym, ap, ap₂, ◌∙◌}
+use mathlib.Core.Logic.{◌≢◌, inl, inr}
+use mathlib.Core.Bool.{false, So}
+use mathlib.Core.List.{List, ◌++◌, append_assoc}
+use mathlib.Core.Option.{none, some}
+use Prim.Native.Nat.{ℕ, zero, suc, ◌+◌, ◌*◌, ◌<◌, ◌≤◌}
 use native.Mathlib.Nat.{mul-le-mul_right, suc-mul}
 use native.Mathlib.Numerals.{add-one}
 use native.Mathlib.Omega.{arith}
 use borrow.Author.Tests.{eq-eqb, ne_eqb}
-use lib.Dec.{eqb}
-use lib.ListN.{length, get_or, take, drop, length-append, length-drop}
+use lib.ListN.{length, take, drop, length-append, length-drop}
 use lib.Seq.{length-take-le, take_at, drop_at, take_all, take-append-le, drop-append-le}
 use Rattle.laws.specs.Lowest.{lowest}
 use Rattle.laws.proofs.Tests.{eq?}
 use Rattle.trace.specs.WellFormed.{well_formed}
 use Rattle.trace.specs.declared.Trace.{Trace}
-use Rattle.signature.specs.Reads.{each, loads}
+use Rattle.signature.specs.Reads.{loads}
 use Rattle.signature.specs.Signature.{tops}
 use Rattle.signature.specs.Unpack.{read_of, reads_of}
 use Rattle.signature.specs.SignatureAnswers.{unpack_next}
 use Rattle.signature.specs.ManyRuns.{words_at, read_runs, large_in_runs, all_reads, unpack_runs_of, unpack_runs_then, unpack_runs_left}
 use Rattle.signature.specs.declared.Answer.{Answer}
-use Rattle.signature.specs.declared.Answer.TheVariants.{Done, NotWellFormed, WrongLength, NotListed, TooLarge}
+use Rattle.signature.specs.declared.Answer.TheVariants.{Done, NotWellFormed, WrongLength, TooLarge}
 use Rattle.signature.proofs.Lists.{each_long}
 
 pub some_words : (k n : ℕ) → 0 < k * n → 0 < n

@@ -7,17 +7,15 @@
 --   and-off                == the second of two tests fails
 use mathlib.Core.Path.{◌≡◌, sym, ap, ◌∙◌}
 use mathlib.Core.Logic.{◌≢◌}
-use mathlib.Core.Bool.{Bool, true, false, cond, So, not, ◌&&◌, false≢true}
+use mathlib.Core.Bool.{Bool, true, false, cond, So, ◌&&◌, false≢true}
 use mathlib.Core.List.{List, [], ◌∷◌}
-use Prim.Native.Nat.{ℕ, zero, suc, ◌+◌, ◌-◌, ◌<◌, ◌≤◌}
+use Prim.Native.Nat.{ℕ, ◌+◌, ◌-◌, ◌<◌, ◌≤◌}
 use native.Mathlib.Omega.{arith}
-use lib.Dec.{eqb}
 use lib.ListN.{length}
-use borrow.Author.Tests.{eq-eqb, ne_eqb}
 use Rattle.laws.specs.Places.{pos}
 use Rattle.laws.specs.Picks.{picks}
 use Rattle.laws.proofs.Places.{pos-here, pos-later}
-use Rattle.trace.specs.Op.{address, written, reads, writes}
+use Rattle.trace.specs.Op.{address, written, reads}
 use Rattle.trace.specs.Trace.{at, first}
 use Rattle.trace.specs.declared.Trace.{Trace}
 use Rattle.signature.specs.Reads.{other, each, values, range_of, digit_of, loads}

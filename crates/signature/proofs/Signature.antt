@@ -6,15 +6,14 @@
 --   digits        == so have the loads of a thread
 --   words-one     == equal words, equal digits
 --   signature-one == the theorem
-use mathlib.Core.Path.{◌≡◌, refl, sym, ap, ap₂, ◌∙◌, subst}
-use mathlib.Core.Logic.{◌≢◌, ◌↔◌, ◌⊎◌, inl, inr}
-use mathlib.Core.Bool.{Bool, true, false, cond, So, not, ◌&&◌}
-use mathlib.Core.List.{List, [], ◌∷◌, ◌++◌}
+use mathlib.Core.Path.{◌≡◌, refl, sym, ap, ap₂, ◌∙◌}
+use mathlib.Core.Logic.{◌≢◌, ◌↔◌, inl, inr}
+use mathlib.Core.Bool.{So}
+use mathlib.Core.List.{List, ◌++◌}
 use Prim.Native.Nat.{ℕ, zero, suc, ◌+◌, ◌-◌, ◌<◌, ◌≤◌}
 use native.Mathlib.Omega.{arith}
-use lib.Dec.{eqb}
 use lib.ListN.{length, get_or, length-append}
-use Rattle.laws.specs.Places.{pos, count}
+use Rattle.laws.specs.Places.{count}
 use Rattle.laws.specs.Picks.{picks}
 use Rattle.laws.proofs.Tests.{and-iff, same-iff, so-eq, eq?, not_iff}
 use Rattle.laws.proofs.Places.{at-pos, pos-at, count-here, count-later, pos_inj}
@@ -28,7 +27,7 @@ use Rattle.trace.proofs.Meaning.{writes-iff}
 use Rattle.trace.proofs.Good.{form-good}
 use Rattle.signature.specs.DigitWords.{packed, words_of}
 use Rattle.signature.specs.Reads.{other, each, values, range_of, digit_of, value_of, reader, readers, AllListed}
-use Rattle.signature.specs.Signature.{thread_words, words_up_to, words_by, signature, tops}
+use Rattle.signature.specs.Signature.{thread_words, words_up_to, words_by, signature}
 use Rattle.signature.proofs.DigitWords.{Digits, packed-one, packed-long}
 use Rattle.signature.proofs.Lists.{each_none, each-once, pick_all, pick_same, pick-like, append-parts}
 

@@ -6,24 +6,24 @@
 --   pack-ten, pack-length, pack-unlisted, pack-done == packing
 --   unpack-ten, unpack-words, unpack-reads, unpack-large, unpack-done == unpacking
 --   lowest-like, large-same, large-one == a word is too large exactly where it is above the one laid down, in one run as in many
-use mathlib.Core.Path.{◌≡◌, refl, sym, ap, ap₂, ◌∙◌, subst}
-use mathlib.Core.Logic.{◌≢◌, ◌↔◌, inl, inr}
-use mathlib.Core.Bool.{Bool, true, false, cond, So, ◌&&◌, false≢true}
+use mathlib.Core.Path.{◌≡◌, refl, sym, ap, ◌∙◌, subst}
+use mathlib.Core.Logic.{◌≢◌}
+use mathlib.Core.Bool.{Bool, true, false, cond, So, false≢true}
 use mathlib.Core.List.{List}
 use mathlib.Core.Option.{Option, none, some}
-use Prim.Native.Nat.{ℕ, ◌+◌, ◌-◌, ◌%◌, ◌<◌, ◌≤◌}
+use Prim.Native.Nat.{ℕ, ◌-◌, ◌%◌, ◌<◌, ◌≤◌}
 use native.Mathlib.Nat.{mod-lt, mod-eq_of_lt}
 use native.Mathlib.Omega.{arith}
-use lib.Dec.{eqb, ltb}
-use lib.ListN.{length, get_or, take}
+use lib.Dec.{ltb}
+use lib.ListN.{length, get_or}
 use lib.Seq.{get_or-take}
-use borrow.Author.Tests.{eq-eqb, ne_eqb, eqb-false}
+use borrow.Author.Tests.{eq-eqb, ne_eqb}
 use Rattle.laws.specs.Lowest.{Lowest, lowest}
 use Rattle.laws.proofs.Lowest.{lowest-iff, lowest-one}
-use Rattle.laws.proofs.Tests.{off, test, and-iff, same-iff, so-eq, so-lt}
+use Rattle.laws.proofs.Tests.{off, and-iff, same-iff, so-eq}
 use Rattle.laws.proofs.Places.{pos-le}
 use Rattle.trace.specs.Bounds.{RECORDS, THREADS}
-use Rattle.trace.specs.Op.{reads, read}
+use Rattle.trace.specs.Op.{reads}
 use Rattle.trace.specs.Trace.{at}
 use Rattle.trace.specs.WellFormed.{well_formed}
 use Rattle.trace.specs.declared.Trace.{Trace}
@@ -31,15 +31,13 @@ use Rattle.trace.proofs.WellFormed.{form-iff}
 use Rattle.signature.specs.Reads.{values, range_of, digit_of, loads, unlisted, AllListed}
 use Rattle.signature.specs.Signature.{signature, tops, too_large}
 use Rattle.signature.specs.Unpack.{word_count, reads_of}
-use Rattle.signature.specs.SignatureAnswers.{words_in, size_in, loads_in, read_in, pack_next, pack_then, pack_of, pack_left, unpack_next, unpack_then, unpack_of, unpack_left}
+use Rattle.signature.specs.SignatureAnswers.{words_in, size_in, loads_in, read_in, pack_then, pack_of, pack_left, unpack_then, unpack_of, unpack_left}
 use Rattle.signature.specs.ManyRuns.{large_in_runs}
 use Rattle.signature.specs.inner.WordsLaid.{choice, thread_of, all_from, none_laid, laid_words}
 use Rattle.signature.specs.inner.LoadLists.{found_of, DigitsBelow, over}
 use Rattle.signature.specs.declared.Answer.{Answer}
 use Rattle.signature.specs.declared.Answer.TheVariants.{Done, NotWellFormed, WrongLength, NotListed, TooLarge}
-use Rattle.signature.specs.declared.Found.{Found}
 use Rattle.signature.specs.declared.Found.TheVariants.{At, Nothing}
-use Rattle.signature.specs.declared.Open.{Open}
 use Rattle.signature.proofs.Signature.{up-long, top-chosen}
 use Rattle.signature.proofs.Laid.{tops-laid, tops-count, thread-count}
 

@@ -3,14 +3,14 @@
 --   pack-told, pack-case     == packing is answered as its case says, and some case holds
 --   pack-exactly             == so an answer comes exactly in its case
 --   unpack-told, unpack-case, unpack-exactly == the same of unpacking
-use mathlib.Core.Path.{◌≡◌, refl, sym, ap, ◌∙◌, subst}
-use mathlib.Core.Logic.{◌≢◌, ◌↔◌, ◌⊎◌, inl, inr}
-use mathlib.Core.Bool.{Bool, true, false, So, ◌&&◌, false≢true}
+use mathlib.Core.Path.{◌≡◌, refl, sym, ◌∙◌, subst}
+use mathlib.Core.Logic.{◌↔◌, inl, inr}
+use mathlib.Core.Bool.{Bool, So, false≢true}
 use mathlib.Core.List.{List}
 use mathlib.Core.Option.{Option, none, some}
 use Prim.Native.Nat.{ℕ, ◌<◌, ◌≤◌}
 use native.Mathlib.Omega.{arith}
-use lib.Dec.{eqb, ltb}
+use lib.Dec.{ltb}
 use lib.ListN.{length, get_or}
 use borrow.Author.Tests.{ltb-false}
 use Rattle.laws.specs.Lowest.{Lowest, lowest}
@@ -19,11 +19,10 @@ use Rattle.laws.proofs.Tests.{off, test, eq?, and-iff, same-iff, so-eq, so-lt}
 use Rattle.laws.proofs.Places.{pos-le}
 use Rattle.trace.specs.Op.{reads}
 use Rattle.trace.specs.Trace.{at}
-use Rattle.trace.specs.FormFacts.{Form}
 use Rattle.trace.specs.WellFormed.{well_formed}
 use Rattle.trace.specs.declared.Trace.{Trace}
 use Rattle.trace.proofs.WellFormed.{form-iff}
-use Rattle.signature.specs.Reads.{values, range_of, digit_of, loads, unlisted, AllListed}
+use Rattle.signature.specs.Reads.{values, range_of, digit_of, loads, unlisted}
 use Rattle.signature.specs.Signature.{signature, tops, too_large}
 use Rattle.signature.specs.Unpack.{reads_of}
 use Rattle.signature.specs.SignatureAnswers.{read_in, pack_of, unpack_of}

@@ -9,15 +9,14 @@
 --   digit-taken   == each load has its digit
 use mathlib.Core.Path.{◌≡◌, refl, sym, ap, ap₂, ◌∙◌, subst}
 use mathlib.Core.Logic.{◌≢◌, ◌⊎◌, inl, inr}
-use mathlib.Core.Bool.{Bool, true, false, cond, So, ◌&&◌, false≢true}
-use mathlib.Core.List.{List, [], ◌∷◌, ◌++◌, append_assoc, append-nil}
+use mathlib.Core.Bool.{Bool, true, false, cond, So, false≢true}
+use mathlib.Core.List.{List, [], ◌∷◌}
 use Prim.Native.Nat.{ℕ, zero, suc, ◌+◌, ◌-◌, ◌*◌, ◌/◌, ◌%◌, ◌<◌, ◌≤◌}
-use native.Mathlib.Numerals.{add-one}
 use native.Mathlib.Omega.{arith}
 use native.Mathlib.Nat.{mul_comm, mul-suc}
-use lib.Dec.{eqb, ltb, leb}
-use lib.ListN.{length, get_or, set, take, drop, replicate, length-set, length-append, length-replicate, length-drop, take-append-drop, get_or-eq_default, drop_of_length-le}
-use lib.Seq.{drop-cons, drop-drop, get_or-set_same, get_or-set_other, length-take-le, get_or-drop, drop-nil}
+use lib.Dec.{eqb, leb}
+use lib.ListN.{length, get_or, set, take, drop, length-set, length-append, length-replicate, length-drop, take-append-drop}
+use lib.Seq.{drop-cons, drop-drop, get_or-set_same, get_or-set_other, length-take-le}
 use Rattle.laws.specs.Tests.{any}
 use Rattle.laws.specs.Places.{pos, count}
 use Rattle.laws.specs.Picks.{picks}
@@ -30,13 +29,13 @@ use Rattle.trace.specs.Trace.{at}
 use Rattle.trace.specs.FormFacts.{Form}
 use Rattle.trace.specs.declared.Trace.{Trace}
 use Rattle.signature.specs.DigitWords.{LIMIT, least, rest, next_words, words_from, take_from, words_of, taken}
-use Rattle.signature.specs.Reads.{each, values, range_of, reader, readers, loads}
+use Rattle.signature.specs.Reads.{each, range_of, reader, readers}
 use Rattle.signature.specs.Signature.{words_up_to, tops, thread_words}
-use Rattle.signature.specs.Unpack.{word_count, part_from, part_of, digit_in}
+use Rattle.signature.specs.Unpack.{word_count, part_from, digit_in}
 use Rattle.signature.specs.inner.WordsLaid.{Taking, step_on, took_of, looked_of, took_from, opened_of, shut_of, took_thread, took_all, none_taken}
 use Rattle.signature.proofs.DigitWords.{take_more, words-some}
-use Rattle.signature.proofs.Lists.{each_at, each_on, each_append, pick-snoc, pick-facts, pick_low, pick-in}
-use Rattle.signature.proofs.Signature.{Chosen, reader-iff, thread-long, top-chosen}
+use Rattle.signature.proofs.Lists.{each_at, each_on, pick-facts, pick-in}
+use Rattle.signature.proofs.Signature.{reader-iff, thread-long, top-chosen}
 use Rattle.signature.proofs.Unpack.{is-reader}
 use Rattle.signature.proofs.Few.{range_small}
 use Rattle.signature.proofs.Laid.{after-in, range-some}

@@ -6,24 +6,22 @@
 --   within-room    == words within the largest have room
 --   tops-back      == words as many as a program has, none too large, come back from the reads that they stand for
 --   tops-pack      == the words of any reads are so
-use mathlib.Core.Path.{◌≡◌, refl, sym, ap, ap₂, ◌∙◌, subst}
-use mathlib.Core.Logic.{◌↔◌, ◌⊎◌, inl, inr}
-use mathlib.Core.Bool.{Bool, true, false, cond, So, ◌&&◌, false≢true}
+use mathlib.Core.Path.{◌≡◌, refl, sym, ap, subst}
+use mathlib.Core.Bool.{Bool, true, false, cond, So, ◌&&◌}
 use mathlib.Core.List.{List, [], ◌∷◌, ◌++◌}
-use Prim.Native.Nat.{ℕ, zero, suc, ◌+◌, ◌-◌, ◌*◌, ◌/◌, ◌<◌, ◌≤◌}
+use Prim.Native.Nat.{ℕ, zero, suc, ◌-◌, ◌*◌, ◌/◌, ◌<◌, ◌≤◌}
 use native.Mathlib.Nat.{div-lt_iff_lt-mul, mul_comm, mul-suc, mul-le-mul_left}
 use native.Mathlib.Omega.{arith}
-use lib.Dec.{eqb, leb}
+use lib.Dec.{leb}
 use borrow.Author.Tests.{ltb-false}
 use lib.ListN.{length, get_or, take, drop}
-use lib.Seq.{take_at, drop_at}
 use Rattle.laws.proofs.Tests.{and-iff, same-iff, so-eq, so-lt, off}
 use Rattle.trace.specs.Bounds.{THREADS}
 use Rattle.trace.specs.FormFacts.{Form}
 use Rattle.trace.specs.declared.Trace.{Trace}
-use Rattle.signature.specs.DigitWords.{LIMIT, onto, rest, next_words, words_from, pack_from, packed, words_of}
+use Rattle.signature.specs.DigitWords.{LIMIT, onto, rest, next_words, pack_from, packed}
 use Rattle.signature.specs.Reads.{each, range_of, digit_of, values, readers, AllListed}
-use Rattle.signature.specs.Signature.{thread_words, words_up_to, words_by, signature, tops, too_large}
+use Rattle.signature.specs.Signature.{thread_words, words_up_to, signature, tops, too_large}
 use Rattle.signature.specs.Unpack.{word_count, read_of}
 use Rattle.signature.proofs.DigitWords.{Digits, none, one, Ranges, spent, room_from, room}
 use Rattle.signature.proofs.Signature.{Chosen, digits, thread-long, top-chosen}

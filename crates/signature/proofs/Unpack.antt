@@ -7,8 +7,8 @@
 --   room_up_to t ws σ k == ws has as many words as the threads σ, σ + 1, .., k of them take, and none is too large
 --   pack-back     == such words come back from the reads that they stand for
 use mathlib.Core.Path.{◌≡◌, refl, sym, ap, ap₂, ◌∙◌, subst}
-use mathlib.Core.Logic.{◌≢◌, ◌↔◌, ◌⊎◌, inl, inr}
-use mathlib.Core.Bool.{Bool, true, false, cond, So, ◌&&◌, false≢true}
+use mathlib.Core.Logic.{inl, inr}
+use mathlib.Core.Bool.{Bool, cond, So, ◌&&◌}
 use mathlib.Core.List.{List, [], ◌∷◌, ◌++◌}
 use Prim.Native.Nat.{ℕ, zero, suc, ◌+◌, ◌<◌, ◌≤◌}
 use native.Mathlib.Omega.{arith}
@@ -16,7 +16,6 @@ use lib.Dec.{eqb}
 use lib.ListN.{length, get_or, take, drop, take-append-drop}
 use lib.Seq.{take_at, drop_at}
 use Rattle.laws.specs.Places.{pos, count}
-use Rattle.laws.specs.Picks.{picks}
 use Rattle.laws.proofs.Tests.{eq?, so-eq, off, and-iff, same-iff}
 use Rattle.trace.specs.Bounds.{THREADS}
 use Rattle.trace.specs.Op.{thread, reads}
@@ -118,7 +117,7 @@ module _ (t : Trace) (form : Form t) (ws : List ℕ) where
       let (a, b) = (and-iff (same-iff {a = room (each (range_of t) (readers t σ)) (take (word_count t σ) us)}) (same-iff {a = room_up_to t (drop (word_count t σ) us) (suc σ) k})).0 s in
       let p : part_of t ws σ ≡ take (word_count t σ) us = e σ (omega arith) (omega arith) ∙ ap (λ c. cond c (take (word_count t σ) us) (part_from t (drop (word_count t σ) us) (suc σ) k σ)) ((so-eq {m = σ} {n = σ}).1 refl) in
       let rest : (τ : ℕ) → suc σ ≤ τ → τ < suc σ + k → part_of t ws τ ≡ part_from t (drop (word_count t σ) us) (suc σ) k τ
-      = λ τ c d. e τ (omega arith) (omega arith) ∙ ap (λ c. cond c (take (word_count t σ) us) (part_from t (drop (word_count t σ) us) (suc σ) k τ)) (off (λ s. omega (arith, (so-eq {m = τ} {n = σ}).0 s))) in
+      = λ τ c d. e τ (omega arith) (omega arith) ∙ ap (λ c. cond c (take (word_count t σ) us) (part_from t (drop (word_count t σ) us) (suc σ) k τ)) (off (λ (s : So (eqb τ σ)). omega (arith, (so-eq {m = τ} {n = σ}).0 s))) in
       ap₂ (λ x y. x ++ y) (thread-back σ (subst (λ (l : List ℕ). So (room (each (range_of t) (readers t σ)) l)) (sym p) a) ∙ p) (up-back k (suc σ) (drop (word_count t σ) us) rest b)
       ∙ take-append-drop (word_count t σ) us
 

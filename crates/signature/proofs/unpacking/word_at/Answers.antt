@@ -1,0 +1,7 @@
+-- `signature::unpacking::word_at`: past the end there is none.
+use mathlib.Core.Path.{sym}
+use lib.ListN.{get_or-eq_default}
+use Rattle.signature.proofs.unpacking.word_at.Goals as goal
+
+pub returns : goal.returns
+returns c = sym (get_or-eq_default c.args.words.now 0 c.if-at-words.false)
