@@ -3,8 +3,8 @@
 --   Good given l a v == the parts of it: the init line of a and v, short, ended, in bounds, of an address without one
 --   begins-good, good-begins == `init_given` says so exactly then
 --   begins-none == where it gives none, no line of that kind stands there
-use mathlib.Core.Path.{◌≡◌, refl, sym, ap, subst, ◌∙◌}
-use mathlib.Core.Bool.{Bool, true, false, not, ◌&&◌, cond, So}
+use mathlib.Core.Path.{◌≡◌, refl, ap, subst, ◌∙◌}
+use mathlib.Core.Bool.{Bool, true, false, not, ◌&&◌, cond}
 use mathlib.Core.List.{List}
 use Prim.Native.Nat.{ℕ, ◌≤◌, ◌<◌}
 use native.Mathlib.Omega.{arith}

@@ -1,7 +1,7 @@
 -- Raw numbers that keep their bounds.
 --
 --   load-within, store-within, swap-within, fence-within == what `in_bounds` says of the numbers of each form
---   in_bounds           == a record's raw form is in bounds exactly when the record is
+--   in-bounds-iff       == a record's raw form is in bounds exactly when the record is
 --   form-checked, form-nothing == what the form of a line leads to, cut or not
 --   init-late, init-nothing    == what an init line leads to, cut or not
 --   beginning-cut, beginning-none == whether it gives a first value, cut or not
@@ -50,13 +50,13 @@ fence-within h e = so-lt.0 (rw e at h)
 three-low : (t a v : ℕ) → So (ltb t THREADS && ltb a ADDRESSES && ltb v VALUES) ↔ (((t < THREADS) × (a < ADDRESSES)) × (v < VALUES))
 three-low t a v = and-iff (and-iff so-lt so-lt) so-lt
 
-pub in_bounds : (o : Op) → So (in_bounds (raw_of o)) ↔ Bounded o
-in_bounds (op.Load t a r) = let e = three-low t a r in (λ s. let p = e.0 s in omega arith, λ b. e.1 (omega arith))
-in_bounds (op.Store t a w) = let e = three-low t a w in (λ s. let p = e.0 s in omega arith, λ b. e.1 (omega arith))
-in_bounds (op.Swap t a r w) =
+pub in-bounds-iff : (o : Op) → So (in_bounds (raw_of o)) ↔ Bounded o
+in-bounds-iff (op.Load t a r) = let e = three-low t a r in (λ s. let p = e.0 s in omega arith, λ b. e.1 (omega arith))
+in-bounds-iff (op.Store t a w) = let e = three-low t a w in (λ s. let p = e.0 s in omega arith, λ b. e.1 (omega arith))
+in-bounds-iff (op.Swap t a r w) =
     let e = and-iff (and-iff (three-low t a r) (so-lt {m = a} {n = ADDRESSES})) (so-lt {m = w} {n = VALUES}) in
     (λ s. let p = e.0 s in omega arith, λ b. e.1 (omega arith))
-in_bounds (op.Fence t) = let e = so-lt {m = t} {n = THREADS} in (λ s. let p = e.0 s in omega arith, λ b. e.1 (omega arith))
+in-bounds-iff (op.Fence t) = let e = so-lt {m = t} {n = THREADS} in (λ s. let p = e.0 s in omega arith, λ b. e.1 (omega arith))
 
 -- a bound that is not past every bound does not see the cut
 cut-ltb : (n b : ℕ) → b ≤ VALUES → ltb (cut n) b ≡ ltb n b

@@ -46,7 +46,7 @@ use Rattle.reader.specs.declared.Turn.TheVariants as turn
 use Rattle.reader.specs.declared.Answer.{Answer}
 use Rattle.reader.specs.declared.Answer.TheVariants as answer
 use Rattle.reader.specs.declared.Reading.{Reading}
-use Rattle.reader.proofs.Bounded.{in_bounds}
+use Rattle.reader.proofs.Bounded.{in-bounds-iff}
 use Rattle.reader.proofs.Steps.{joined-tests}
 use Rattle.reader.proofs.Begins.{Good, begins-good, good-begins, begins-none}
 use Rattle.reader.proofs.Walks.{read_taken, bad-taken, read-refused, bad-refused, read-begun, bad-begun, read_left, bad-left}
@@ -155,7 +155,7 @@ module _ (s : Above) (l : Line) where
     joined-right : So (one_address raw) → So (in_bounds raw) → NoLower FirstValue s l → Verdict s l (joined t (op_of raw))
     joined-right h k low =
         let o = op_of raw in
-        subst (Verdict s l) (sym (joined-tests t o ((bounded-iff o).1 ((in_bounds o).0 (subst (λ r. So (in_bounds r)) (raw-op raw h) k)))))
+        subst (Verdict s l) (sym (joined-tests t o ((bounded-iff o).1 ((in-bounds-iff o).0 (subst (λ r. So (in_bounds r)) (raw-op raw h) k)))))
         (when FirstValue low
         (λ low. when TooMany low
         (λ low. when Twice low

@@ -9,7 +9,7 @@
 --   took-inits                  == a text that begins with such init lines takes them
 --   without-low, apart_from, first-from == the first values other than 0, addresses rising, are such init lines
 use mathlib.Core.Path.{◌≡◌, refl, sym, ap, subst, ◌∙◌}
-use mathlib.Core.Logic.{◌≢◌, inl, inr}
+use mathlib.Core.Logic.{inl, inr}
 use mathlib.Core.Bool.{Bool, true, false, cond, So, false≢true}
 use mathlib.Core.List.{List, [], ◌∷◌, ◌++◌, append_assoc}
 use Prim.{Unit, tt}
@@ -17,8 +17,8 @@ use Prim.Native.Nat.{ℕ, zero, suc, ◌+◌, ◌*◌, ◌≤◌, ◌<◌}
 use native.Mathlib.Omega.{arith}
 use lib.Dec.{eqb}
 use lib.ListN.{length, get_or, set, length-set, length-append}
-use lib.Seq.{get_or-set_same, get_or-set_other}
-use borrow.Author.Tests.{eqb-true, eq-eqb, ne_eqb, eqb-false}
+use lib.Seq.{get_or-set_other}
+use borrow.Author.Tests.{eqb-true, eq-eqb, ne_eqb}
 use Rattle.laws.proofs.Tests.{test, eq?}
 use Rattle.trace.specs.Bounds.{ADDRESSES, VALUES}
 use Rattle.trace.specs.Trace.{started, first}
@@ -26,7 +26,6 @@ use Rattle.trace.specs.declared.Trace.{Trace}
 use Rattle.trace.proofs.Places.{started-first, started-other}
 use Rattle.text.specs.Bounds.{FEED}
 use Rattle.text.specs.Lines.{Line, lines}
-use Rattle.reader.specs.Bounds.{LINE}
 use Rattle.reader.specs.LineForms.{render_init}
 use Rattle.reader.specs.Cases.{Above, with_init, Took, begin}
 use Rattle.reader.specs.TextOf.{Begin, render_inits, first_in, Without, Apart, inits_from}

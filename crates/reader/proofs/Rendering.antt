@@ -30,7 +30,6 @@ use Rattle.text.specs.Bounds.{FEED}
 use Rattle.text.specs.Number.{decimal, digits, is_number}
 use Rattle.text.specs.Template.{Hit, hit, miss, fill, found}
 use Rattle.reader.specs.LineForms.{store_form, load_form, swap_form, fence_form, render, or_else, store_of, load_of, swap_of, fence_of, form_of, raw_of, render_op, init_form, render_init, init_hit, init_of}
-use Rattle.reader.specs.declared.Init.{Init}
 use Rattle.reader.specs.declared.Init.TheVariants as init
 use Rattle.reader.specs.Answer.{op_of}
 use Rattle.reader.specs.declared.Raw.{Raw}

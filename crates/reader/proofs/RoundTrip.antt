@@ -18,7 +18,7 @@ use Prim.Native.Nat.{ℕ, zero, suc, ◌+◌, ◌*◌, ◌≤◌, ◌<◌}
 use native.Mathlib.Numerals.{add-one}
 use native.Mathlib.Decide.{dec_lt}
 use native.Mathlib.Omega.{arith}
-use lib.ListN.{length, get_or, set, replicate, take, drop, length-append, length-set, length-replicate, drop_of_length-le}
+use lib.ListN.{length, get_or, replicate, take, drop, length-append, length-set, length-replicate, drop_of_length-le}
 use lib.Seq.{drop-cons, get_or-take, get_or-set_same, get_or-set_other, length-take-le, take-suc-set, ext_get_or}
 use borrow.Author.Tests.{eq-eqb, ne_eqb}
 use Rattle.laws.proofs.Tests.{test, eq?}
@@ -49,8 +49,8 @@ use Rattle.reader.specs.declared.Reason.{Reason}
 use Rattle.reader.specs.declared.Reason.TheVariants.{LongText, LongLine, NoForm, PastBound, Addresses, FirstValue, TooMany, Twice, Late}
 use Rattle.reader.specs.declared.Answer.TheVariants as answer
 use Rattle.reader.specs.declared.Reading.{Reading}
-use Rattle.reader.proofs.Rendering.{no-init, render-one, render-feed, op-raw, LONGEST, LONGEST-INIT, render-long}
-use Rattle.reader.proofs.Bounded.{in_bounds}
+use Rattle.reader.proofs.Rendering.{no-init, render-one, render-feed, op-raw, LONGEST, render-long}
+use Rattle.reader.proofs.Bounded.{in-bounds-iff}
 use Rattle.reader.proofs.Begins.{Good, begins-good}
 use Rattle.reader.proofs.Walks.{read_left}
 use Rattle.reader.proofs.Lined.{lines-line, join, join-lines}
@@ -76,7 +76,7 @@ clean-follows s l o c = (
     room = elim (dec_lt t.len RECORDS) [ yes h ↦ h | no h ↦ absurd (c.0 TooMany (raw_of o, c.1, omega arith)) ]
 
     keeps : Bounded o
-    keeps = elim (test (in_bounds (raw_of o))) [ inl s ↦ (in_bounds o).0 s | inr s ↦ absurd (c.0 PastBound (inl (raw_of o, c.1, (past-iff (raw_of o)).0 s))) ]
+    keeps = elim (test (in_bounds (raw_of o))) [ inl s ↦ (in-bounds-iff o).0 s | inr s ↦ absurd (c.0 PastBound (inl (raw_of o, c.1, (past-iff (raw_of o)).0 s))) ]
 
 -- the line of a record
 abbrev line_of : Op → Line
@@ -104,7 +104,7 @@ follows-clean s o room f = (never, refl)
     never NoForm (inl e) = false≢true (sym e)
     never NoForm (inr n) = n.0 (raw_of o) refl
     never PastBound (inr (a, v, q, _)) = no-init (raw_of o) a v q
-    never PastBound (inl c) = false≢true (sym ((past-iff (raw_of o)).1 (own Past c)) ∙ (in_bounds o).1 f.keeps)
+    never PastBound (inl c) = false≢true (sym ((past-iff (raw_of o)).1 (own Past c)) ∙ (in-bounds-iff o).1 f.keeps)
     never Addresses c = one_address o (own TwoAddresses c)
     never FirstValue c = let k = subst (WritesFirst t) (op-raw o) (own (λ raw. WritesFirst t (op_of raw)) c) in (f.fresh k.0).later k.1
     never TooMany c = let h = c.2 in omega arith

@@ -1,7 +1,7 @@
 -- What a record of good numbers gets, test by test.
 --
 --   joined-tests == the numbers 6, 7 and 8 in their order
-use mathlib.Core.Path.{◌≡◌, refl, sym, ap, ◌∙◌}
+use mathlib.Core.Path.{◌≡◌, refl}
 use mathlib.Core.Logic.{inl, inr}
 use mathlib.Core.Bool.{◌&&◌, cond, So}
 use lib.Dec.{eqb, leb}
@@ -13,7 +13,7 @@ use Rattle.trace.specs.WellFormed.{bounded, written_before}
 use Rattle.trace.specs.Fault.{fault_of}
 use Rattle.trace.specs.declared.Op.{Op}
 use Rattle.trace.specs.declared.Trace.{Trace}
-use Rattle.reader.specs.Answer.{joined, turn_of}
+use Rattle.reader.specs.Answer.{joined}
 use Rattle.reader.specs.declared.Turn.TheVariants.{Taken, Refused}
 use Rattle.reader.specs.declared.Reason.TheVariants.{FirstValue, TooMany, Twice}
 

@@ -6,7 +6,7 @@
 --   refused-whole                                      == what is wrong with a line is told as before
 --   whole-well                                         == what is read is well formed
 --   lost-part                                          == beside number 22 no line is to blame
-use mathlib.Core.Path.{◌≡◌, refl, sym, ap, subst, ◌∙◌}
+use mathlib.Core.Path.{◌≡◌, refl, sym, ap, ◌∙◌}
 use mathlib.Core.Logic.{◌≢◌, ◌↔◌, inl, inr}
 use mathlib.Core.Bool.{Bool, true, false, So, cond}
 use mathlib.Core.List.{List, []}

@@ -17,7 +17,6 @@ use Rattle.reader.specs.Answer.{turned, init_given}
 use Rattle.reader.specs.declared.Init.TheVariants as init
 use Rattle.reader.specs.declared.Reason.{Reason}
 use Rattle.reader.specs.declared.Reason.TheVariants.{LongText}
-use Rattle.reader.specs.declared.Turn.{Turn}
 use Rattle.reader.specs.declared.Turn.TheVariants as turn
 use Rattle.reader.specs.declared.Answer.TheVariants.{Good, Refused}
 use Rattle.reader.specs.declared.Reading.{Reading}
