@@ -77,8 +77,7 @@ fn hand_over(s: Smaller, out: &mut [u8]) -> u8
 
 // What is left of the trace that a text writes, where it is faulty under a model: how many records, their old numbers and their text, in lent bytes.
 // These stay as they were where the text is turned back, where there is no such model, and where they are too short, told in this order.
-#[unsafe(no_mangle)]
-pub extern "C" fn wheelotter_smaller(text: &[u8], model: u8, out: &mut [u8]) -> u8
+pub fn wheelotter_smaller(text: &[u8], model: u8, out: &mut [u8]) -> u8
     ensures { CutAnswered text.now model out.old out.new result }
 {
     let reading = read_whole(text);

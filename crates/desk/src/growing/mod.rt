@@ -39,8 +39,7 @@ fn taken(s: Session, op: Op, session: &mut [u8]) -> u8
 
 // Adds a record, given by the numbers of its kind and fields, to the session that stands before the last eight of the lent bytes: 0, and all of them are
 // the bytes of the longer session; or why not, and all stay.
-#[unsafe(no_mangle)]
-pub extern "C" fn wheelotter_add(
+pub fn wheelotter_add(
     session: &mut [u8],
     kind: u8,
     thread: u8,
@@ -79,8 +78,7 @@ fn record_in(a: Answer) -> usize
 }
 
 // The lowest record of a session in bytes that waits for its source: its number is laid into the lent room. 0 where none waits.
-#[unsafe(no_mangle)]
-pub extern "C" fn wheelotter_waiting(session: &[u8], out: &mut [u8]) -> u8
+pub fn wheelotter_waiting(session: &[u8], out: &mut [u8]) -> u8
     ensures { (C : Closings) → (result ≡ waiting_answer C session.now out.old) × (out.new ≡ waiting_bytes C session.now out.old) }
 {
     let found = kept(session);

@@ -62,8 +62,7 @@ fn second(j: Judgement) -> usize
 
 // Whether a list is a valid order of the trace that a text writes, or which condition it fails first; the place or the records concerned stand in the
 // lent buffer. The buffer stays as it was where the text is turned back, where there is no such model, and where it is too short, told in this order.
-#[unsafe(no_mangle)]
-pub extern "C" fn wheelotter_judge(text: &[u8], model: u8, list: &[u16], out: &mut [u8]) -> u8
+pub fn wheelotter_judge(text: &[u8], model: u8, list: &[u16], out: &mut [u8]) -> u8
     ensures { Judged text.now model list.now out.old out.new result }
 {
     let reading = read_whole(text);

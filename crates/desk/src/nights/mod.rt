@@ -37,8 +37,7 @@ fn night_code(answer: Answer) -> usize
 
 // The verdicts on the runs of a text's program, a block of numbers each; beside what is wrong with the text and beside a refusal the lent memory stays as it
 // was.
-#[unsafe(no_mangle)]
-pub extern "C" fn wheelotter_night(text: &[u8], model: u8, words: &[u64], out: &mut [u16]) -> usize
+pub fn wheelotter_night(text: &[u8], model: u8, words: &[u64], out: &mut [u16]) -> usize
     ensures { Nighted text.now model words.now out.old out.new result }
 {
     let reading = read_whole(text);

@@ -69,8 +69,7 @@ fn lay_text(t: Trace, out: &mut [u8]) -> usize
 
 // The packed file of the trace that a text writes, behind its count in a lent buffer: 0; or what is wrong with the text, or else that there is no
 // room, and the buffer as it was.
-#[unsafe(no_mangle)]
-pub extern "C" fn wheelotter_pack(text: &[u8], out: &mut [u8]) -> u8
+pub fn wheelotter_pack(text: &[u8], out: &mut [u8]) -> u8
     ensures { (result ≡ answer_for (text_number text.now) (text_packed text.now) out.old) × (out.new ≡ bytes_for (text_number text.now) (text_packed text.now) out.old) }
 {
     let reading = read_whole(text);
@@ -86,8 +85,7 @@ pub extern "C" fn wheelotter_pack(text: &[u8], out: &mut [u8]) -> u8
 
 // The text of the trace that a packed file packs, behind its count in a lent buffer: 0; or what is wrong with the file, or else that there is no
 // room, and the buffer as it was.
-#[unsafe(no_mangle)]
-pub extern "C" fn wheelotter_unpack(file: &[u8], out: &mut [u8]) -> u8
+pub fn wheelotter_unpack(file: &[u8], out: &mut [u8]) -> u8
     ensures { (result ≡ answer_for (whole_number file.now) (file_unpacked file.now) out.old) × (out.new ≡ bytes_for (whole_number file.now) (file_unpacked file.now) out.old) }
 {
     let reading = unpacking::read_whole(file);
@@ -102,8 +100,7 @@ pub extern "C" fn wheelotter_unpack(file: &[u8], out: &mut [u8]) -> u8
 }
 
 // Document 02's number of what is wrong with a packed file: 18, 19, 20, 4, 6, 7, 8 or 22; 0 for a good one.
-#[unsafe(no_mangle)]
-pub extern "C" fn wheelotter_file_number(file: &[u8]) -> u8
+pub fn wheelotter_file_number(file: &[u8]) -> u8
     ensures { result ≡ whole_number file.now }
 {
     let reading = unpacking::read_whole(file);
@@ -112,8 +109,7 @@ pub extern "C" fn wheelotter_file_number(file: &[u8]) -> u8
 }
 
 // The line that comes with it: the record's number plus 1; 0 where no record is to blame.
-#[unsafe(no_mangle)]
-pub extern "C" fn wheelotter_file_line(file: &[u8]) -> usize
+pub fn wheelotter_file_line(file: &[u8]) -> usize
     ensures { result ≡ whole_line file.now }
 {
     let reading = unpacking::read_whole(file);

@@ -185,8 +185,7 @@ fn open_on(number: u8, t: Trace, model: u8, session: &mut [u8]) -> u8
 
 // Opens a session with no pairs into lent bytes, on the trace of a text: 0, and its bytes; or why not, and where there is room the bytes of the session
 // of the empty trace under model 1. All other bytes stay.
-#[unsafe(no_mangle)]
-pub extern "C" fn wheelotter_open(text: &[u8], model: u8, session: &mut [u8]) -> u8
+pub fn wheelotter_open(text: &[u8], model: u8, session: &mut [u8]) -> u8
     ensures { (result ≡ open_answer (text_number text.now) (read_whole text.now).trace model session.old) × ((C : Closings) → session.new ≡ open_bytes C (text_number text.now) (read_whole text.now).trace model session.old) }
 {
     let reading = read_whole(text);
@@ -196,8 +195,7 @@ pub extern "C" fn wheelotter_open(text: &[u8], model: u8, session: &mut [u8]) ->
 }
 
 // The same on the trace of a packed file, which may have lost no core either; what a session keeps may.
-#[unsafe(no_mangle)]
-pub extern "C" fn wheelotter_open_file(file: &[u8], model: u8, session: &mut [u8]) -> u8
+pub fn wheelotter_open_file(file: &[u8], model: u8, session: &mut [u8]) -> u8
     ensures { (result ≡ open_answer (whole_number file.now) (whole_trace file.now) model session.old) × ((C : Closings) → session.new ≡ open_bytes C (whole_number file.now) (whole_trace file.now) model session.old) }
 {
     let reading = unpacking::read_whole(file);
@@ -207,8 +205,7 @@ pub extern "C" fn wheelotter_open_file(file: &[u8], model: u8, session: &mut [u8
 }
 
 // Supposes x before y in a session in bytes.
-#[unsafe(no_mangle)]
-pub extern "C" fn wheelotter_suppose(session: &mut [u8], x: usize, y: usize) -> u8
+pub fn wheelotter_suppose(session: &mut [u8], x: usize, y: usize) -> u8
     ensures { (C : Closings) → (result ≡ answer_in C session.old (supposes x y)) × (session.new ≡ bytes_in C session.old (supposes x y)) }
 {
     let found = kept(session);
@@ -219,8 +216,7 @@ pub extern "C" fn wheelotter_suppose(session: &mut [u8], x: usize, y: usize) -> 
 }
 
 // Takes the latest pair back in a session in bytes.
-#[unsafe(no_mangle)]
-pub extern "C" fn wheelotter_take_back(session: &mut [u8]) -> u8
+pub fn wheelotter_take_back(session: &mut [u8]) -> u8
     ensures { (C : Closings) → (result ≡ answer_in C session.old takes_back) × (session.new ≡ bytes_in C session.old takes_back) }
 {
     let found = kept(session);
@@ -231,8 +227,7 @@ pub extern "C" fn wheelotter_take_back(session: &mut [u8]) -> u8
 }
 
 // Whether x before y is held in a session in bytes.
-#[unsafe(no_mangle)]
-pub extern "C" fn wheelotter_ask(session: &[u8], x: usize, y: usize) -> u8
+pub fn wheelotter_ask(session: &[u8], x: usize, y: usize) -> u8
     ensures { (C : Closings) → result ≡ answer_in C session.now (asks x y) }
 {
     let found = kept(session);

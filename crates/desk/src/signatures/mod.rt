@@ -34,8 +34,7 @@ fn code(answer: Answer) -> usize
 }
 
 // How many words the program has that a text writes; none where the text is turned back.
-#[unsafe(no_mangle)]
-pub extern "C" fn wheelotter_words(text: &[u8]) -> usize
+pub fn wheelotter_words(text: &[u8]) -> usize
     ensures { result ≡ words_told text.now }
 {
     let reading = read_whole(text);
@@ -44,8 +43,7 @@ pub extern "C" fn wheelotter_words(text: &[u8]) -> usize
 }
 
 // How many reads it has.
-#[unsafe(no_mangle)]
-pub extern "C" fn wheelotter_loads(text: &[u8]) -> usize
+pub fn wheelotter_loads(text: &[u8]) -> usize
     ensures { result ≡ loads_told text.now }
 {
     let reading = read_whole(text);
@@ -54,8 +52,7 @@ pub extern "C" fn wheelotter_loads(text: &[u8]) -> usize
 }
 
 // Packs the reads that a text records into lent words; beside what is wrong with the text and beside a refusal the words stay as they were.
-#[unsafe(no_mangle)]
-pub extern "C" fn wheelotter_signature(text: &[u8], words: &mut [u64]) -> usize
+pub fn wheelotter_signature(text: &[u8], words: &mut [u64]) -> usize
     ensures { (result ≡ pack_code text.now (length words.old)) × (words.new ≡ pack_after text.now words.old) }
 {
     let reading = read_whole(text);
@@ -69,8 +66,7 @@ pub extern "C" fn wheelotter_signature(text: &[u8], words: &mut [u64]) -> usize
 }
 
 // Unpacks words of the program that a text writes into lent reads, whatever the text itself records as read.
-#[unsafe(no_mangle)]
-pub extern "C" fn wheelotter_reads(text: &[u8], words: &[u64], reads: &mut [u16]) -> usize
+pub fn wheelotter_reads(text: &[u8], words: &[u64], reads: &mut [u16]) -> usize
     ensures { (result ≡ unpack_code text.now words.now (length reads.old)) × (reads.new ≡ unpack_after text.now words.now reads.old) }
 {
     let reading = read_whole(text);

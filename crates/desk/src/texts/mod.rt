@@ -8,8 +8,7 @@ use reader::turns::number;
 use reader::{Answer, LOST, bad_place, read, read_whole};
 
 // The whole answer to a text, in a lent buffer, and how many bytes it has; 0, and the buffer as it was, where it is too short.
-#[unsafe(no_mangle)]
-pub extern "C" fn wheelotter_report(text: &[u8], out: &mut [u8]) -> usize
+pub fn wheelotter_report(text: &[u8], out: &mut [u8]) -> usize
     ensures { Reported text.now out.old out.new result }
 {
     report::report(text, out)
@@ -38,8 +37,7 @@ fn line_in(a: Answer) -> usize
 }
 
 // The documents' number of what is wrong with a text, 1 to 8, 17 or 22; 0 for a good one.
-#[unsafe(no_mangle)]
-pub extern "C" fn wheelotter_number(text: &[u8]) -> u8
+pub fn wheelotter_number(text: &[u8]) -> u8
     ensures { result ≡ text_number text.now }
 {
     let reading = read_whole(text);
@@ -48,8 +46,7 @@ pub extern "C" fn wheelotter_number(text: &[u8]) -> u8
 }
 
 // The line that a text is turned back for, counted from 1; 0 where no line is to blame.
-#[unsafe(no_mangle)]
-pub extern "C" fn wheelotter_line(text: &[u8]) -> usize
+pub fn wheelotter_line(text: &[u8]) -> usize
     ensures { result ≡ bad_line_number text.now }
 {
     let reading = read(text);
@@ -58,8 +55,7 @@ pub extern "C" fn wheelotter_line(text: &[u8]) -> usize
 }
 
 // Where the line starts that a text is turned back for; 0 where no line is to blame.
-#[unsafe(no_mangle)]
-pub extern "C" fn wheelotter_start(text: &[u8]) -> usize
+pub fn wheelotter_start(text: &[u8]) -> usize
     ensures { result ≡ start_of text.now }
 {
     let place = bad_place(text);
@@ -67,8 +63,7 @@ pub extern "C" fn wheelotter_start(text: &[u8]) -> usize
 }
 
 // Where that line ends, before its line feed; 0 where no line is to blame.
-#[unsafe(no_mangle)]
-pub extern "C" fn wheelotter_end(text: &[u8]) -> usize
+pub fn wheelotter_end(text: &[u8]) -> usize
     ensures { result ≡ end_of text.now }
 {
     let place = bad_place(text);

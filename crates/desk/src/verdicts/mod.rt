@@ -89,8 +89,7 @@ pub(crate) fn lay(v: Verdict, out: &mut [u8])
 
 // The verdict on a text under a model: its outcome as a number, its operations and rules in a lent buffer. The buffer stays as it was where the
 // text is turned back, where there is no such model, and where the buffer is too short, told in this order.
-#[unsafe(no_mangle)]
-pub extern "C" fn wheelotter_verdict(text: &[u8], model: u8, out: &mut [u8]) -> u8
+pub fn wheelotter_verdict(text: &[u8], model: u8, out: &mut [u8]) -> u8
     ensures { VerdictAnswered text.now model out.old out.new result }
 {
     let reading = read_whole(text);
