@@ -6,7 +6,7 @@ use std::{env, fs, path::PathBuf};
 const SOURCE: &str = "../../crates/rows/src/lib.rt";
 
 /// The lines that only the checker reads.
-const PROOF: [&str; 4] = ["ghost use ", "requires ", "ensures ", "decreases "];
+const PROOF: [&str; 5] = ["#![tactic(", "ghost use ", "requires ", "ensures ", "decreases "];
 
 fn main() {
     println!("cargo:rerun-if-changed={SOURCE}");
