@@ -4,7 +4,7 @@
 --   suppose-pair, suppose-full, suppose-done       == whether it takes one more
 --   back-unlike, back_none, back_done              == whether it has one to take back
 --   told-contradicted, told-bit                    == what its table says
---   add-unlike, add_turn                           == whether it takes one record more
+--   add-unlike, add-fault                          == whether it takes one record more
 --   pair-allows, suppose-allows, back-allows, add-allows == what is so where nothing was turned back
 --   afresh-done, afresh-unlike, afresh-allows      == a session from its parts
 --   open_done, open-refused, suppose-taken, suppose-refused, back-taken, back-refused, ask-told, ask-refused, add-taken, add-refused,
@@ -141,9 +141,9 @@ module _ (C : Closings) (s : Session) where
     unfolding add_turn
     add-unlike e = rw e refl
 
-    pub add_turn : So (intact C s) → add_turn C s o ≡ fault_answer (fault_of s.trace o)
+    pub add-fault : So (intact C s) → add_turn C s o ≡ fault_answer (fault_of s.trace o)
     unfolding add_turn
-    add_turn i = rw i refl
+    add-fault i = rw i refl
 
     pub add-allows : So (is_done (add_turn C s o)) → Intact C s × So (joins s.trace o)
     unfolding add_turn joins

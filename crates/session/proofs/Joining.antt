@@ -4,7 +4,7 @@
 --   joined-opens   == the longer trace opens where the shorter one did
 --   joined-allowed == and the pairs that stood may stand
 --   joined-stands  == so may what a session keeps of them
-use mathlib.Core.Path.{◌≡◌, refl, sym, ap, ◌∙◌, subst}
+use mathlib.Core.Path.{◌≡◌, refl, sym, subst}
 use mathlib.Core.Bool.{So, not, false≢true}
 use mathlib.Core.List.{List}
 use Prim.Native.Nat.{ℕ, ◌<◌}

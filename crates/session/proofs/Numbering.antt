@@ -39,7 +39,7 @@ use Rattle.session.specs.declared.Reply.{Reply}
 use Rattle.session.proofs.Pairs.{stands-iff}
 use Rattle.session.proofs.Openings.{opening-nine, opening-ten, opening-asks}
 use Rattle.session.proofs.Sessions.{intact-iff}
-use Rattle.session.proofs.Answering.{afresh-done, afresh-unlike, pair-unlike, pair-fence, pair_one, pair-done, suppose-pair, suppose-full, suppose-done, back-unlike, back_none, back_done, add-unlike, add_turn, waiting-unlike, waiting-told}
+use Rattle.session.proofs.Answering.{afresh-done, afresh-unlike, pair-unlike, pair-fence, pair_one, pair-done, suppose-pair, suppose-full, suppose-done, back-unlike, back_none, back_done, add-unlike, add-fault, waiting-unlike, waiting-told}
 
 -- an answer is right for a call
 abbrev Right : Closings → Call → Answer → Type 0
@@ -219,10 +219,14 @@ module _ (C : Closings) (s : Session) where
   from-sixteen : So (intact C s) → (n : ℕ) → Applies C (does s takes_back) n → 16 ≤ n
   from-sixteen i n (twelve h) = absurd (h ((intact-iff C s).0 i))
   from-sixteen i n (sixteen h) = omega arith
+  from-sixteen i n (thirteen h _) = elim h [ ]
+  from-sixteen i n (fourteen h) = elim h [ ]
 
   none-back : So (intact C s) → s.stack.count ≢ 0 → (n : ℕ) → Applies C (does s takes_back) n → ⊥
   none-back i d n (twelve h) = h ((intact-iff C s).0 i)
   none-back i d n (sixteen h) = d h
+  none-back i d n (thirteen h _) = elim h [ ]
+  none-back i d n (fourteen h) = elim h [ ]
 
   back-right : Right C (does s takes_back) (take_back_turn C s)
   back-right = elim (test (intact C s)) [
@@ -238,10 +242,14 @@ module _ (C : Closings) (s : Session) where
     from-fault : (f : Fault) → Lower f s.trace o → (n : ℕ) → Applies C (does s (adds o)) n → fault_number f ≤ n
     from-fault f l n (twelve h) = absurd (h ((intact-iff C s).0 i))
     from-fault f l n (faulty g _ w) = elim (dec_lt (fault_number g) (fault_number f)) [ yes h ↦ absurd (l g h w) | no h ↦ omega arith ]
+    from-fault f l n (thirteen h _) = elim h [ ]
+    from-fault f l n (fourteen h) = elim h [ ]
 
     none-adds : ((f : Fault) → Wrong f s.trace o → ⊥) → (n : ℕ) → Applies C (does s (adds o)) n → ⊥
     none-adds e n (twelve h) = h ((intact-iff C s).0 i)
     none-adds e n (faulty g _ w) = e g w
+    none-adds e n (thirteen h _) = elim h [ ]
+    none-adds e n (fourteen h) = elim h [ ]
 
     -- what a record earns is what it gets
     fault-right : (f : Fault) → Earns f s.trace o → Right C (does s (adds o)) (fault_answer f)
@@ -254,12 +262,14 @@ module _ (C : Closings) (s : Session) where
   add_right : (o : Op) → Right C (does s (adds o)) (add_turn C s o)
   add_right o = elim (test (intact C s)) [
     | inr n ↦ subst (Right C (does s (adds o))) (sym (add-unlike C s o n)) (unlike-right n (adds o))
-    | inl i ↦ subst (Right C (does s (adds o))) (sym (add_turn C s o i)) (fault-right o i (fault_of s.trace o) ((fault-exactly s.trace o (fault_of s.trace o)).0 refl))
+    | inl i ↦ subst (Right C (does s (adds o))) (sym (add-fault C s o i)) (fault-right o i (fault_of s.trace o) ((fault-exactly s.trace o (fault_of s.trace o)).0 refl))
   ]
 
   -- that a record waits is no refusal
   none-awaits : So (intact C s) → (n : ℕ) → Applies C (does s awaits) n → ⊥
   none-awaits i n (twelve h) = h ((intact-iff C s).0 i)
+  none-awaits i n (thirteen h _) = elim h [ ]
+  none-awaits i n (fourteen h) = elim h [ ]
 
   awaits-right : Right C (does s awaits) (waiting_of C s).answer
   awaits-right = elim (test (intact C s)) [

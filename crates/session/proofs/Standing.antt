@@ -17,7 +17,7 @@ use mathlib.Core.Logic.{inl, inr}
 use mathlib.Core.Bool.{Bool, true, false, So, cond, ◌&&◌, false≢true}
 use mathlib.Core.List.{List, [], ◌∷◌, ◌++◌, append_assoc, append-nil}
 use mathlib.Core.Option.{some}
-use Prim.Native.Nat.{ℕ, ◌+◌, ◌-◌, ◌<◌}
+use Prim.Native.Nat.{ℕ, ◌-◌, ◌<◌}
 use native.Mathlib.Omega.{arith}
 use lib.Dec.{ltb}
 use lib.ListN.{length, get_or, take, length-append}
@@ -25,7 +25,6 @@ use lib.Seq.{take_all, get_or-append-add}
 use Rattle.laws.proofs.Tests.{off, and-iff, same-iff, so-lt, eq?}
 use Rattle.trace.specs.Trace as trace
 use Rattle.trace.specs.Trace.{empty}
-use Rattle.trace.specs.Fault.{fault_of}
 use Rattle.trace.specs.declared.Op.{Op}
 use Rattle.trace.specs.declared.Trace.{Trace}
 use Rattle.pairs.specs.Kept.{SC}
@@ -35,7 +34,7 @@ use Rattle.session.specs.inner.StackSteps.{pair_pushed, pair_popped}
 use Rattle.session.specs.Opening.{opening_of, is_done, openable}
 use Rattle.session.specs.Closings.{Closings}
 use Rattle.session.specs.Session.{afresh, intact, blank}
-use Rattle.session.specs.Entries.{suppose_turn, take_back_turn, fault_answer, joins, add_turn, open_of, suppose_of, take_back_of, ask_of, add_of, waiting_of}
+use Rattle.session.specs.Entries.{suppose_turn, take_back_turn, joins, add_turn, open_of, suppose_of, take_back_of, ask_of, add_of, waiting_of}
 use Rattle.session.specs.Numbers.{refusal_number, Act, supposes, takes_back, asks, adds, awaits, reply_of}
 use Rattle.session.specs.Calls.{session_after, pairs_after, recorded, recorded_after, standing_after, suppose_all}
 use Rattle.session.specs.declared.Pair.{Pair}
@@ -47,7 +46,7 @@ use Rattle.session.proofs.Pairs.{supposable-iff, none_allowed, allowed-stands, s
 use Rattle.session.proofs.Openings.{empty-opens}
 use Rattle.session.proofs.Joining.{joined-opens, joined-allowed}
 use Rattle.session.proofs.Sessions.{afresh-standing, afresh-count, afresh-intact}
-use Rattle.session.proofs.Answering.{pair-unlike, pair-done, suppose-pair, suppose-done, suppose-allows, back-unlike, back_none, back_done, suppose-taken, suppose-refused, back-taken, back-refused, add_turn, add-unlike, add-taken, add-refused, open_done, open-refused}
+use Rattle.session.proofs.Answering.{pair-unlike, pair-done, suppose-pair, suppose-done, suppose-allows, back-unlike, back_none, back_done, suppose-taken, suppose-refused, back-taken, back-refused, add-fault, add-unlike, add-taken, add-refused, open_done, open-refused}
 
 -- the session of a reply
 abbrev left : Reply → Session
@@ -166,7 +165,7 @@ module _ (C : Closings) (t : Trace) where
       add_kept p = go (joins t p) refl
         where
           turns : is_done (add_turn C here p) ≡ joins t p
-          turns = ap is_done (add_turn C here p whole)
+          turns = ap is_done (add-fault C here p whole)
 
           go : (b : Bool) → joins t p ≡ b → left (add_of C here p) ≡ afresh C (cond b (trace.pushed t p) t) m ps
           go true e =
