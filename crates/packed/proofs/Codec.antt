@@ -7,20 +7,19 @@
 --   op-load, op-store, op-swap, op-fence, op-none == what six fields are, with the tests that lead to it
 --   in-record, record-in == a record is read from its own bytes, and only from those
 use mathlib.Core.Path.{◌≡◌, refl, sym, ap, ap₂, ◌∙◌, subst}
-use mathlib.Core.Bool.{Bool, true, false, cond, So, ◌&&◌}
+use mathlib.Core.Bool.{Bool, true, false, cond, ◌&&◌}
 use mathlib.Core.List.{List, [], ◌∷◌, ◌++◌}
 use Prim.Native.Nat.{ℕ, ◌+◌, ◌*◌, ◌/◌, ◌%◌, ◌<◌, ◌≤◌}
 use native.Mathlib.Omega.{arith}
 use lib.Dec.{eqb}
-use lib.ListN.{length, get_or, drop, length-drop}
+use lib.ListN.{length, get_or, drop}
 use lib.Seq.{get_or-drop}
 use Rattle.laws.proofs.Tests.{and-iff, so-eq}
 use Rattle.trace.specs.Op.{thread, address, read, written}
 use Rattle.trace.specs.declared.Op.{Op}
 use Rattle.trace.specs.declared.Op.TheVariants.{Load, Store, Swap, Fence}
-use Rattle.packed.specs.Layout.{BYTE, RECORD, two, two_in, kind_byte, record_of}
+use Rattle.packed.specs.Layout.{BYTE, RECORD, two_in, kind_byte, record_of}
 use Rattle.packed.specs.Entry.{op_in, entry_in}
-use Rattle.packed.specs.declared.Entry.{Entry}
 use Rattle.packed.specs.declared.Entry.TheVariants.{Of, Nothing}
 
 -- past the end stands 0, which is one too

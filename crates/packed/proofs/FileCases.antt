@@ -4,7 +4,7 @@
 --   back-told    == where a case holds, the file is turned back for it
 --   back-exactly == a reason and a line are given exactly in their case
 use mathlib.Core.Path.{◌≡◌, refl, sym, ap, ap₂, ◌∙◌, subst}
-use mathlib.Core.Logic.{◌≢◌, ◌↔◌, ◌⊎◌, inl, inr}
+use mathlib.Core.Logic.{◌↔◌, ◌⊎◌, inl, inr}
 use mathlib.Core.Bool.{Bool, true, false, So, ◌||◌}
 use mathlib.Core.List.{List}
 use Prim.Native.Nat.{ℕ, zero, suc, ◌+◌, ◌*◌, ◌-◌, ◌<◌, ◌≤◌}
@@ -24,15 +24,13 @@ use Rattle.trace.specs.declared.Fault.TheVariants as fault
 use Rattle.trace.proofs.Faults.{fault-exactly, fault-none}
 use Rattle.trace.proofs.Places.{pushed-len}
 use Rattle.packed.specs.Layout.{VERSION, HEAD, FIRST, RECORD, two_in, size_of}
-use Rattle.packed.specs.Entry.{entry_in}
 use Rattle.packed.specs.FileRead.{entry_turn, turned_entry, turned_bytes, begun_file, good, back, read_firsts, read_records, then_records, read_entries, marked, read_file}
 use Rattle.packed.specs.FileCases.{Marked, firsts_in, records_in, Framed, address_at, value_at, low_at, NoFirst, GoodFirst, values_at, entry_at, TookFile, BackFile, none, next, unmarked, version, size, many, no_first, past_first, no_record, bad_record}
 use Rattle.packed.specs.declared.Entry.{Entry}
 use Rattle.packed.specs.declared.Entry.TheVariants.{Of, Nothing}
 use Rattle.packed.specs.declared.Reason.{Reason}
 use Rattle.packed.specs.declared.Reason.TheVariants.{PastBound, FirstValue, TooMany, Twice, NoFile, OtherVersion, NoEntry}
-use Rattle.packed.specs.declared.Turn.{Turn}
-use Rattle.packed.specs.declared.Turn.TheVariants.{Taken, Refused}
+use Rattle.packed.specs.declared.Turn.TheVariants.{Refused}
 use Rattle.packed.specs.declared.Answer.{Answer}
 use Rattle.packed.specs.declared.Answer.TheVariants as answer
 use Rattle.packed.specs.declared.Reading.{Reading}

@@ -26,8 +26,6 @@ use lib.Seq.{take-suc, length-take-le, paste-zero}
 use Rattle.text.specs.Room.{put_at, behind}
 use Rattle.text.proofs.Put.{put-paste, put_front, put_then, length-put, behind-room}
 use Rattle.trace.specs.Bounds.{RECORDS, ADDRESSES}
-use Rattle.trace.specs.Trace.{idle}
-use Rattle.trace.specs.declared.Op.{Op}
 use Rattle.trace.specs.declared.Op.TheVariants.{Load}
 use Rattle.trace.specs.declared.Record.{Record}
 use Rattle.trace.specs.declared.Trace.{Trace}

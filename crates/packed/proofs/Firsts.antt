@@ -1,7 +1,7 @@
 -- First values and their entries.
 --
 --   never       == a refused file is not read
---   read_firsts == the first values of a trace are read back, from any address on, behind those before it
+--   firsts-read == the first values of a trace are read back, from any address on, behind those before it
 --   Taken, firsts-only == first values are read from their own entries only
 --   firsts-well == what is read of them is well formed
 use mathlib.Core.Path.{◌≡◌, refl, sym, ap, ap₂, ◌∙◌, subst}
@@ -30,16 +30,16 @@ use Rattle.packed.specs.declared.Answer.{Answer}
 use Rattle.packed.specs.declared.Answer.TheVariants.{Good, Refused}
 use Rattle.packed.specs.declared.Reading.{Reading}
 use Rattle.packed.proofs.Codec.{Bytes, bytes_drop, two_back, lower, upper}
-use Rattle.packed.proofs.FileLaid.{first_some, firsts-append}
+use Rattle.packed.proofs.FileLaid.{first_some}
 
 pub never : {reason : Reason} {line : ℕ} {t : Trace} → back reason line ≡ good t → ⊥
 never {reason} {line} {t} q = let e : ◌≡◌ {A = Answer} (Refused reason line) Good = ap (λ (r : Reading). r.answer) q in let z : ◌≡◌ {A = ℕ} 0 1 = cc in omega arith
 
-pub read_firsts : (vs pre rest : List ℕ) (a low : ℕ) → length pre ≡ a → a + length vs ≡ ADDRESSES → low ≤ a
+pub firsts-read : (vs pre rest : List ℕ) (a low : ℕ) → length pre ≡ a → a + length vs ≡ ADDRESSES → low ≤ a
     → read_firsts (many vs) low (pre ++ replicate (length vs) 0) (firsts_of a vs ++ rest) ≡ good (begun_file (pre ++ vs))
 unfolding read_firsts first_entry firsts_of many
-read_firsts [] pre rest a low l e h = refl
-read_firsts (v ∷ vs) pre rest a low l e h = go (eqb v 0) refl (read_firsts vs (pre ++ (0 ∷ [])) rest (suc a) low) (read_firsts vs (pre ++ (v ∷ [])) rest (suc a) (suc a))
+firsts-read [] pre rest a low l e h = refl
+firsts-read (v ∷ vs) pre rest a low l e h = go (eqb v 0) refl (firsts-read vs (pre ++ (0 ∷ [])) rest (suc a) low) (firsts-read vs (pre ++ (v ∷ [])) rest (suc a) (suc a))
   where
     long : (x : ℕ) → length (pre ++ (x ∷ [])) ≡ suc a
     long x = omega (arith, length-append pre (x ∷ []), l)

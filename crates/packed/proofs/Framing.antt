@@ -3,12 +3,11 @@
 --   file-unmarked, file-version, file-size, file-many, file-entries == what a file gets, with the tests that lead to it
 --   marked-long == a marked file is long enough for mark and version
 --   firsts-bare == what is read of first values has no records
-use mathlib.Core.Path.{◌≡◌, refl, sym, ap, ◌∙◌}
-use mathlib.Core.Logic.{◌≢◌, inl, inr}
+use mathlib.Core.Path.{◌≡◌, refl}
+use mathlib.Core.Logic.{◌≢◌}
 use mathlib.Core.Bool.{Bool, true, false, cond, So, ◌||◌}
 use mathlib.Core.List.{List}
 use Prim.Native.Nat.{ℕ, zero, suc, ◌+◌, ◌<◌, ◌≤◌}
-use native.Mathlib.Omega.{arith}
 use lib.Dec.{eqb, ltb, leb}
 use lib.ListN.{length, get_or, set, drop}
 use borrow.Author.Tests.{eq-eqb, ne_eqb, le-leb, lt-leb}
@@ -17,7 +16,6 @@ use Rattle.trace.specs.Bounds.{RECORDS, ADDRESSES}
 use Rattle.packed.specs.Layout.{VERSION, FIRST, two_in, size_of}
 use Rattle.packed.specs.FileRead.{back, read_firsts, read_entries, marked, read_file}
 use Rattle.packed.specs.declared.Reason.TheVariants.{TooMany, NoFile, OtherVersion, NoEntry, PastBound}
-use Rattle.packed.specs.declared.Reading.{Reading}
 
 pub marked-long : (b : List ℕ) → So (marked b) → 5 ≤ length b
 marked-long b s = ((and-iff (and-iff (and-iff so-le same-iff) same-iff) same-iff).0 s).0.0.0

@@ -3,13 +3,13 @@
 --   turned_taken, taken-turned == a record is taken exactly where the bytes begin with it and nothing is wrong with it
 --   read-records == the records of a well formed trace are read back
 --   records-only == records are read from their own bytes only, behind what stood there, and the trace stays well formed
-use mathlib.Core.Path.{◌≡◌, refl, sym, ap, ap₂, ◌∙◌, subst}
+use mathlib.Core.Path.{◌≡◌, refl, sym, ap, ◌∙◌, subst}
 use mathlib.Core.Bool.{So}
 use mathlib.Core.List.{List, [], ◌∷◌, ◌++◌, append-nil, append_assoc}
-use Prim.Native.Nat.{ℕ, zero, suc, ◌+◌, ◌*◌, ◌<◌, ◌≤◌}
+use Prim.Native.Nat.{ℕ, zero, suc, ◌+◌, ◌*◌, ◌<◌}
 use native.Mathlib.Numerals.{add-one}
 use native.Mathlib.Omega.{arith}
-use lib.ListN.{length, get_or, take, drop, set, length-drop}
+use lib.ListN.{length, take, drop, set, length-drop}
 use lib.Seq.{drop-cons, take-suc-set}
 use Rattle.trace.specs.Bounds.{RECORDS}
 use Rattle.trace.specs.Trace.{at, pushed, up_to}

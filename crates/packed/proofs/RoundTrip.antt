@@ -4,33 +4,31 @@
 --   file-only    == what is read is well formed, and the bytes are its file
 --   file-exactly == a file reads as a trace exactly when the trace is well formed and the file is its own
 --   files-one    == two well formed traces are equal exactly when their files are
-use mathlib.Core.Path.{◌≡◌, refl, sym, ap, ap₂, ◌∙◌, subst}
+use mathlib.Core.Path.{◌≡◌, refl, sym, ap, ap₂, ◌∙◌}
 use mathlib.Core.Logic.{◌↔◌, inl, inr}
-use mathlib.Core.Bool.{Bool, true, false, So, ◌&&◌}
-use mathlib.Core.List.{List, [], ◌∷◌, ◌++◌}
-use Prim.Native.Nat.{ℕ, ◌+◌, ◌*◌, ◌/◌, ◌%◌, ◌<◌, ◌≤◌}
+use mathlib.Core.Bool.{So}
+use mathlib.Core.List.{List, [], ◌++◌}
+use Prim.Native.Nat.{ℕ, ◌+◌, ◌*◌, ◌/◌, ◌%◌}
 use native.Mathlib.Decide.{dec_lt}
 use native.Mathlib.Omega.{arith}
-use lib.Dec.{eqb}
 use lib.ListN.{length, get_or, take, drop, replicate, length-drop}
 use lib.Seq.{drop_at, drop-drop}
 use borrow.Author.Tests.{le-leb}
-use Rattle.laws.proofs.Tests.{test, eq?, and-iff, same-iff, so-le, so-eq}
+use Rattle.laws.proofs.Tests.{test, eq?, and-iff, so-le, so-eq}
 use Rattle.trace.specs.Bounds.{RECORDS, ADDRESSES}
 use Rattle.trace.specs.WellFormed.{well_formed}
 use Rattle.trace.specs.declared.Trace.{Trace}
 use Rattle.trace.proofs.WellFormed.{form-iff}
 use Rattle.trace.proofs.Growth.{empty-well, up_to-none}
-use Rattle.packed.specs.Layout.{BYTE, VERSION, HEAD, FIRST, RECORD, two_in, firsts_of, many, record_bytes, size_of, file_head, file_of}
-use Rattle.packed.specs.FileRead.{begun_file, good, back, read_firsts, read_records, then_records, read_entries, marked, read_file}
-use Rattle.packed.specs.declared.Reason.{Reason}
+use Rattle.packed.specs.Layout.{BYTE, VERSION, HEAD, FIRST, two_in, firsts_of, many, record_bytes, size_of, file_head, file_of}
+use Rattle.packed.specs.FileRead.{begun_file, good, read_firsts, read_records, then_records, read_entries, marked, read_file}
 use Rattle.packed.specs.declared.Answer.{Answer}
 use Rattle.packed.specs.declared.Answer.TheVariants.{Good, Refused}
 use Rattle.packed.specs.declared.Reading.{Reading}
 use Rattle.packed.proofs.Codec.{Bytes, bytes_drop, two_back, lower, upper, eight}
 use Rattle.packed.proofs.Framing.{file-unmarked, file-version, file-size, file-many, file-entries}
 use Rattle.packed.proofs.FileLaid.{firsts-long, file-long, places, len-fits}
-use Rattle.packed.proofs.Firsts.{never, read_firsts, firsts-only, firsts-well}
+use Rattle.packed.proofs.Firsts.{never, firsts-read, firsts-only, firsts-well}
 use Rattle.packed.proofs.Records.{read-records, records-only}
 
 module _ (t : Trace) (w : So (well_formed t)) where
@@ -74,7 +72,7 @@ module _ (t : Trace) (w : So (well_formed t)) where
   firsts-back =
       let n : length t.firsts ≡ ADDRESSES = ((form-iff t).0 w).addresses in
       ap₂ (λ (k : ℕ) (b : List ℕ). read_firsts (many t.firsts) 0 (replicate k 0) b) (sym n) behind-head
-      ∙ read_firsts t.firsts [] rs 0 0 refl (omega arith) (omega arith)
+      ∙ firsts-read t.firsts [] rs 0 0 refl (omega arith) (omega arith)
 
   entries-back : read_entries (file_of t) (many t.firsts) t.len ≡ good t
   unfolding read_entries

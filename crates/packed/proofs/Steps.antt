@@ -3,7 +3,7 @@
 --   first-bad, first_past, first_next, first-over == a first value that is none; whose address is past its bound; that is put down; no more of them
 --   record-taken, record-back, record-over        == a record that is taken; that is turned back; no more of them
 use mathlib.Core.Path.{◌≡◌, refl, sym, ap, ap₂, ◌∙◌}
-use mathlib.Core.Bool.{Bool, true, false, cond, ◌||◌}
+use mathlib.Core.Bool.{true, false, cond, ◌||◌}
 use mathlib.Core.List.{List}
 use Prim.Native.Nat.{ℕ, suc, ◌+◌, ◌*◌, ◌-◌, ◌<◌, ◌≤◌}
 use native.Mathlib.Omega.{arith}

@@ -17,7 +17,7 @@ use mathlib.Core.Bool.{Bool, true, false, So, cond, false≢true}
 use mathlib.Core.List.{List, ◌++◌}
 use Prim.Native.Nat.{ℕ}
 use native.Mathlib.Omega.{arith}
-use lib.ListN.{length, take, drop}
+use lib.ListN.{take, drop}
 use lib.Seq.{take_at}
 use Rattle.laws.proofs.Tests.{test}
 use Rattle.trace.specs.WellFormed.{well_formed}
