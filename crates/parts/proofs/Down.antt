@@ -10,16 +10,15 @@
 --   dull-still   == what could not go before cannot go now: a fault that more numbers do not heal
 --   Looked A i B == B is what a look at each number below i leaves of A; from it the others lead to the result
 --   looked-none, looked-gone, looked-kept, looked-all == no look yet; one more that takes its number, one that does not; after all of them
-use mathlib.Core.Path.{◌≡◌, refl, sym, ◌∙◌, subst, fun_ext}
-use mathlib.Core.Logic.{◌≢◌, ◌↔◌, ◌⊎◌, inl, inr}
+use mathlib.Core.Path.{◌≡◌, refl, subst, fun_ext}
+use mathlib.Core.Logic.{◌↔◌, inl, inr}
 use mathlib.Core.Bool.{So}
-use mathlib.Core.Option.{Option, some, none}
-use Prim.Native.Nat.{ℕ, suc, ◌+◌, ◌≤◌, ◌<◌}
+use mathlib.Core.Option.{Option, some}
+use Prim.Native.Nat.{ℕ, suc, ◌≤◌, ◌<◌}
 use native.Mathlib.Decide.{dec_lt}
 use native.Mathlib.Omega.{arith}
 use Rattle.laws.specs.Relation.{Rel, Table}
-use Rattle.laws.specs.Lowest.{Lowest}
-use Rattle.laws.proofs.Tests.{and-iff, not_iff, same-iff, test-one, eq?, last?}
+use Rattle.laws.proofs.Tests.{and-iff, not_iff, same-iff, test-one, last?}
 use Rattle.laws.proofs.Lowest.{lowest-one}
 use Rattle.parts.specs.Removal.{Set}
 use Rattle.parts.specs.inner.RemovalTests.{cut_away}

@@ -5,16 +5,16 @@
 --   looped-failed                == past one below which the search came to its end
 --   looped-found, looped-end     == to an order, or to its end
 --   looped-spent, looped-over    == over the budget: nothing is left for one step more, or not enough below it
-use mathlib.Core.Path.{◌≡◌, refl, sym, ap, ap₂, ◌∙◌, subst}
+use mathlib.Core.Path.{◌≡◌, refl, ap, ◌∙◌}
 use mathlib.Core.Bool.{Bool, true, false, So}
 use mathlib.Core.List.{List, [], ◌∷◌, ◌++◌}
 use mathlib.Core.Option.{Option, none, some}
-use Prim.Native.Nat.{ℕ, zero, suc, ◌+◌, ◌-◌, ◌<◌, ◌≤◌}
+use Prim.Native.Nat.{ℕ, suc, ◌+◌, ◌-◌, ◌<◌, ◌≤◌}
 use native.Mathlib.Omega.{arith}
 use Rattle.laws.specs.Relation.{Table}
 use Rattle.rules.specs.Frame.{Frame}
 use Rattle.plain.specs.Plain.{next?, tries, plain}
-use Rattle.plain.specs.inner.BudgetedWalk.{Walked, Order, End, Over, BringsBack, steps_ahead, Looped}
+use Rattle.plain.specs.inner.BudgetedWalk.{steps_ahead, Looped}
 
 -- steps are added up
 more : (u v : ℕ) (r : ℕ × Option (List ℕ)) → steps_ahead u (steps_ahead v r) ≡ steps_ahead (u + v) r

@@ -5,13 +5,12 @@
 --   sees-placed   == where none waits, the latest placed writer is seen
 --   expected-sees == in an order what is expected is what is seen
 --   valid-next, unnext-none, built-valid == a valid order is built so; what may not be next begins none; what is built so, and long enough, is a valid order
-use mathlib.Core.Path.{◌≡◌, refl, sym, ap, ◌∙◌, subst}
+use mathlib.Core.Path.{◌≡◌, sym, ap, subst}
 use mathlib.Core.Logic.{◌↔◌, inl, inr}
-use mathlib.Core.Bool.{Bool, cond, So, ◌&&◌}
-use mathlib.Core.List.{List, [], ◌∷◌, ◌++◌, append-nil}
+use mathlib.Core.Bool.{So, ◌&&◌}
+use mathlib.Core.List.{List, [], ◌∷◌, ◌++◌}
 use mathlib.Core.Option.{none}
 use Prim.Native.Nat.{ℕ, ◌≤◌, ◌<◌}
-use native.Mathlib.Decide.{dec_lt}
 use native.Mathlib.Omega.{arith}
 use lib.Dec.{eqb, ltb}
 use lib.ListN.{length, get_or}
@@ -22,11 +21,10 @@ use Rattle.laws.specs.Relation.{Table}
 use Rattle.laws.specs.Dict.{Answer}
 use Rattle.laws.specs.inner.Steps.{Steps}
 use Rattle.laws.specs.Latest.{Latest, nobody-yet, at}
-use Rattle.laws.proofs.Tests.{and-iff, imp-iff, same-iff, all-iff, so-eq, so-lt, test, off, eq?}
-use Rattle.laws.proofs.Places.{pos-lt, at-pos, pos-at, count_at, count-here, count-later}
+use Rattle.laws.proofs.Tests.{and-iff, imp-iff, same-iff, all-iff, so-eq, so-lt, eq?}
+use Rattle.laws.proofs.Places.{pos-lt, at-pos, pos-at, count_at}
 use Rattle.laws.proofs.Latest.{latest-of}
-use Rattle.laws.proofs.Sums.{sum_same}
-use Rattle.laws.proofs.Counts.{count-append, count-sum, count-mid, cut}
+use Rattle.laws.proofs.Counts.{count-append, count-mid, cut}
 use Rattle.laws.proofs.Steps.{steps-at}
 use Rattle.laws.proofs.Prefixes.{pos-in, pos-out}
 use Rattle.rules.specs.Frame.{Frame, Good, Writer}

@@ -3,17 +3,16 @@
 --   stands_alike  == two lists with the same sets are alike
 --   served-step   == who is served after one more operation: who reads from it; at other addresses, who was
 --   remember      == the end of a search may be remembered
-use mathlib.Core.Path.{◌≡◌, refl, sym, ap, ◌∙◌, subst}
+use mathlib.Core.Path.{◌≡◌, sym, ap, ◌∙◌}
 use mathlib.Core.Logic.{◌↔◌, ◌⊎◌, inl, inr}
-use mathlib.Core.Bool.{Bool, true, false, cond, So, false≢true}
+use mathlib.Core.Bool.{Bool, false, cond, So, false≢true}
 use mathlib.Core.List.{List, [], ◌∷◌, ◌++◌}
 use mathlib.Core.Option.{none}
-use Prim.Native.Nat.{ℕ, zero, suc, ◌-◌, ◌<◌, ◌≤◌}
+use Prim.Native.Nat.{ℕ, ◌-◌, ◌<◌, ◌≤◌}
 use native.Mathlib.Omega.{arith}
 use lib.ListN.{length}
 use Rattle.laws.specs.Places.{count}
 use Rattle.laws.specs.Relation.{Table}
-use Rattle.laws.specs.inner.Steps.{Steps}
 use Rattle.laws.proofs.Tests.{test, off, eq?}
 use Rattle.laws.proofs.Sums.{sum-cong}
 use Rattle.laws.proofs.Counts.{count-append, count-sum}

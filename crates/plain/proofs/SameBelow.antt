@@ -5,7 +5,7 @@
 --   alike-same, alike-back, alike-snoc == lists that are alike stay alike when both are extended by the same operation
 --   next-alike                    == what may be next depends on what is alike
 --   tries-alike, plain-alike      == and so do the search's steps and what it finds
-use mathlib.Core.Path.{◌≡◌, refl, sym, ap, ap₂, ◌∙◌, subst}
+use mathlib.Core.Path.{◌≡◌, refl, sym, ap, ap₂, ◌∙◌}
 use mathlib.Core.Logic.{◌⊎◌, inl, inr}
 use mathlib.Core.Bool.{Bool, true, false, cond, So, false≢true}
 use mathlib.Core.List.{List, [], ◌∷◌, ◌++◌}
@@ -17,7 +17,7 @@ use lib.Seq.{get_or-append_seam}
 use Rattle.laws.specs.Places.{count}
 use Rattle.laws.specs.Relation.{Table}
 use Rattle.laws.specs.Latest.{last_of}
-use Rattle.laws.proofs.Tests.{test, test-one, eq?}
+use Rattle.laws.proofs.Tests.{test, test-one}
 use Rattle.laws.proofs.Counts.{count-append}
 use Rattle.rules.specs.Frame.{Frame, Good}
 use Rattle.rules.specs.RuleTests.{writer?}

@@ -9,7 +9,7 @@ use Rattle.laws.specs.Sums.{sum}
 use Rattle.laws.specs.Latest.{last_of}
 use Rattle.trace.specs.Trace.{first}
 use Rattle.trace.specs.Meaning.{frame_of}
-use Rattle.trace.specs.declared.Op.TheVariants.{Load, Store, Swap, Fence}
+use Rattle.trace.specs.declared.Op.TheVariants.{Load, Store}
 use Rattle.pairs.specs.Kept.{SC, TSO, let_off, kept_by, fenced, kept_of}
 use Rattle.rules.specs.RuleTests.{writer?}
 use Rattle.rules.specs.Ready.{operations}
