@@ -1,9 +1,9 @@
--- No second answer meets the contract of a public function. The functions over the struct are walked by hand and have no Reads; of them it is shown
--- first what their clause says, as the checker reads it.
+-- No second answer meets the contract of a public function. Of the functions over the struct it is shown first what their clause says, as the checker
+-- reads it.
 --
 --   FUNCTION-settles == the contract settles what the function gives back
 --   FUNCTION-shows   == the contract settles the part of the text that it hands back: where it lies and its bytes
---   FUNCTION-says    == the clause of a walked function is this statement of what comes back, and nothing else
+--   FUNCTION-says    == the clause of a function over the struct is this statement of what comes back, and nothing else
 use mathlib.Core.Path.{◌≡◌, refl, ◌∙◌, sym}
 use mathlib.Core.List.{List}
 use Prim.Native.Nat.{ℕ}
