@@ -1,8 +1,8 @@
 -- KNOT's list of reasons, under SC and TSO.
 --
 --   knot-refuted == it is accepted, so KNOT has no valid order
-use mathlib.Core.Path.{◌≡◌, refl, ap}
-use mathlib.Core.Bool.{true, So}
+use mathlib.Core.Path.{refl}
+use mathlib.Core.Bool.{So}
 use mathlib.Core.List.{List, [], ◌∷◌, ◌++◌}
 use Prim.Native.Nat.{ℕ, ◌-◌}
 use lib.ListN.{length, replicate}
@@ -13,7 +13,7 @@ use Rattle.trace.specs.Meaning.{frame_of}
 use Rattle.trace.specs.WellFormed.{well_formed, follows, fresh, bounded, written_before, is_idle}
 use Rattle.rules.specs.Order.{Valid}
 use Rattle.trace.specs.declared.Op.{Op}
-use Rattle.trace.specs.declared.Op.TheVariants.{Load, Store, Swap, Fence}
+use Rattle.trace.specs.declared.Op.TheVariants.{Load, Store, Fence}
 use Rattle.trace.specs.declared.Record.{Record}
 use Rattle.trace.specs.declared.Trace.{Trace}
 use Rattle.trace.proofs.Good.{good}

@@ -4,20 +4,20 @@
 --   chained-sound            == then it keeps the chains of its entries
 --   refutes-sound            == no valid order keeps a branch that is closed
 --   accepted-sound           == an accepted list: there is no valid order
-use mathlib.Core.Path.{◌≡◌, refl, sym, ap, ◌∙◌, subst}
-use mathlib.Core.Logic.{◌≢◌, ◌⊎◌, inl, inr}
-use mathlib.Core.Bool.{Bool, true, false, not, So, ◌&&◌, false≢true}
-use mathlib.Core.List.{List, [], ◌∷◌, ◌++◌}
+use mathlib.Core.Path.{◌≡◌, refl, ap}
+use mathlib.Core.Logic.{◌≢◌, inl, inr}
+use mathlib.Core.Bool.{Bool, true, false, So, ◌&&◌, false≢true}
+use mathlib.Core.List.{List, [], ◌∷◌}
 use mathlib.Core.Option.{Option, none, some}
 use Prim.Native.Nat.{ℕ, zero, suc, ◌<◌, ◌≤◌}
 use native.Mathlib.Nat.{not-suc-le-zero}
 use native.Mathlib.Omega.{arith}
 use lib.Dec.{eqb, ltb}
-use lib.ListN.{length, get_or}
+use lib.ListN.{length}
 use Rattle.laws.specs.Places.{pos, Before}
-use Rattle.laws.specs.Relation.{Rel, Table, ◌⊆◌}
+use Rattle.laws.specs.Relation.{Table, ◌⊆◌}
 use Rattle.laws.specs.inner.Sorted.{On}
-use Rattle.laws.proofs.Tests.{and-iff, not_iff, same-iff, so-eq, so-lt, test, off}
+use Rattle.laws.proofs.Tests.{and-iff, not_iff, same-iff, so-eq, so-lt}
 use Rattle.rules.specs.Frame.{Frame, Good}
 use Rattle.rules.specs.Order.{Valid}
 use Rattle.rules.specs.Rules.{nothing}

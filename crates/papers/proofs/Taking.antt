@@ -23,11 +23,10 @@ use Rattle.trace.specs.Meaning.{frame_of}
 use Rattle.trace.specs.declared.Trace.{Trace}
 use Rattle.rules.specs.Rules.{nothing}
 use Rattle.rules.specs.RuleTests.{writer?, source?, first?, rules, gives?}
-use Rattle.papers.specs.Paper.{CLOSE, SPLIT, Claim, Entry, edge_at, named, leads, arrives, chained, BRANCH, branch_room, may_rest, splits, fits, refutes}
+use Rattle.papers.specs.Paper.{Claim, Entry, edge_at, named, leads, arrives, chained, BRANCH, branch_room, may_rest, splits, fits, refutes}
 use Rattle.papers.specs.inner.ReaderBranch.{branch_of, between, link_of, link_joins, linked, others_of, stack_of, goals_of, branch_after, went, Taken}
 use Rattle.papers.specs.declared.reading.Link.{Link}
 use Rattle.papers.specs.declared.reading.Link.TheVariants.{Between, Nowhere}
-use Rattle.papers.specs.declared.reading.Turn.{Turn}
 use Rattle.papers.specs.declared.reading.Turn.TheVariants.{Goes, Closed, Wrong}
 use Rattle.papers.proofs.Branches.{branch-long, branch-more, same_branch, same-others, set_same}
 

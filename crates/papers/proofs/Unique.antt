@@ -4,7 +4,7 @@
 --   accepts-settles == the contract settles what the reader gives back
 --   accepts-none    == a list is accepted only where there is no valid order, whoever wrote it
 use mathlib.Core.Path.{◌≡◌, refl, sym, ◌∙◌}
-use mathlib.Core.Bool.{So, false≢true}
+use mathlib.Core.Bool.{false≢true}
 use mathlib.Core.List.{List}
 use Prim.Native.Nat.{ℕ}
 use Rattle.laws.specs.Settles.{Settles}
