@@ -13,22 +13,21 @@
 --   placing-more, placing-end        == one operation more is placed, from place i on
 --   yes-is, order_below              == the judge says yes; to records only
 --   steps-nine, steps-ten, steps-no, steps-yes == each way out of the entry
-use mathlib.Core.Path.{◌≡◌, refl, sym, ap, ap₂, ◌∙◌, subst}
+use mathlib.Core.Path.{◌≡◌, refl, sym, ap, ap₂, ◌∙◌}
 use mathlib.Core.Bool.{Bool, true, false, cond, So, not, ◌&&◌, ◌||◌, false≢true}
-use mathlib.Core.List.{List, [], ◌∷◌, ◌++◌}
+use mathlib.Core.List.{List, [], ◌∷◌}
 use mathlib.Core.Option.{Option, none, some}
 use Prim.Native.Nat.{ℕ, zero, suc, ◌+◌, ◌-◌, ◌<◌, ◌≤◌}
 use native.Mathlib.Numerals.{add-one}
 use native.Mathlib.Omega.{arith}
-use lib.Dec.{eqb, ltb, leb}
+use lib.Dec.{eqb}
 use lib.ListN.{length, get_or, set, drop}
 use lib.Seq.{drop-cons}
 use borrow.Author.Tests.{lt-ltb, le-ltb}
 use Rattle.laws.specs.Tests.{◌⇒◌, any}
 use Rattle.laws.specs.Lowest.{lowest}
-use Rattle.laws.proofs.Tests.{so-not, off}
 use Rattle.trace.specs.Bounds.{RECORDS, THREADS, ADDRESSES}
-use Rattle.trace.specs.Op.{thread, address, read, written, reads, writes, fence}
+use Rattle.trace.specs.Op.{thread, address, read, written, reads, writes}
 use Rattle.trace.specs.Trace.{at}
 use Rattle.trace.specs.WellFormed.{well_formed}
 use Rattle.trace.specs.declared.Op.{Op}

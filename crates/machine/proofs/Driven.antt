@@ -11,21 +11,20 @@ use mathlib.Core.Path.{◌≡◌, refl, sym, ap, ◌∙◌, subst}
 use mathlib.Core.Logic.{◌↔◌, inl, inr}
 use mathlib.Core.Bool.{Bool, true, false, cond, So, not, ◌&&◌, ◌||◌, false≢true}
 use mathlib.Core.List.{List, [], ◌∷◌, ◌++◌, append-nil}
-use Prim.Native.Nat.{ℕ, zero, suc, ◌+◌, ◌<◌, ◌≤◌}
+use Prim.Native.Nat.{ℕ, zero, suc, ◌<◌, ◌≤◌}
 use native.Mathlib.Numerals.{add-one}
 use native.Mathlib.Omega.{arith}
-use lib.Dec.{eqb, ltb}
-use lib.ListN.{length, get_or, set, take, replicate, length-set, length-append, length-replicate}
+use lib.Dec.{eqb}
+use lib.ListN.{length, get_or, set, take, length-set, length-append, length-replicate}
 use lib.Seq.{append_snoc, take-suc-set, length-take-le}
 use borrow.Author.Tests.{lt-ltb}
 use Rattle.laws.specs.Places.{count}
-use Rattle.laws.proofs.Tests.{and-iff, or-iff, same-iff, so-eq, so-lt, so-not, test, off, last?, eq?}
+use Rattle.laws.proofs.Tests.{and-iff, same-iff, so-eq, so-not, test, last?, eq?}
 use Rattle.laws.proofs.Places.{count-here, count-later}
-use Rattle.trace.specs.Bounds.{RECORDS, THREADS}
+use Rattle.trace.specs.Bounds.{RECORDS}
 use Rattle.trace.specs.Op.{thread}
 use Rattle.trace.specs.Trace.{at}
 use Rattle.trace.specs.FormFacts.{Form}
-use Rattle.rules.specs.Frame.{Good}
 use Rattle.rules.specs.Order.{Valid}
 use Rattle.trace.specs.Meaning.{frame_of}
 use Rattle.trace.specs.declared.Trace.{Trace}
@@ -35,11 +34,11 @@ use Rattle.pairs.specs.Kept.{kept_of}
 use Rattle.machine.specs.declared.Built.{Built}
 use Rattle.machine.specs.Machine.{lands}
 use Rattle.machine.specs.Replay.{STEPS, told, put, began, passed_record, swept, placed_next, placing, none_built, built_of}
-use Rattle.machine.proofs.History.{◌∈◌, Waits, Go, through, enters, empties, Goes, done, more, Ended, Laws}
+use Rattle.machine.proofs.History.{◌∈◌, Go, through, enters, empties, Goes, done, more, Ended, Laws}
 use Rattle.machine.proofs.CoresOf.{cores_of}
 use Rattle.machine.proofs.Snoc.{in?, flag-set}
-use Rattle.machine.proofs.Invariant.{Sound, nothing-sound, go-sound, goes-sound, waits-off}
-use Rattle.machine.proofs.Driving.{goes-join, goes-bound, c-operation, c_out, k_off, k-run, c-run, c-oldest, left, nobody-waits}
+use Rattle.machine.proofs.Invariant.{Sound, nothing-sound, goes-sound, waits-off}
+use Rattle.machine.proofs.Driving.{goes-join, goes-bound, c-operation, k_off, k-run, c-run, c-oldest, left, nobody-waits}
 use Rattle.machine.proofs.Lockstep.{and-off, no_flag}
 use Rattle.machine.proofs.ByCases.{longer, put_is, passed-runs, passed-idle, placed-lands, placed-waits}
 

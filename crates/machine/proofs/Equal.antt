@@ -9,21 +9,18 @@
 --   machine-exactly == the theorem
 --   steps-exactly, replay-through == steps are handed back exactly for the valid orders, and the machine runs them through
 use mathlib.Core.Path.{◌≡◌, refl, sym, ap, ◌∙◌, subst}
-use mathlib.Core.Logic.{◌≢◌, ◌↔◌, ◌⊎◌, inl, inr}
-use mathlib.Core.Bool.{Bool, true, false, cond, So, not, ◌&&◌, ◌||◌, false≢true}
-use mathlib.Core.List.{List, [], ◌∷◌, ◌++◌}
+use mathlib.Core.Logic.{◌↔◌, inl, inr}
+use mathlib.Core.Bool.{Bool, true, false, cond, So, not, ◌&&◌, false≢true}
+use mathlib.Core.List.{List, [], ◌∷◌}
 use mathlib.Core.Option.{Option, none, some}
-use Prim.Native.Nat.{ℕ, zero, suc, ◌+◌, ◌*◌, ◌-◌, ◌<◌, ◌≤◌}
+use Prim.Native.Nat.{ℕ, zero, suc, ◌+◌, ◌*◌, ◌<◌, ◌≤◌}
 use native.Mathlib.Omega.{arith}
 use native.Mathlib.Nat.{not-suc-le-zero}
-use lib.ListN.{length, get_or, take, replicate, length-replicate}
-use Rattle.laws.specs.Tests.{all}
-use Rattle.laws.specs.ListOf.{row}
-use Rattle.laws.specs.Places.{pos, count}
-use Rattle.laws.proofs.Tests.{and-iff, so-not, so-all, test, off}
+use lib.ListN.{length, get_or, take, length-replicate}
+use Rattle.laws.specs.Places.{count}
+use Rattle.laws.proofs.Tests.{and-iff, so-not, so-all, test}
 use Rattle.laws.proofs.Rows.{row-long, row-place}
 use Rattle.trace.specs.Bounds.{RECORDS, THREADS, ADDRESSES}
-use Rattle.trace.specs.Op.{thread}
 use Rattle.trace.specs.Trace as trace
 use Rattle.trace.specs.FormFacts.{Form}
 use Rattle.rules.specs.Order.{Valid}
@@ -32,29 +29,27 @@ use Rattle.trace.specs.Meaning.{frame_of}
 use Rattle.trace.specs.declared.Trace.{Trace}
 use Rattle.trace.proofs.WellFormed.{form-iff}
 use Rattle.trace.proofs.Good.{form-good}
-use Rattle.pairs.specs.Kept.{SC, TSO, kept_of}
+use Rattle.pairs.specs.Kept.{kept_of}
 use Rattle.judge.specs.Judged.{judged_of}
 use Rattle.pairs.specs.Accepted.{Accepted}
 use Rattle.judge.specs.declared.judging.Judgement.{Judgement}
 use Rattle.judge.proofs.Judged.{accepted-yes}
 use Rattle.machine.specs.declared.Steps.{Steps}
-use Rattle.machine.specs.declared.Given.{Given}
 use Rattle.machine.specs.declared.Given.TheVariants as goal
 use Rattle.machine.specs.Replay.{STEPS, told, built_of, yes?, no_steps, listed, steps_of}
 use Rattle.machine.specs.declared.Machine.{Machine}
 use Rattle.machine.specs.declared.Ran.{Ran}
 use Rattle.machine.specs.declared.Ran.TheVariants.{NoModel, NotWellFormed, Stuck, Through}
-use Rattle.machine.specs.Machine.{Sized, machined, machine_start, step, finished, run, answer, stuck_at}
+use Rattle.machine.specs.Machine.{machined, machine_start, step, finished, run, answer, stuck_at}
 use Rattle.machine.proofs.CoresOf.{cores_of}
-use Rattle.machine.proofs.History.{◌∈◌, Cores, Waits, Run, Empty, Go, through, enters, empties, Goes, done, more, Ended, Laws}
-use Rattle.machine.proofs.Snoc.{in?}
-use Rattle.machine.proofs.Invariant.{Sound, go-sound, goes-sound, nothing-sound}
+use Rattle.machine.proofs.History.{Go, through, enters, empties, Goes, done, more, Ended, Laws}
+use Rattle.machine.proofs.Invariant.{Sound, go-sound, nothing-sound}
 use Rattle.machine.proofs.Values.{run-valid}
 use Rattle.machine.proofs.Driving.{goes-bound}
 use Rattle.machine.proofs.ByCases.{yes-is, answer-model, answer-form}
 use Rattle.machine.proofs.Driven.{driven}
 use Rattle.machine.proofs.KeptLaws.{model-laws}
-use Rattle.machine.proofs.Lockstep.{Tells, Holds, untouched, step-go, go_step, no_flag}
+use Rattle.machine.proofs.Lockstep.{Tells, untouched, step-go, go_step, no_flag}
 
 pub start-tells : (t : Trace) (m : ℕ) → Tells t m (machine_start t) [] []
 unfolding machine_start count

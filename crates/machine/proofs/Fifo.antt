@@ -4,17 +4,16 @@
 --   fifo        == a step puts an entry in last, takes the first out, or leaves the buffer alone
 use mathlib.Core.Path.{◌≡◌, refl, sym, ap, ◌∙◌, subst}
 use mathlib.Core.Logic.{◌≢◌, ◌↔◌, ◌⊎◌, inl, inr}
-use mathlib.Core.Bool.{true, false, So, not, false≢true}
+use mathlib.Core.Bool.{So, false≢true}
 use mathlib.Core.List.{List, [], ◌∷◌, ◌++◌}
-use mathlib.Core.Option.{Option, none, some}
-use Prim.Native.Nat.{ℕ, ◌+◌, ◌-◌, ◌<◌, ◌≤◌}
+use mathlib.Core.Option.{some}
+use Prim.Native.Nat.{ℕ, ◌<◌, ◌≤◌}
 use native.Mathlib.Omega.{arith}
 use Rattle.laws.specs.Places.{count}
 use Rattle.laws.proofs.Tests.{test, off, eq?, test-one}
 use Rattle.laws.proofs.Places.{count-here}
 use Rattle.laws.proofs.Picks.{picks-same, picks-add, picks-drop}
-use Rattle.trace.specs.Bounds.{THREADS}
-use Rattle.trace.specs.Op.{thread, writes}
+use Rattle.trace.specs.Op.{thread}
 use Rattle.trace.specs.Trace as trace
 use Rattle.trace.specs.WellFormed.{well_formed}
 use Rattle.trace.specs.FormFacts.{Form}
@@ -23,14 +22,14 @@ use Rattle.trace.specs.declared.Trace.{Trace}
 use Rattle.trace.proofs.WellFormed.{form-iff}
 use Rattle.pairs.specs.Kept.{kept_of}
 use Rattle.machine.specs.declared.Machine.{Machine}
-use Rattle.machine.specs.Machine.{machined, waiting, step, machine_start}
+use Rattle.machine.specs.Machine.{machined, waiting, step}
 use Rattle.machine.specs.Fifo.{buffer_of, Reached, begin, on}
 use Rattle.machine.proofs.CoresOf.{cores_of}
-use Rattle.machine.proofs.History.{◌∈◌, Waits, Run, Empty, Go, through, enters, empties, Laws}
-use Rattle.machine.proofs.Snoc.{cons-in, cons-cases, in-snoc, snoc-other, last-in, in?}
-use Rattle.machine.proofs.Invariant.{Sound, nothing-sound, go-sound, ran-before, waits-off, not-placed}
+use Rattle.machine.proofs.History.{◌∈◌, Waits, Go, through, enters, empties, Laws}
+use Rattle.machine.proofs.Snoc.{cons-in, cons-cases, snoc-other, last-in}
+use Rattle.machine.proofs.Invariant.{Sound, nothing-sound, go-sound, ran-before, not-placed}
 use Rattle.machine.proofs.KeptLaws.{model-laws}
-use Rattle.machine.proofs.Lockstep.{Tells, waiting-iff, waits-below, step-go}
+use Rattle.machine.proofs.Lockstep.{Tells, waiting-iff, step-go}
 use Rattle.machine.proofs.Equal.{start-tells}
 
 module _ (t : Trace) (w : So (well_formed t)) (m : ℕ) (k : So (machined m)) where

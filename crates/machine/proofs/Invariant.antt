@@ -2,18 +2,16 @@
 --
 --   Sound B K r p == what holds of the records that ran and the operations that reached memory
 --   go-sound, goes-sound == every step keeps it
-use mathlib.Core.Path.{◌≡◌, refl, sym, ap, ◌∙◌, subst}
-use mathlib.Core.Logic.{◌≢◌, ◌⊎◌, inl, inr}
-use mathlib.Core.Bool.{Bool, false, So, false≢true}
+use mathlib.Core.Path.{◌≡◌, sym, ap, ◌∙◌, subst}
+use mathlib.Core.Logic.{inl, inr}
+use mathlib.Core.Bool.{false, So, false≢true}
 use mathlib.Core.List.{List, [], ◌∷◌, ◌++◌}
-use Prim.Native.Nat.{ℕ, suc, ◌≤◌, ◌<◌}
-use native.Mathlib.Decide.{dec_lt}
+use Prim.Native.Nat.{ℕ, ◌≤◌, ◌<◌}
 use native.Mathlib.Omega.{arith}
-use Rattle.laws.specs.Places.{pos, count, Before}
+use Rattle.laws.specs.Places.{count, Before}
 use Rattle.laws.specs.Relation.{Table}
 use Rattle.laws.proofs.Tests.{eq?, test, three}
 use Rattle.laws.proofs.Places.{count-here, count-later}
-use Rattle.rules.specs.Frame.{Frame}
 use Rattle.machine.proofs.History.{◌∈◌, Cores, Waits, Run, Empty, Go, through, enters, empties, Goes, done, more, Laws}
 use Rattle.machine.proofs.Snoc.{in-snoc, last-in, snoc-other, snoc-last, snoc-cases, snoc-before, before_last, cons-in, cons-cases, in?}
 

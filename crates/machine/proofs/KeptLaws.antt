@@ -6,7 +6,7 @@
 --   model-laws   == so both models keep what is asked for
 use mathlib.Core.Path.{◌≡◌, refl, sym, ◌∙◌}
 use mathlib.Core.Logic.{◌↔◌, ◌⊎◌, inl, inr}
-use mathlib.Core.Bool.{Bool, true, false, So, not, ◌&&◌, ◌||◌, false≢true}
+use mathlib.Core.Bool.{Bool, false, So, not, false≢true}
 use Prim.Native.Nat.{ℕ, ◌<◌, ◌≤◌}
 use native.Mathlib.Omega.{arith}
 use lib.Dec.{eqb}
@@ -18,9 +18,9 @@ use Rattle.trace.specs.declared.Op.{Op}
 use Rattle.trace.specs.declared.Op.TheVariants.{Load, Store, Swap, Fence}
 use Rattle.trace.specs.declared.Trace.{Trace}
 use Rattle.trace.proofs.Meaning.{operation-iff, reads-iff, writes-iff, reads-operation}
-use Rattle.pairs.specs.Kept.{SC, TSO, MODELS, LOAD, STORE, kind_of, fenced, kept_of}
+use Rattle.pairs.specs.Kept.{SC, TSO, LOAD, STORE, kind_of, fenced, kept_of}
 use Rattle.pairs.proofs.KeptPairs.{earlier-iff, fenced-iff, Off, LetOff, model-keeps}
-use Rattle.machine.specs.Machine.{machined, lands}
+use Rattle.machine.specs.Machine.{machined}
 use Rattle.machine.proofs.CoresOf.{cores_of}
 use Rattle.machine.proofs.History.{Laws}
 

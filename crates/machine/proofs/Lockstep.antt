@@ -6,42 +6,41 @@
 --   step-go, go_step == a possible step of the one is a possible step of the other
 use mathlib.Core.Path.{◌≡◌, refl, sym, ap, ◌∙◌, subst}
 use mathlib.Core.Logic.{◌≢◌, ◌↔◌, ◌⊎◌, inl, inr}
-use mathlib.Core.Bool.{Bool, true, false, cond, So, not, ◌&&◌, ◌||◌, false≢true}
+use mathlib.Core.Bool.{Bool, true, false, cond, So, not, ◌&&◌, false≢true}
 use mathlib.Core.List.{List, [], ◌∷◌, ◌++◌}
 use mathlib.Core.Option.{Option, none, some}
 use Prim.Native.Nat.{ℕ, zero, suc, ◌+◌, ◌-◌, ◌<◌, ◌≤◌}
 use native.Mathlib.Decide.{dec_lt}
 use native.Mathlib.Omega.{arith}
-use lib.Dec.{eqb, ltb, leb}
+use lib.Dec.{eqb, ltb}
 use lib.ListN.{length, get_or, set, replicate, length-set}
 use lib.Seq.{get_or-set_same, get_or-set_other}
 use borrow.Author.Tests.{lt-ltb, le-ltb}
-use Rattle.laws.specs.Tests.{◌⇒◌, all, any}
+use Rattle.laws.specs.Tests.{all, any}
 use Rattle.laws.specs.Lowest.{Lowest, lowest}
-use Rattle.laws.specs.Latest.{last_of, Latest, nobody-yet, at}
+use Rattle.laws.specs.Latest.{Latest, nobody-yet, at}
 use Rattle.laws.specs.Places.{pos, count}
-use Rattle.laws.proofs.Tests.{and-iff, or-iff, not_iff, imp-iff, any-iff, same-iff, so-eq, so-lt, so-le, so-not, so-any, so-all, test, off, eq?}
+use Rattle.laws.proofs.Tests.{and-iff, or-iff, not_iff, imp-iff, same-iff, so-eq, so-not, so-any, test, off, eq?}
 use Rattle.laws.proofs.Lowest.{lowest-one, lowest-iff}
 use Rattle.laws.proofs.Latest.{latest-of}
-use Rattle.laws.proofs.Places.{count-here, count-later, pos-lt, pos_inj, pos-here}
+use Rattle.laws.proofs.Places.{count-here, pos-lt, pos_inj}
 use Rattle.laws.proofs.Prefixes.{pos-in, pos-out}
 use Rattle.trace.specs.Bounds.{RECORDS, THREADS, ADDRESSES}
 use Rattle.trace.specs.Op.{thread, address, read, written, reads, writes, fence}
 use Rattle.trace.specs.Trace as trace
 use Rattle.trace.specs.FormFacts.{Form}
-use Rattle.rules.specs.Frame.{Good}
 use Rattle.trace.specs.Meaning.{frame_of}
 use Rattle.trace.specs.declared.Trace.{Trace}
 use Rattle.trace.proofs.Meaning.{operation-iff, reads-iff, writes-iff, reads-operation}
 use Rattle.trace.proofs.Good.{form-good}
-use Rattle.pairs.specs.Kept.{SC, TSO, kept_of}
+use Rattle.pairs.specs.Kept.{kept_of}
 use Rattle.machine.specs.declared.Machine.{Machine}
-use Rattle.machine.specs.Machine.{Sized, machined, lands, alone, due, waiting, got, may, ran_as, emptied, runs, empties, step}
+use Rattle.machine.specs.Machine.{Sized, lands, alone, due, waiting, got, may, ran_as, emptied, runs, empties, step}
 use Rattle.machine.proofs.CoresOf.{cores_of}
 use Rattle.machine.proofs.History.{◌∈◌, Cores, Waits, Own, Stored, Got, buffered, stored, initial, Alone, Run, Empty, Go, through, enters, Goes, done, more, Ended, Laws}
 use Rattle.machine.proofs.History as history
 use Rattle.machine.proofs.Snoc.{in?, cons-in, cons-cases, snoc-cases, last-in, in-snoc, snoc-other, flag-set}
-use Rattle.machine.proofs.Invariant.{Sound, waits-store, waits-off, not-placed, go-sound, goes-sound, nothing-sound}
+use Rattle.machine.proofs.Invariant.{Sound, waits-store, waits-off, not-placed}
 use Rattle.machine.proofs.KeptLaws.{lands-iff}
 
 -- what memory holds at an address, after p has reached it

@@ -11,7 +11,7 @@ use Prim.Native.Nat.{ℕ, suc, ◌<◌}
 use native.Mathlib.Omega.{arith}
 use lib.ListN.{length, get_or, set}
 use lib.Seq.{get_or-set_same, get_or-set_other}
-use Rattle.laws.specs.Places.{pos, count, Before}
+use Rattle.laws.specs.Places.{count, Before}
 use Rattle.laws.proofs.Tests.{eq?}
 use Rattle.laws.proofs.Places.{pos-here, pos-lt, count-here, count-later}
 use Rattle.laws.proofs.Counts.{count-append}

@@ -4,23 +4,22 @@
 --   sees-now    == what a load gets as it runs is what it must read in the order of the whole run
 --   run-valid   == the operations in the order in which they reached memory are a valid order
 use mathlib.Core.Path.{◌≡◌, refl, sym, ap, ◌∙◌, subst}
-use mathlib.Core.Logic.{◌≢◌, ◌⊎◌, inl, inr}
-use mathlib.Core.Bool.{Bool, false, cond, So, false≢true}
+use mathlib.Core.Logic.{◌⊎◌, inl, inr}
+use mathlib.Core.Bool.{So, false≢true}
 use mathlib.Core.List.{List, [], ◌∷◌, ◌++◌, append-nil, append_assoc}
-use Prim.Native.Nat.{ℕ, suc, ◌+◌, ◌*◌, ◌≤◌, ◌<◌}
-use native.Mathlib.Decide.{dec_lt}
+use Prim.Native.Nat.{ℕ, ◌≤◌, ◌<◌}
 use native.Mathlib.Omega.{arith}
 use lib.ListN.{length}
 use lib.Seq.{append_snoc}
 use Rattle.laws.specs.Places.{pos, count, Before}
 use Rattle.laws.specs.Relation.{Table}
 use Rattle.laws.proofs.Tests.{eq?, test}
-use Rattle.laws.proofs.Places.{count-here, count-later, pos-lt}
+use Rattle.laws.proofs.Places.{count-later, pos-lt}
 use Rattle.laws.proofs.Prefixes.{pos-in, pos-out}
-use Rattle.rules.specs.Frame.{Frame, Good, Writer}
+use Rattle.rules.specs.Frame.{Good}
 use Rattle.rules.specs.Order.{Visible, Sees, nobody, latest, Keeps, Once, Valid}
-use Rattle.rules.proofs.Ready.{in-before, before-in, not-before}
-use Rattle.machine.proofs.History.{◌∈◌, Cores, Waits, Own, Stored, Got, buffered, stored, initial, Run, Empty, Go, through, enters, empties, Goes, done, more, Ended, Laws}
+use Rattle.rules.proofs.Ready.{in-before, before-in}
+use Rattle.machine.proofs.History.{◌∈◌, Cores, Own, Stored, Got, buffered, stored, initial, Run, Go, through, enters, empties, Goes, done, more, Ended, Laws}
 use Rattle.machine.proofs.Snoc.{in?}
 use Rattle.machine.proofs.Invariant.{Sound, nothing-sound, go-sound, goes-sound, ran-before, waits-store}
 

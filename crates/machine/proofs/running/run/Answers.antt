@@ -1,0 +1,35 @@
+-- `machine::running::run`.
+use mathlib.Core.Path.{sym, ap, ◌∙◌}
+use native.Mathlib.Omega.{arith}
+use lib.ListN.{get_or}
+use borrow.Author.Tests.{not-true, not-false}
+use Rattle.pairs.proofs.ValidOrders.{well-fits}
+use Rattle.machine.specs.declared.Machine.{Machine}
+use Rattle.machine.specs.declared.Ran.TheVariants.{Through}
+use Rattle.machine.specs.Machine.{step, run}
+use Rattle.machine.proofs.ByCases.{answer-model, answer-form, answer-runs, run-stuck, run_more, run_end, stepped-no, stepped-yes}
+use Rattle.machine.proofs.running.run.Goals as goal
+
+pub returns-then-not-machined : goal.returns-then-not-machined
+returns-then-not-machined c = let a = c.args in answer-model a.t a.model a.steps.now (sym c.machined.ensures ∙ not-true _ c.if-not-machined.true-raw)
+
+pub returns-then-not-well_formed : goal.returns-then-not-well_formed
+returns-then-not-well_formed c = let a = c.args in answer-form a.t a.model a.steps.now (sym c.machined.ensures ∙ not-false _ c.if-not-machined.false-raw) (sym c.well_formed-2.ensures ∙ not-true _ c.if-not-well_formed.true-raw)
+
+pub loop-i-init : goal.loop-i-init
+loop-i-init c = let a = c.args in (((sym c.machined.ensures ∙ not-false _ c.if-not-machined.false-raw, sym c.well_formed-2.ensures ∙ not-false _ c.if-not-well_formed.false-raw), omega arith), ap (λ (M : Machine). run a.t a.model M a.steps.now 0) (sym c.start-m.ensures))
+
+pub step-s-requires : goal.step-s-requires
+step-s-requires c = c.loop-i.invariant.0.0.1
+
+pub returns-then-not-s : goal.returns-then-not-s
+returns-then-not-s c = let a = c.args in let l = c.loop-i in answer-runs a.t a.model a.steps.now l.invariant.0.0.0 l.invariant.0.0.1 _ (l.invariant.1 ∙ run-stuck a.t a.model l.m a.steps.now l.i c.loop-i-test.true (stepped-no l.m (step a.t a.model l.m (get_or a.steps.now l.i 0)) _ c.step-s.ensures (not-true _ c.if-not-s.true)))
+
+pub loop-i-preserved : goal.loop-i-preserved
+loop-i-preserved c = let a = c.args in let l = c.loop-i in ((l.invariant.0.0, omega arith), l.invariant.1 ∙ run_more a.t a.model l.m a.steps.now l.i _ c.loop-i-test.true (stepped-yes l.m (step a.t a.model l.m (get_or a.steps.now l.i 0)) _ c.step-s.ensures (not-false _ c.if-not-s.false)))
+
+pub finished-requires : goal.finished-requires
+finished-requires c = well-fits _ c.loop-i.invariant.0.0.1
+
+pub returns : goal.returns
+returns c = let a = c.args in let l = c.loop-i in answer-runs a.t a.model a.steps.now l.invariant.0.0.0 l.invariant.0.0.1 _ (l.invariant.1 ∙ run_end a.t a.model l.m a.steps.now l.i c.loop-i-test.false ∙ ap Through (sym c.finished.ensures))
