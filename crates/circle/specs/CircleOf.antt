@@ -1,8 +1,8 @@
 -- The circle shown for a trace under a model, with its rules.
 --
 --   ruled_of n os rs == the first n operations and rules, or no circle where n is 0
---   CircleOf t m r  == r begins with the circle shown and its rules and is 0 past them; with nothing to answer there is none
---   CircleBy t K r  == the same from any kept pairs K; of a trace that is not well formed there is none
+--   CircleOf t m r   == r begins with the circle shown and its rules and is 0 past them; with nothing to answer there is none
+--   CircleBy t K r   == the same from any kept pairs K; of a trace that is not well formed there is none
 use Rattle.std.specs.Prelude.{◌≡◌, false, List, ℕ, zero, suc, ◌≤◌, length, get_or, take}
 use Rattle.std.proofs.Math.Bool.{So}
 use Rattle.std.proofs.Math.Option.{Option, none, some}

@@ -1,6 +1,6 @@
 -- The circle shown, laid into a buffer.
 --
---   circle_of len out           == the first len numbers, or no circle where len is 0
+--   circle_of len out          == the first len numbers, or no circle where len is 0
 --   ShownIn edges room len out == the buffer begins with the circle shown of the edges, of this length, and is 0 past it; nothing is
 --                                 shown of rows that are not of the full length, or in a buffer without a place for each record
 use Rattle.std.specs.Prelude.{◌≡◌, ◌≢◌, ◌⊎◌, List, ℕ, zero, suc, ◌≤◌, length, get_or, take}

@@ -1,0 +1,56 @@
+-- `trail::least`: no closed walk is shorter than k, and the rows have the walks of length k.
+use mathlib.Core.Path.{◌≡◌, sym, ◌∙◌}
+use native.Mathlib.Omega.{arith}
+use Rattle.rows.specs.Rows.{Edges}
+use Rattle.rows.proofs.Whole.{copy-same}
+use Rattle.circle.proofs.LeastWalk.{try-first, try-next, try-found, try-past}
+use Rattle.circle.proofs.trail.least.Goals as goal
+
+pub loop-k-init : goal.loop-k-init
+loop-k-init c =
+    let a = c.args in
+    let e : c.copy.new.to ≡ a.edges.now = c.copy.ensures ∙ copy-same a.edges.now a.walks.now (c.requires.0 ∙ sym c.requires.1) in
+    (omega arith, omega arith, c.copy.auto.to ∙ c.requires.1, c.requires.2, rw e (try-first a.edges.now))
+
+pub shape_of-walks-then-reflexive : goal.shape_of-walks-then-reflexive
+shape_of-walks-then-reflexive c = c.loop-k.invariant.2 ∙ sym c.requires.1
+
+pub shape_of-next-then-reflexive : goal.shape_of-next-then-reflexive
+shape_of-next-then-reflexive c = c.loop-k.invariant.3 ∙ sym c.requires.2
+
+pub returns-then-reflexive : goal.returns-then-reflexive
+returns-then-reflexive c =
+    let a = c.args in
+    try-found (Edges a.edges.now) c.loop-k.k c.loop-k.walks c.loop-k.invariant.4 c.loop-k.invariant.0 (omega arith) (sym c.reflexive.ensures ∙ c.if-reflexive.true)
+
+pub further-requires : goal.further-requires
+further-requires c = c.loop-k.invariant.3
+
+pub overflow_add-k : goal.overflow_add-k
+overflow_add-k c = omega arith
+
+pub loop-k-smaller : goal.loop-k-smaller
+loop-k-smaller c = omega arith
+
+pub loop-k-preserved : goal.loop-k-preserved
+loop-k-preserved c =
+    let a = c.args in
+    let long = c.further.auto.next ∙ c.loop-k.invariant.3 in
+    let e : c.copy-in-loop-k.new.to ≡ c.further.new.next = c.copy-in-loop-k.ensures ∙ copy-same c.further.new.next c.loop-k.walks (long ∙ sym c.loop-k.invariant.2) in (
+      omega arith,
+      omega arith,
+      c.copy-in-loop-k.auto.to ∙ c.loop-k.invariant.2,
+      long,
+      rw e (try-next (Edges a.edges.now) c.loop-k.k c.loop-k.walks c.loop-k.invariant.4 c.further.new.next (sym c.reflexive.ensures ∙ c.if-reflexive.false) c.further.ensures),
+    )
+
+pub shape_of-walks : goal.shape_of-walks
+shape_of-walks c = c.loop-k.invariant.2 ∙ sym c.requires.1
+
+pub shape_of-next : goal.shape_of-next
+shape_of-next c = c.loop-k.invariant.3 ∙ sym c.requires.2
+
+pub returns : goal.returns
+returns c =
+    let a = c.args in
+    try-past a.edges.now c.loop-k.k c.loop-k.walks (omega arith) c.loop-k.invariant.4
