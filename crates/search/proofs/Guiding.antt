@@ -11,7 +11,6 @@ use Prim.Native.Nat.{ℕ, ◌<◌}
 use native.Mathlib.Omega.{arith}
 use lib.ListN.{get_or}
 use Rattle.laws.specs.Relation.{Table}
-use Rattle.laws.proofs.Tests.{and-iff, same-iff}
 use Rattle.rules.specs.Frame.{Frame, Writer}
 use Rattle.rules.specs.Order.{Valid}
 use Rattle.trace.specs.Meaning.{frame_of}
