@@ -4,106 +4,112 @@
 
 use circle::show::Circle;
 use edges::Forced;
+use saying::args::{arg, arg_count};
+use saying::input::fill_file;
 use saying::{say, say_u8, say_u16, say_usize};
+use std::env::Env;
+use std::io;
+use std::io::Stdout;
+use std::rt::Files;
 use trace::Trace;
 
 // The first len of some records.
-fn say_numbers(numbers: &[u16], len: usize) {
+fn say_numbers(stdout: Stdout, numbers: &[u16], len: usize) -> io::Result<()> {
     let mut i: usize = 0;
     while i < numbers.len() {
         if i < len {
             let n = numbers[i];
-            say_u16(b" ", n);
+            say_u16(stdout, b" ", n)?;
         }
         i += 1;
     }
+    Ok(())
 }
 
 // The first len of some rules.
-fn say_rules(rules: &[u8], len: usize) {
+fn say_rules(stdout: Stdout, rules: &[u8], len: usize) -> io::Result<()> {
     let mut i: usize = 0;
     while i < rules.len() {
         if i < len {
             let n = rules[i];
-            say_u8(b" ", n);
+            say_u8(stdout, b" ", n)?;
         }
         i += 1;
     }
+    Ok(())
 }
 
-fn say_circle(c: Circle) {
+fn say_circle(stdout: Stdout, c: Circle) -> io::Result<()> {
     let operations = c.operations;
     let rules = c.rules;
-    say(b"circle");
-    say_numbers(&operations, c.len);
-    say(b" by");
-    say_rules(&rules, c.len);
+    say(stdout, b"circle")?;
+    say_numbers(stdout, &operations, c.len)?;
+    say(stdout, b" by")?;
+    say_rules(stdout, &rules, c.len)
 }
 
 // The pairs of rows that begin with x.
-fn say_row(held: &[u64], x: usize) {
+fn say_row(stdout: Stdout, held: &[u64], x: usize) -> io::Result<()> {
     let mut y: usize = 0;
     while y < trace::RECORDS {
         if rows::test(held, x, y) {
-            say_usize(b" ", x);
-            say_usize(b"-", y);
+            say_usize(stdout, b" ", x)?;
+            say_usize(stdout, b"-", y)?;
         }
         y += 1;
     }
+    Ok(())
 }
 
-fn say_held(f: Forced) {
+fn say_held(stdout: Stdout, f: Forced) -> io::Result<()> {
     let held = f.held;
-    say(b"held");
+    say(stdout, b"held")?;
     let mut x: usize = 0;
     while x < trace::RECORDS {
-        say_row(&held, x);
+        say_row(stdout, &held, x)?;
         x += 1;
     }
+    Ok(())
 }
 
-fn say_model(name: &[u8], word: &[u8], t: Trace, model: u8) {
-    say(name);
-    say(word);
+fn say_model(stdout: Stdout, name: &[u8], word: &[u8], t: Trace, model: u8) -> io::Result<()> {
+    say(stdout, name)?;
+    say(stdout, word)?;
     let none = [0u64; rows::CELLS];
     let last = edges::force::last_round(t, model, &none);
-    say_usize(b"round ", last.number);
-    say(b", ");
+    say_usize(stdout, b"round ", last.number)?;
+    say(stdout, b", ")?;
     let c = circle::show::circle_of(t, model);
     if 0 < c.len {
-        say_circle(c);
+        say_circle(stdout, c)?;
     } else {
-        say_held(edges::force::forced(t, model, &none));
+        say_held(stdout, edges::force::forced(t, model, &none))?;
     }
-    say(b"\n");
+    say(stdout, b"\n")
 }
 
-fn answer(name: &[u8], text: &[u8]) {
+fn answer(stdout: Stdout, name: &[u8], text: &[u8]) -> io::Result<()> {
     let r = reader::read(text);
     let t = r.trace;
-    say_model(name, b" SC: ", t, pairs::SC);
-    say_model(name, b" TSO: ", t, pairs::TSO);
-    say_model(name, b" PSO: ", t, pairs::PSO);
-    say_model(name, b" WMO: ", t, pairs::WMO);
+    say_model(stdout, name, b" SC: ", t, pairs::SC)?;
+    say_model(stdout, name, b" TSO: ", t, pairs::TSO)?;
+    say_model(stdout, name, b" PSO: ", t, pairs::PSO)?;
+    say_model(stdout, name, b" WMO: ", t, pairs::WMO)
 }
 
 // One trace, from the file that argument i names.
-fn case(i: usize) {
+fn case(rt: &(impl Files + Env), stdout: Stdout, i: usize) -> io::Result<()> {
     let mut name = [0u8; 64];
-    let n = os::arg(i, &mut name);
+    let n = arg(rt, i, &mut name);
     let path = &name[..n];
-    let file = os::open_read(path);
     let mut text = [0u8; 32769];
-    let got = io::read_full(file, &mut text);
-    libc::close(file);
-    answer(path, &text[..got]);
+    let got = fill_file(rt, path, &mut text)?;
+    answer(stdout, path, &text[..got])
 }
 
-fn main() {
-    let count = os::arg_count();
-    let mut i: usize = 1;
-    while i < count {
-        case(i);
-        i += 1;
+fn main(rt: HostRuntime) -> io::Result<()> {
+    for i in 1..arg_count(&rt) {
+        case(&rt, rt.stdout(), i)?;
     }
+    Ok(())
 }

@@ -12,7 +12,9 @@ use reader::turns::number;
 use reader::{Answer, LOST};
 use reasons::listing::{Listed, write};
 use saying::input::fill;
-use saying::{refuse_at, say, tell};
+use saying::{fail, refuse_at, say, tell};
+use std::io;
+use std::io::{Stderr, Stdin, Stdout};
 use trace::Trace;
 
 // One byte more than a text may have, so that a text that is too long shows itself.
@@ -79,96 +81,96 @@ fn first_list(t: Trace, room: &mut [u16]) -> Found {
 }
 
 // The line with a model's name.
-fn say_model(model: u8) -> bool {
+fn say_model(stdout: Stdout, model: u8) -> io::Result<()> {
     match model {
-        1 => say(b"SC\n"),
-        2 => say(b"TSO\n"),
-        3 => say(b"PSO\n"),
-        _ => say(b"WMO\n"),
+        1 => say(stdout, b"SC\n"),
+        2 => say(stdout, b"TSO\n"),
+        3 => say(stdout, b"PSO\n"),
+        _ => say(stdout, b"WMO\n"),
     }
 }
 
 // Prints a list in words.
-fn say_words(list: &[u16], model: u8) -> bool {
+fn say_words(stdout: Stdout, list: &[u16], model: u8) -> io::Result<()> {
     let mut numbers = [0usize; OPEN];
     let mut xs = [0u16; OPEN];
     let mut ys = [0u16; OPEN];
-    say_model(model) & say_lines(list, &mut numbers, &mut xs, &mut ys)
+    say_model(stdout, model)?;
+    say_lines(stdout, list, &mut numbers, &mut xs, &mut ys)
 }
 
 // Prints a list in numbers or in words.
-fn say_list(list: &[u16], model: u8, numbers: bool) -> bool {
+fn say_list(stdout: Stdout, list: &[u16], model: u8, numbers: bool) -> io::Result<()> {
     if numbers {
-        return say_numbers(list);
+        return say_numbers(stdout, list);
     }
-    say_words(list, model)
+    say_words(stdout, list, model)
 }
 
 // Prints why there is no list.
-fn say_none(long: bool) -> bool {
+fn say_none(stdout: Stdout, long: bool) -> io::Result<()> {
     if long {
-        return say(b"too long\n");
+        return say(stdout, b"too long\n");
     }
-    say(b"nothing to show\n")
+    say(stdout, b"nothing to show\n")
 }
 
 // Prints the list that was found, which is the front of the memory, or why there is none.
-fn say_found(room: &[u16], found: Found, numbers: bool) -> bool {
+fn say_found(stdout: Stdout, room: &[u16], found: Found, numbers: bool) -> io::Result<()> {
     let count = found.count;
     if count == 0 {
-        return say_none(found.long);
+        return say_none(stdout, found.long);
     }
     if room.len() < count {
-        return say_none(true);
+        return say_none(stdout, true);
     }
-    say_list(&room[0..count], found.model, numbers)
+    say_list(stdout, &room[0..count], found.model, numbers)
 }
 
-// Finds the list that is asked for and prints it. False where it could not be written.
-fn show(t: Trace, what: Wanted) -> bool {
+// Finds the list that is asked for and prints it.
+fn show(stdout: Stdout, t: Trace, what: Wanted) -> io::Result<()> {
     let mut room = [0u16; NUMBERS];
     if what.model == 0 {
         let first = first_list(t, &mut room);
-        return say_found(&room, first, what.numbers);
+        return say_found(stdout, &room, first, what.numbers);
     }
     let found = list_under(t, what.model, &mut room);
-    say_found(&room, found, what.numbers)
+    say_found(stdout, &room, found, what.numbers)
 }
 
-// Whether all could be written of what a text comes to.
-fn answered(text: &[u8], what: Wanted) -> bool {
+// Prints what a text comes to, or tells why it is turned back.
+fn answered(stdout: Stdout, stderr: Stderr, text: &[u8], what: Wanted) -> io::Result<()> {
     let reading = reader::read_whole(text);
     let answer = reading.answer;
     match answer {
-        Answer::Good => show(reading.trace, what),
-        Answer::Refused { reason, line } => {
-            refuse_at(number(reason), b" line ", line);
-            true
-        }
-        Answer::Lost => {
-            refuse_at(LOST, b" line ", 0);
-            true
-        }
+        Answer::Good => show(stdout, reading.trace, what),
+        Answer::Refused { reason, line } => refuse_at(stderr, number(reason), b" line ", line),
+        Answer::Lost => refuse_at(stderr, LOST, b" line ", 0),
     }
 }
 
 // Reads the text and answers it. Where a read failed nothing is told: half a trace may have an order where the whole one has none.
-fn watch(what: Wanted) {
+fn watch(mut stdin: Stdin, stdout: Stdout, stderr: Stderr, what: Wanted) -> io::Result<()> {
     let mut text: [u8; ROOM] = [0; 32769];
-    let got = fill(&mut text);
+    let got = fill(&mut stdin, &mut text);
     let n = got.count;
-    if !got.whole {
-        os::fail(b"paper: standard input");
-    } else if !answered(&text[..n], what) {
-        os::fail(b"paper: standard output");
+    if let Err(why) = got.whole {
+        return fail(stderr, b"paper: standard input", why);
+    }
+    match answered(stdout, stderr, &text[..n], what) {
+        Ok(()) => Ok(()),
+        Err(why) => fail(stderr, b"paper: standard output", why),
     }
 }
 
-fn main() {
-    let what = asked();
+fn main(rt: HostRuntime) -> io::Result<()> {
+    let what = asked(&rt);
     if what.good {
-        watch(what);
+        watch(rt.stdin(), rt.stdout(), rt.stderr(), what)
     } else {
-        tell(b"usage: paper [numbers] [sc, tso, pso or wmo] < TRACE\n");
+        tell(
+            rt.stderr(),
+            b"usage: paper [numbers] [sc, tso, pso or wmo] < TRACE\n",
+        )
     }
 }

@@ -7,13 +7,15 @@ ghost use Rattle.std.specs.Prelude.{◌<◌};
 mod walk;
 mod words;
 
-use libc::STDOUT_FILENO;
 use machine::replaying::steps_of;
 use machine::{STEPS, Steps};
 use pairs::{SC, TSO};
 use reader::Answer;
+use saying::args::arg_count;
 use saying::input::fill;
-use saying::tell;
+use saying::{fail, say, tell};
+use std::io;
+use std::io::{Stderr, Stdin, Stdout};
 use text::Cursor;
 use trace::{RECORDS, THREADS, Trace};
 use verdict::tell::verdict_of;
@@ -46,17 +48,24 @@ fn stores_of(step: u8) -> usize
     0
 }
 
-// A step in words, told its record and from where on its core's stores wait. False where it could not be written.
-fn say_step(t: Trace, model: u8, step: u8, x: usize, waiting: usize) -> bool {
+// A step in words, told its record and from where on its core's stores wait.
+fn say_step(
+    stdout: Stdout,
+    t: Trace,
+    model: u8,
+    step: u8,
+    x: usize,
+    waiting: usize,
+) -> io::Result<()> {
     let op = pairs::op_at(t, x);
     if step < THREADS {
-        return say_run(op, model, (model == TSO) & own(t, x, waiting));
+        return say_run(stdout, op, model, (model == TSO) & own(t, x, waiting));
     }
-    say_empty(op)
+    say_empty(stdout, op)
 }
 
 // The steps of an order in words. What each is about is looked for behind the last record, or the last store, that a step of its kind was about.
-fn say_steps(t: Trace, model: u8, s: Steps) -> bool {
+fn say_steps(stdout: Stdout, t: Trace, model: u8, s: Steps) -> io::Result<()> {
     let len = s.len;
     let mut from = [0usize; KINDS];
     let mut i: usize = 0;
@@ -66,89 +75,96 @@ fn say_steps(t: Trace, model: u8, s: Steps) -> bool {
         let stores = stores_of(step);
         let x = first_from(t, step, from[kind]);
         if len <= i {
-            return true;
+            return Ok(());
         }
         if x < RECORDS {
             from[kind] = x + 1;
-            if !say_step(t, model, step, x, from[stores]) {
-                return false;
-            }
+            say_step(stdout, t, model, step, x, from[stores])?;
         }
         i += 1;
     }
-    true
+    Ok(())
 }
 
 // A part of what is reported.
-fn say_part(report: &[u8], from: usize, to: usize) -> bool {
+fn say_part(stdout: Stdout, report: &[u8], from: usize, to: usize) -> io::Result<()> {
     if from <= to {
         if to <= report.len() {
-            return io::write_all(STDOUT_FILENO, &report[from..to]);
+            return say(stdout, &report[from..to]);
         }
     }
-    true
+    Ok(())
 }
 
 // The steps of the first len operations, where they are an order.
-fn say_order(t: Trace, model: u8, operations: &[u16], len: usize) -> bool {
+fn say_order(
+    stdout: Stdout,
+    t: Trace,
+    model: u8,
+    operations: &[u16],
+    len: usize,
+) -> io::Result<()> {
     if len <= operations.len() {
-        return say_steps(t, model, steps_of(t, model, &operations[0..len]));
+        return say_steps(stdout, t, model, steps_of(t, model, &operations[0..len]));
     }
-    true
+    Ok(())
 }
 
 // The steps of the verdict's order, if it has one.
-fn replay(t: Trace, model: u8) -> bool {
+fn replay(stdout: Stdout, t: Trace, model: u8) -> io::Result<()> {
     let v = verdict_of(t, model);
     let operations = v.operations;
-    say_order(t, model, &operations, v.len)
+    say_order(stdout, t, model, &operations, v.len)
 }
 
 // The line of each of the two models, which are the first that are reported, and its steps below.
-fn say_models(t: Trace, report: &[u8]) -> bool {
+fn say_models(stdout: Stdout, t: Trace, report: &[u8]) -> io::Result<()> {
     let first = Cursor::new().next(report);
     let second = first.next(report);
     let end = first.at;
     let last = second.at;
-    say_part(report, 0, end) && replay(t, SC) && say_part(report, end, last) && replay(t, TSO)
+    say_part(stdout, report, 0, end)?;
+    replay(stdout, t, SC)?;
+    say_part(stdout, report, end, last)?;
+    replay(stdout, t, TSO)
 }
 
-// Whether all of the answer to a text was written.
-fn answered(text: &[u8]) -> bool {
+// Prints the answer to a text.
+fn answered(stdout: Stdout, text: &[u8]) -> io::Result<()> {
     let mut out = [0u8; report::REPORT];
     let n = report::report(text, &mut out);
     let reading = reader::read_whole(text);
     let answer = reading.answer;
     match answer {
-        Answer::Good => say_models(reading.trace, &out),
-        Answer::Refused { reason: _, line: _ } => say_part(&out, 0, n),
-        Answer::Lost => say_part(&out, 0, n),
+        Answer::Good => say_models(stdout, reading.trace, &out),
+        Answer::Refused { reason: _, line: _ } => say_part(stdout, &out, 0, n),
+        Answer::Lost => say_part(stdout, &out, 0, n),
     }
 }
 
-// Prints the answer to a text.
-fn answer(text: &[u8]) {
-    if !answered(text) {
-        os::fail(b"replay: standard output");
+// The same, or the line of what failed.
+fn answer(stdout: Stdout, stderr: Stderr, text: &[u8]) -> io::Result<()> {
+    match answered(stdout, text) {
+        Ok(()) => Ok(()),
+        Err(why) => fail(stderr, b"replay: standard output", why),
     }
 }
 
 // Reads the text and answers it. Where a read failed nothing is replayed: half a trace may be good where the whole one is not.
-fn watch() {
+fn watch(mut stdin: Stdin, stdout: Stdout, stderr: Stderr) -> io::Result<()> {
     let mut text: [u8; ROOM] = [0; 32769];
-    let got = fill(&mut text);
+    let got = fill(&mut stdin, &mut text);
     let n = got.count;
-    if got.whole {
-        answer(&text[..n]);
-    } else {
-        os::fail(b"replay: standard input");
+    match got.whole {
+        Ok(()) => answer(stdout, stderr, &text[..n]),
+        Err(why) => fail(stderr, b"replay: standard input", why),
     }
 }
 
-fn main() {
-    if os::arg_count() > 1 {
-        tell(b"usage: replay < TRACE (it takes no words)\n");
+fn main(rt: HostRuntime) -> io::Result<()> {
+    if arg_count(&rt) > 1 {
+        tell(rt.stderr(), b"usage: replay < TRACE (it takes no words)\n")
     } else {
-        watch();
+        watch(rt.stdin(), rt.stdout(), rt.stderr())
     }
 }

@@ -28,63 +28,63 @@ fn put(to: &impl Print, word: &[u8], n: u64) -> io::Result<()> {
 }
 
 // A word on standard output.
-pub fn say(out: Stdout, word: &[u8]) -> io::Result<()> {
-    out.write_all(word)
+pub fn say(stdout: Stdout, word: &[u8]) -> io::Result<()> {
+    stdout.write_all(word)
 }
 
 // A word and a number behind it on standard output.
-pub fn say_number(out: Stdout, word: &[u8], n: u64) -> io::Result<()> {
-    put(&out, word, n)
+pub fn say_number(stdout: Stdout, word: &[u8], n: u64) -> io::Result<()> {
+    put(&stdout, word, n)
 }
 
-pub fn say_u8(out: Stdout, word: &[u8], n: u8) -> io::Result<()> {
-    put(&out, word, wide8(n))
+pub fn say_u8(stdout: Stdout, word: &[u8], n: u8) -> io::Result<()> {
+    put(&stdout, word, wide8(n))
 }
 
-pub fn say_u16(out: Stdout, word: &[u8], n: u16) -> io::Result<()> {
-    put(&out, word, wide16(n))
+pub fn say_u16(stdout: Stdout, word: &[u8], n: u16) -> io::Result<()> {
+    put(&stdout, word, wide16(n))
 }
 
-pub fn say_usize(out: Stdout, word: &[u8], n: usize) -> io::Result<()> {
-    put(&out, word, long(n))
+pub fn say_usize(stdout: Stdout, word: &[u8], n: usize) -> io::Result<()> {
+    put(&stdout, word, long(n))
 }
 
 // A word on standard error.
-pub fn tell(err: Stderr, word: &[u8]) -> io::Result<()> {
-    err.write_all(word)
+pub fn tell(stderr: Stderr, word: &[u8]) -> io::Result<()> {
+    stderr.write_all(word)
 }
 
 // A word and a number behind it on standard error.
-pub fn tell_u8(err: Stderr, word: &[u8], n: u8) -> io::Result<()> {
-    put(&err, word, wide8(n))
+pub fn tell_u8(stderr: Stderr, word: &[u8], n: u8) -> io::Result<()> {
+    put(&stderr, word, wide8(n))
 }
 
-pub fn tell_u16(err: Stderr, word: &[u8], n: u16) -> io::Result<()> {
-    put(&err, word, wide16(n))
+pub fn tell_u16(stderr: Stderr, word: &[u8], n: u16) -> io::Result<()> {
+    put(&stderr, word, wide16(n))
 }
 
-pub fn tell_usize(err: Stderr, word: &[u8], n: usize) -> io::Result<()> {
-    put(&err, word, long(n))
+pub fn tell_usize(stderr: Stderr, word: &[u8], n: usize) -> io::Result<()> {
+    put(&stderr, word, long(n))
 }
 
 // The line of a refusal that names nothing, on standard error.
-pub fn refuse(err: Stderr, number: u8) -> io::Result<()> {
-    tell_u8(err, b"refused ", number)?;
-    tell(err, b"\n")
+pub fn refuse(stderr: Stderr, number: u8) -> io::Result<()> {
+    tell_u8(stderr, b"refused ", number)?;
+    tell(stderr, b"\n")
 }
 
 // The line of a refusal with the line, the record or the word that is to blame.
-pub fn refuse_at(err: Stderr, number: u8, word: &[u8], place: usize) -> io::Result<()> {
-    tell_u8(err, b"refused ", number)?;
-    tell_usize(err, word, place)?;
-    tell(err, b"\n")
+pub fn refuse_at(stderr: Stderr, number: u8, word: &[u8], place: usize) -> io::Result<()> {
+    tell_u8(stderr, b"refused ", number)?;
+    tell_usize(stderr, word, place)?;
+    tell(stderr, b"\n")
 }
 
 // The line of what failed, as the caller names it, and why, on standard error.
-pub fn fail(err: Stderr, what: &[u8], why: io::Error) -> io::Result<()> {
-    err.write_all(what)?;
-    err.write_all(b": ")?;
-    err.println(why)
+pub fn fail(stderr: Stderr, what: &[u8], why: io::Error) -> io::Result<()> {
+    stderr.write_all(what)?;
+    stderr.write_all(b": ")?;
+    stderr.println(why)
 }
 
 // The first n bytes of a buffer, to a stream; an error where it has fewer.

@@ -3,12 +3,20 @@
 // another, that is said. A script can also forge the session, and make calls at random.
 #![tactic(auto)]
 
+ghost use Rattle.std.specs.Prelude.{◌≤◌, IfOk, length};
+
 use pairs::kind;
 use reader::forms::form;
 use reader::{Form, Raw};
+use saying::args::{arg, arg_count};
+use saying::input::fill_file;
 use saying::{say, say_number, say_usize};
 use session::calls::{add, ask, open, suppose, take_back, waiting};
 use session::{Answer, PAIRS, Pair, Reason, Session, Stack};
+use std::env::Env;
+use std::io;
+use std::io::Stdout;
+use std::rt::Files;
 use text::templates::fit;
 use text::walk::line_end;
 use trace::{FIRSTS, Op, RECORDS, Record, Trace};
@@ -74,14 +82,14 @@ fn number(r: Reason) -> u64 {
     }
 }
 
-fn say_answer(a: Answer) -> bool {
+fn say_answer(stdout: Stdout, a: Answer) -> io::Result<()> {
     match a {
-        Answer::Done => say(b": done"),
-        Answer::Held => say(b": held"),
-        Answer::NotHeld => say(b": not held"),
-        Answer::Contradicted => say(b": contradicted"),
-        Answer::Waits(x) => say_usize(b": waits record ", x),
-        Answer::Refused(r) => say_number(b": refused ", number(r)),
+        Answer::Done => say(stdout, b": done"),
+        Answer::Held => say(stdout, b": held"),
+        Answer::NotHeld => say(stdout, b": not held"),
+        Answer::Contradicted => say(stdout, b": contradicted"),
+        Answer::Waits(x) => say_usize(stdout, b": waits record ", x),
+        Answer::Refused(r) => say_number(stdout, b": refused ", number(r)),
     }
 }
 
@@ -537,17 +545,17 @@ fn counted(c: Counts, a: Answer, right: bool) -> Counts {
     d
 }
 
-fn say_counts(c: Counts) {
-    say_number(b": right ", c.right);
-    say_number(b", done ", c.done);
-    say_number(b", held ", c.held);
-    say_number(b", not held ", c.not_held);
-    say_number(b", contradicted ", c.contradicted);
-    say_number(b", refused ", c.refused);
+fn say_counts(stdout: Stdout, c: Counts) -> io::Result<()> {
+    say_number(stdout, b": right ", c.right)?;
+    say_number(stdout, b", done ", c.done)?;
+    say_number(stdout, b", held ", c.held)?;
+    say_number(stdout, b", not held ", c.not_held)?;
+    say_number(stdout, b", contradicted ", c.contradicted)?;
+    say_number(stdout, b", refused ", c.refused)
 }
 
 // Some calls by chance, each compared.
-fn chance(talk: Talk, calls: u64, seed: u64) -> Talk {
+fn chance(stdout: Stdout, talk: Talk, calls: u64, seed: u64) -> io::Result<Talk> {
     let mut counts = Counts {
         right: 0,
         done: 0,
@@ -570,129 +578,133 @@ fn chance(talk: Talk, calls: u64, seed: u64) -> Talk {
         counts = counted(counts, answer, right(k, before));
         i += 1;
     }
-    say_counts(counts);
-    k
+    say_counts(stdout, counts)?;
+    Ok(k)
 }
 
 // Prints the answer of a call, whether the session is contradicted after a change, and whether it is another than it should be.
-fn told(talk: Talk, before: Session) -> Talk {
+fn told(stdout: Stdout, talk: Talk, before: Session) -> io::Result<Talk> {
     let s = talk.session;
     let answer = talk.answer;
-    say_answer(answer);
+    say_answer(stdout, answer)?;
     if done(answer) & s.contradicted {
-        say(b", contradicted");
+        say(stdout, b", contradicted")?;
     }
     if !right(talk, before) {
-        say(b", another session");
+        say(stdout, b", another session")?;
     }
-    talk
+    Ok(talk)
 }
 
 // A call that names two numbers, one that asks who waits, or a record.
-fn pair_call(talk: Talk, line: &[u8]) -> Talk {
+fn pair_call(stdout: Stdout, talk: Talk, line: &[u8]) -> io::Result<Talk> {
     let before = talk.session;
     let f = fit(b"suppose # #", line, 0);
     if f.fits {
         let n = f.numbers;
-        return told(supposed(talk, wide(n[0]), wide(n[1])), before);
+        return told(stdout, supposed(talk, wide(n[0]), wide(n[1])), before);
     }
     let f = fit(b"ask # #", line, 0);
     if f.fits {
         let n = f.numbers;
-        return told(asked(talk, wide(n[0]), wide(n[1])), before);
+        return told(stdout, asked(talk, wide(n[0]), wide(n[1])), before);
     }
     let f = fit(b"chance # #", line, 0);
     if f.fits {
         let n = f.numbers;
-        return chance(talk, wide64(n[0]), wide64(n[1]));
+        return chance(stdout, talk, wide64(n[0]), wide64(n[1]));
     }
     let f = fit(b"waiting", line, 0);
     if f.fits {
-        return told(looked(talk), before);
+        return told(stdout, looked(talk), before);
     }
     match form(line) {
-        Form::Of(raw) => told(added(talk, record_of(raw)), before),
+        Form::Of(raw) => told(stdout, added(talk, record_of(raw)), before),
         Form::Nothing => {
-            say(b": no such call");
-            talk
+            say(stdout, b": no such call")?;
+            Ok(talk)
         }
     }
 }
 
 // One line of a script.
-fn call(talk: Talk, t: Trace, line: &[u8]) -> Talk {
+fn call(stdout: Stdout, talk: Talk, t: Trace, line: &[u8]) -> io::Result<Talk> {
     let before = talk.session;
-    say(line);
+    say(stdout, line)?;
     let f = fit(b"open #", line, 0);
     if f.fits {
         let n = f.numbers;
-        return told(opened(t, model_of(n[0])), before);
+        return told(stdout, opened(t, model_of(n[0])), before);
     }
     let f = fit(b"open damaged # #", line, 0);
     if f.fits {
         let n = f.numbers;
-        return told(opened(damaged(t, wide(n[1])), model_of(n[0])), before);
+        return told(
+            stdout,
+            opened(damaged(t, wide(n[1])), model_of(n[0])),
+            before,
+        );
     }
     let f = fit(b"take back", line, 0);
     if f.fits {
-        return told(taken_back(talk), before);
+        return told(stdout, taken_back(talk), before);
     }
     let f = fit(b"forge #", line, 0);
     if f.fits {
         let n = f.numbers;
-        return with_forged(talk, wide(n[0]));
+        return Ok(with_forged(talk, wide(n[0])));
     }
-    pair_call(talk, line)
+    pair_call(stdout, talk, line)
 }
 
 // A script, line by line.
-fn conversation(t: Trace, script: &[u8]) {
+fn conversation(stdout: Stdout, t: Trace, script: &[u8]) -> io::Result<()> {
     let mut talk = opened(trace::empty(), 1);
     let mut at: usize = 0;
     while at < script.len() {
         let end = line_end(script, at);
-        talk = call(talk, t, &script[at..end]);
-        say(b"\n");
+        talk = call(stdout, talk, t, &script[at..end])?;
+        say(stdout, b"\n")?;
         at = end + 1;
     }
+    Ok(())
 }
 
-// Opens the file that argument i names, and prints its name.
-fn named(i: usize) -> i32 {
+// What the file that argument i names has, in lent memory; its name is printed.
+fn named(rt: &(impl Files + Env), stdout: Stdout, i: usize, buf: &mut [u8]) -> io::Result<usize>
+    ensures { IfOk result (λ n. n ≤ length buf.new) }
+{
     let mut name = [0u8; 64];
-    let n = os::arg(i, &mut name);
+    let n = arg(rt, i, &mut name);
     let path = &name[..n];
-    say(path);
-    os::open_read(path)
+    say(stdout, path)?;
+    fill_file(rt, path, buf)
 }
 
 // The trace that argument i names, and the script that argument j names.
-fn case(i: usize, j: usize) {
+fn case(rt: &(impl Files + Env), stdout: Stdout, i: usize, j: usize) -> io::Result<()> {
     let mut text = [0u8; 32769];
-    let file = named(i);
-    let n = io::read_full(file, &mut text);
-    libc::close(file);
-    say(b" ");
+    let n = named(rt, stdout, i, &mut text)?;
+    say(stdout, b" ")?;
     let mut script = [0u8; 32769];
-    let file = named(j);
-    let m = io::read_full(file, &mut script);
-    libc::close(file);
-    say(b"\n");
+    let m = named(rt, stdout, j, &mut script)?;
+    say(stdout, b"\n")?;
     let r = reader::read(&text[..n]);
-    conversation(r.trace, &script[..m]);
+    conversation(stdout, r.trace, &script[..m])
 }
 
 // The arguments in twos: a trace, and a script.
-fn main() {
-    let count = os::arg_count();
+fn main(rt: HostRuntime) -> io::Result<()> {
+    let count = arg_count(&rt);
     let mut i: usize = 1;
     while i < count {
         let j = i + 1;
         if j < count {
-            case(i, j);
+            case(&rt, rt.stdout(), i, j)?;
             i = j + 1;
         } else {
             i = j;
         }
     }
+    Ok(())
 }

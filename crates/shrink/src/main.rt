@@ -6,130 +6,126 @@
 mod cores;
 
 use cores::{closed_up, numbered, used};
-use libc::{STDERR_FILENO, STDOUT_FILENO};
 use pairs::modelled;
 use reader::Answer;
 use report::render::{RENDER, render};
+use saying::args::{arg, arg_count};
 use saying::input::fill;
-use saying::{front, tell_u8, tell_u16, tell_usize};
+use saying::{fail, front, tell_u8, tell_u16, tell_usize};
 use smaller::Smaller;
 use smaller::cut::smaller;
+use std::env::Env;
+use std::io;
+use std::io::{Stderr, Stdin, Stdout};
 use trace::{THREADS, Trace};
 
 // One byte more than a text may have, so that a text that is too long shows itself.
 const ROOM: usize = 32769;
 
 // The old number of each record that is left.
-fn say_olds(olds: &[u16], left: usize) {
+fn say_olds(stderr: Stderr, olds: &[u16], left: usize) -> io::Result<()> {
     let mut i: usize = 0;
     while i < olds.len() {
         if i < left {
-            tell_usize(b"", i);
-            tell_u16(b" was ", olds[i]);
-            saying::tell(b"\n");
+            tell_usize(stderr, b"", i)?;
+            tell_u16(stderr, b" was ", olds[i])?;
+            saying::tell(stderr, b"\n")?;
         }
         i += 1;
     }
+    Ok(())
 }
 
 // Each core that gets another number.
-fn say_cores(t: Trace) {
+fn say_cores(stderr: Stderr, t: Trace) -> io::Result<()> {
     let mut old: u8 = 0;
     while old < THREADS {
         let new = numbered(t, old);
         if used(t, old) && new < old {
-            tell_u8(b"core ", new);
-            tell_u8(b" was ", old);
-            saying::tell(b"\n");
+            tell_u8(stderr, b"core ", new)?;
+            tell_u8(stderr, b" was ", old)?;
+            saying::tell(stderr, b"\n")?;
         }
         old += 1;
     }
+    Ok(())
 }
 
 // What the program at the bench answers to a text.
-fn say_answer(text: &[u8]) {
+fn say_answer(stderr: Stderr, text: &[u8]) -> io::Result<()> {
     let mut out = [0u8; report::REPORT];
     let n = report::report(text, &mut out);
-    front(STDERR_FILENO, &out, n);
+    front(&stderr, &out, n)
 }
 
 // The same for the first bytes of a buffer.
-fn say_verdicts(text: &[u8], n: usize) {
+fn say_verdicts(stderr: Stderr, text: &[u8], n: usize) -> io::Result<()> {
     if n <= text.len() {
-        say_answer(&text[0..n]);
+        return say_answer(stderr, &text[0..n]);
     }
+    Ok(())
 }
 
-// The text of a trace, and its verdicts. False where the text could not be written.
-fn hand_over(t: Trace) -> bool {
+// The text of a trace, and its verdicts, also where the text could not be written.
+fn hand_over(stdout: Stdout, stderr: Stderr, t: Trace) -> io::Result<()> {
     let mut out = [0u8; RENDER];
     let n = render(t, &mut out);
-    let done = front(STDOUT_FILENO, &out, n);
-    say_verdicts(&out, n);
+    let done = front(&stdout, &out, n);
+    say_verdicts(stderr, &out, n)?;
     done
 }
 
 // What is left.
-fn leave(s: Smaller) -> bool {
+fn leave(stdout: Stdout, stderr: Stderr, s: Smaller) -> io::Result<()> {
     let part = s.trace;
     let olds = s.olds;
-    say_olds(&olds, part.len);
-    say_cores(part);
-    hand_over(closed_up(part))
+    say_olds(stderr, &olds, part.len)?;
+    say_cores(stderr, part)?;
+    hand_over(stdout, stderr, closed_up(part))
 }
 
 // What came of cutting a trace down.
-fn tell(s: Smaller) -> bool {
+fn tell(stdout: Stdout, stderr: Stderr, s: Smaller) -> io::Result<()> {
     let answer = s.answer;
     match answer {
-        smaller::Answer::Cut => leave(s),
-        smaller::Answer::NothingWrong => {
-            saying::tell(b"nothing wrong\n");
-            true
-        }
+        smaller::Answer::Cut => leave(stdout, stderr, s),
+        smaller::Answer::NothingWrong => saying::tell(stderr, b"nothing wrong\n"),
         smaller::Answer::NoSource(x) => {
-            tell_usize(b"no source ", x);
-            saying::tell(b"\n");
-            true
+            tell_usize(stderr, b"no source ", x)?;
+            saying::tell(stderr, b"\n")
         }
-        smaller::Answer::NoModel => true,
-        smaller::Answer::NotWellFormed => true,
-    }
-}
-
-// Whether all that goes to standard output was written.
-fn answered(text: &[u8], model: u8) -> bool {
-    let reading = reader::read_whole(text);
-    let answer = reading.answer;
-    match answer {
-        Answer::Good => tell(smaller(reading.trace, model)),
-        Answer::Refused { reason: _, line: _ } => {
-            say_answer(text);
-            true
-        }
-        Answer::Lost => {
-            say_answer(text);
-            true
-        }
+        smaller::Answer::NoModel => Ok(()),
+        smaller::Answer::NotWellFormed => Ok(()),
     }
 }
 
 // Cuts the trace of a text down.
-fn answer(text: &[u8], model: u8) {
-    if !answered(text, model) {
-        os::fail(b"shrink: standard output");
+fn answered(stdout: Stdout, stderr: Stderr, text: &[u8], model: u8) -> io::Result<()> {
+    let reading = reader::read_whole(text);
+    let answer = reading.answer;
+    match answer {
+        Answer::Good => tell(stdout, stderr, smaller(reading.trace, model)),
+        Answer::Refused { reason: _, line: _ } => say_answer(stderr, text),
+        Answer::Lost => say_answer(stderr, text),
+    }
+}
+
+// The same, or the line of what failed.
+fn answer(stdout: Stdout, stderr: Stderr, text: &[u8], model: u8) -> io::Result<()> {
+    match answered(stdout, stderr, text, model) {
+        Ok(()) => Ok(()),
+        Err(why) => fail(stderr, b"shrink: standard output", why),
     }
 }
 
 // Reads the text and cuts it down. Where a read failed nothing is cut: half a trace may be good where the whole one is not.
-fn watch(model: u8) {
+fn watch(mut stdin: Stdin, stdout: Stdout, stderr: Stderr, model: u8) -> io::Result<()> {
     let mut text: [u8; ROOM] = [0; 32769];
-    let got = fill(&mut text);
+    let got = fill(&mut stdin, &mut text);
     let n = got.count;
-    if got.whole {
-        answer(&text[..n], model);
-    } else {
-        os::fail(b"shrink: standard input");
+    match got.whole {
+        Ok(()) => answer(stdout, stderr, &text[..n], model),
+        Err(why) => fail(stderr, b"shrink: standard input", why),
     }
 }
 
@@ -145,23 +141,26 @@ fn digit(b: u8) -> u8 {
 }
 
 // The model that the one word names by its number; 0 where there is none, or it names none.
-fn asked() -> u8 {
-    if os::arg_count() != 2 {
+fn asked(rt: &impl Env) -> u8 {
+    if arg_count(rt) != 2 {
         return 0;
     }
     let mut word = [0u8; 2];
-    let n = os::arg(1, &mut word);
+    let n = arg(rt, 1, &mut word);
     if n != 1 {
         return 0;
     }
     digit(word[0])
 }
 
-fn main() {
-    let model = asked();
+fn main(rt: HostRuntime) -> io::Result<()> {
+    let model = asked(&rt);
     if modelled(model) {
-        watch(model);
+        watch(rt.stdin(), rt.stdout(), rt.stderr(), model)
     } else {
-        saying::tell(b"usage: shrink MODEL < TRACE (1 is SC, 2 TSO, 3 PSO, 4 WMO)\n");
+        saying::tell(
+            rt.stderr(),
+            b"usage: shrink MODEL < TRACE (1 is SC, 2 TSO, 3 PSO, 4 WMO)\n",
+        )
     }
 }

@@ -8,9 +8,11 @@ ghost use Rattle.std.specs.Prelude.{◌≤◌, length};
 mod asking;
 mod telling;
 
-use libc::STDIN_FILENO;
+use saying::args::arg_count;
 use saying::input::interrupted;
-use saying::{say, say_u8, say_usize, tell};
+use saying::{fail, say, say_u8, say_usize, tell};
+use std::io;
+use std::io::{Read, Stderr, Stdin, Stdout};
 use telling::{Said, Talk, Told, answer, fresh};
 
 // One byte more than a line may have, so that a line that is too long shows itself.
@@ -24,25 +26,28 @@ const TURNS: u64 = 18446744073709551615;
 
 const FEED: u8 = 10;
 
-// A talk after a piece of the input: how many bytes of the line that has not ended are kept, and whether all answers could be written.
+// A talk after a piece of the input: how many bytes of the line that has not ended are kept, and whether all answers could be written; if not, why.
 #[derive(Clone, Copy)]
 struct Heard {
     talk: Talk,
     count: usize,
-    spoke: bool,
+    spoke: io::Result<()>,
 }
 
 // The words of an answer, without its line feed.
-fn say_told(told: Told) -> bool {
+fn say_told(stdout: Stdout, told: Told) -> io::Result<()> {
     match told {
-        Told::Done => say(b"done"),
-        Told::Record(x) => say_usize(b"record ", x),
-        Told::Held => say(b"held"),
-        Told::NotHeld => say(b"not held"),
-        Told::Contradicted => say(b"contradicted"),
-        Told::Waits(x) => say_usize(b"record ", x) && say(b" waits"),
-        Told::NoneWaits => say(b"none waits"),
-        Told::Refused(n) => say_u8(b"refused ", n),
+        Told::Done => say(stdout, b"done"),
+        Told::Record(x) => say_usize(stdout, b"record ", x),
+        Told::Held => say(stdout, b"held"),
+        Told::NotHeld => say(stdout, b"not held"),
+        Told::Contradicted => say(stdout, b"contradicted"),
+        Told::Waits(x) => {
+            say_usize(stdout, b"record ", x)?;
+            say(stdout, b" waits")
+        }
+        Told::NoneWaits => say(stdout, b"none waits"),
+        Told::Refused(n) => say_u8(stdout, b"refused ", n),
     }
 }
 
@@ -60,23 +65,21 @@ fn changed(told: Told) -> bool {
     }
 }
 
-// The line of an answer; behind a change, whether the session is contradicted now. False where it could not be written.
-fn spoken(said: Said) -> bool {
+// The line of an answer; behind a change, whether the session is contradicted now.
+fn spoken(stdout: Stdout, said: Said) -> io::Result<()> {
     let told = said.told;
     let talk = said.talk;
     let session = talk.session;
-    if !say_told(told) {
-        return false;
-    }
+    say_told(stdout, told)?;
     if changed(told) && session.contradicted {
-        return say(b", contradicted\n");
+        return say(stdout, b", contradicted\n");
     }
-    say(b"\n")
+    say(stdout, b"\n")
 }
 
 // Takes a piece of the input: each line that ends in it is answered, and what is left is kept for the next piece; of a line that is too long, one byte
 // more than a line may have.
-fn hear(from: Talk, line: &mut [u8], had: usize, came: &[u8]) -> Heard
+fn hear(stdout: Stdout, from: Talk, line: &mut [u8], had: usize, came: &[u8]) -> Heard
     requires { had ≤ length line.old }
     ensures { result.count ≤ length line.new }
 {
@@ -89,11 +92,11 @@ fn hear(from: Talk, line: &mut [u8], had: usize, came: &[u8]) -> Heard
             let said = answer(talk, &line[..count], true);
             talk = said.talk;
             count = 0;
-            if !spoken(said) {
+            if let Err(why) = spoken(stdout, said) {
                 return Heard {
                     talk,
                     count: 0,
-                    spoke: false,
+                    spoke: Err(why),
                 };
             }
         } else if count < line.len() {
@@ -105,52 +108,53 @@ fn hear(from: Talk, line: &mut [u8], had: usize, came: &[u8]) -> Heard
     Heard {
         talk,
         count,
-        spoke: true,
+        spoke: Ok(()),
     }
 }
 
 // Answers a last line that has no line feed, where there is one.
-fn last(talk: Talk, line: &[u8]) {
+fn last(stdout: Stdout, stderr: Stderr, talk: Talk, line: &[u8]) -> io::Result<()> {
     if 0 < line.len() {
-        if !spoken(answer(talk, line, false)) {
-            os::fail(b"talk: standard output");
+        if let Err(why) = spoken(stdout, answer(talk, line, false)) {
+            return fail(stderr, b"talk: standard output", why);
         }
     }
+    Ok(())
 }
 
 // Waits for input and answers it, until it has ended.
-fn listen() {
+fn listen(mut stdin: Stdin, stdout: Stdout, stderr: Stderr) -> io::Result<()> {
     let mut talk = fresh();
     let mut line = [0u8; ROOM];
     let mut count: usize = 0;
     let mut came = [0u8; PIECE];
-    let mut left = TURNS;
-    while left > 0 {
-        left -= 1;
-        let got = libc::read(STDIN_FILENO, &mut came);
-        let n = io::count(got, &came);
-        if n > 0 {
-            let heard = hear(talk, &mut line, count, &came[..n]);
-            talk = heard.talk;
-            count = heard.count;
-            if !heard.spoke {
-                os::fail(b"talk: standard output");
-                return;
+    for _ in 0..TURNS {
+        match stdin.read(&mut came) {
+            Ok(n) => {
+                if n == 0 {
+                    return last(stdout, stderr, talk, &line[..count]);
+                }
+                let heard = hear(stdout, talk, &mut line, count, &came[..n]);
+                talk = heard.talk;
+                count = heard.count;
+                if let Err(why) = heard.spoke {
+                    return fail(stderr, b"talk: standard output", why);
+                }
             }
-        } else if got == 0 {
-            last(talk, &line[..count]);
-            return;
-        } else if !interrupted() {
-            os::fail(b"talk: standard input");
-            return;
+            Err(why) => {
+                if !interrupted(&why) {
+                    return fail(stderr, b"talk: standard input", why);
+                }
+            }
         }
     }
+    Ok(())
 }
 
-fn main() {
-    if os::arg_count() > 1 {
-        tell(b"usage: talk < LINES (it takes no words)\n");
+fn main(rt: HostRuntime) -> io::Result<()> {
+    if arg_count(&rt) > 1 {
+        tell(rt.stderr(), b"usage: talk < LINES (it takes no words)\n")
     } else {
-        listen();
+        listen(rt.stdin(), rt.stdout(), rt.stderr())
     }
 }

@@ -2,12 +2,14 @@
 // and nothing is written. Where it could not read or write, or was given words, it says so on standard error.
 #![tactic(auto)]
 
-use libc::STDOUT_FILENO;
 use packed::unpacking::read_whole;
 use packed::{Answer, number};
 use report::render::{RENDER, render};
+use saying::args::arg_count;
 use saying::input::fill;
-use saying::{front, refuse_at, tell};
+use saying::{fail, front, refuse_at, tell};
+use std::io;
+use std::io::{Stderr, Stdin, Stdout};
 use trace::Trace;
 
 // One byte more than a file whose head says how long it is may have, with 255 first values and 65,535 records: what is longer is left over, however
@@ -15,45 +17,48 @@ use trace::Trace;
 const ROOM: usize = 525054;
 
 // Prints the first n bytes of a text.
-fn show(text: &[u8], n: usize) {
-    if !front(STDOUT_FILENO, text, n) {
-        os::fail(b"unpack: standard output");
+fn show(stdout: Stdout, stderr: Stderr, text: &[u8], n: usize) -> io::Result<()> {
+    match front(&stdout, text, n) {
+        Ok(()) => Ok(()),
+        Err(why) => fail(stderr, b"unpack: standard output", why),
     }
 }
 
 // Prints the text of a trace.
-fn print(t: Trace) {
+fn print(stdout: Stdout, stderr: Stderr, t: Trace) -> io::Result<()> {
     let mut text = [0u8; RENDER];
     let n = render(t, &mut text);
-    show(&text, n);
+    show(stdout, stderr, &text, n)
 }
 
 // Prints the text of a file's trace, or why there is none.
-fn answer(file: &[u8]) {
+fn answer(stdout: Stdout, stderr: Stderr, file: &[u8]) -> io::Result<()> {
     let reading = read_whole(file);
     let answer = reading.answer;
     match answer {
-        Answer::Good => print(reading.trace),
-        Answer::Refused { reason, line } => refuse_at(number(reason), b" line ", line),
+        Answer::Good => print(stdout, stderr, reading.trace),
+        Answer::Refused { reason, line } => refuse_at(stderr, number(reason), b" line ", line),
     }
 }
 
 // Reads the file and unpacks it. Where a read failed nothing is told: half a file is none.
-fn unpack() {
+fn unpack(mut stdin: Stdin, stdout: Stdout, stderr: Stderr) -> io::Result<()> {
     let mut file: [u8; ROOM] = [0; 525054];
-    let got = fill(&mut file);
+    let got = fill(&mut stdin, &mut file);
     let n = got.count;
-    if got.whole {
-        answer(&file[..n]);
-    } else {
-        os::fail(b"unpack: standard input");
+    match got.whole {
+        Ok(()) => answer(stdout, stderr, &file[..n]),
+        Err(why) => fail(stderr, b"unpack: standard input", why),
     }
 }
 
-fn main() {
-    if os::arg_count() > 1 {
-        tell(b"usage: unpack < FILE > TRACE (it takes no words)\n");
+fn main(rt: HostRuntime) -> io::Result<()> {
+    if arg_count(&rt) > 1 {
+        tell(
+            rt.stderr(),
+            b"usage: unpack < FILE > TRACE (it takes no words)\n",
+        )
     } else {
-        unpack();
+        unpack(rt.stdin(), rt.stdout(), rt.stderr())
     }
 }

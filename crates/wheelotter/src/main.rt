@@ -2,38 +2,43 @@
 // write, or was given words, it says so on standard error.
 #![tactic(auto)]
 
-use libc::STDOUT_FILENO;
+use saying::args::arg_count;
 use saying::input::fill;
-use saying::tell;
+use saying::{fail, tell};
+use std::io;
+use std::io::{Stderr, Stdin, Stdout};
 
 // One byte more than a text may have, so that a text that is too long shows itself.
 const ROOM: usize = 32769;
 
 // Prints the answer to a text.
-fn answer(text: &[u8]) {
+fn answer(stdout: Stdout, stderr: Stderr, text: &[u8]) -> io::Result<()> {
     let mut out = [0u8; report::REPORT];
     let n = report::report(text, &mut out);
-    if !io::write_all(STDOUT_FILENO, &out[..n]) {
-        os::fail(b"wheelotter: standard output");
+    match stdout.write_all(&out[..n]) {
+        Ok(()) => Ok(()),
+        Err(why) => fail(stderr, b"wheelotter: standard output", why),
     }
 }
 
 // Reads the text and answers it. Where a read failed nothing is judged: half a trace may be good where the whole one is not.
-fn judge() {
+fn judge(mut stdin: Stdin, stdout: Stdout, stderr: Stderr) -> io::Result<()> {
     let mut text: [u8; ROOM] = [0; 32769];
-    let got = fill(&mut text);
+    let got = fill(&mut stdin, &mut text);
     let n = got.count;
-    if got.whole {
-        answer(&text[..n]);
-    } else {
-        os::fail(b"wheelotter: standard input");
+    match got.whole {
+        Ok(()) => answer(stdout, stderr, &text[..n]),
+        Err(why) => fail(stderr, b"wheelotter: standard input", why),
     }
 }
 
-fn main() {
-    if os::arg_count() > 1 {
-        tell(b"usage: wheelotter < TRACE (it takes no words)\n");
+fn main(rt: HostRuntime) -> io::Result<()> {
+    if arg_count(&rt) > 1 {
+        tell(
+            rt.stderr(),
+            b"usage: wheelotter < TRACE (it takes no words)\n",
+        )
     } else {
-        judge();
+        judge(rt.stdin(), rt.stdout(), rt.stderr())
     }
 }

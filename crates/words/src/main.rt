@@ -8,65 +8,67 @@ mod list;
 use list::{empty_line, numbers};
 use reader::LOST;
 use reader::turns::number;
+use saying::args::{arg, arg_count};
 use saying::input::fill;
-use saying::{refuse, refuse_at, say, say_number, say_u16, tell};
+use saying::{fail, refuse, refuse_at, say, say_number, say_u16, tell};
 use signature::packing::{loads_of, pack, words_in, words_of};
 use signature::unpacking::unpack;
+use std::env::Env;
+use std::io;
+use std::io::{Stderr, Stdin, Stdout};
 use trace::{RECORDS, THREADS, Trace};
 
 // How many bytes are read: a text of the longest, an empty line, and words in plenty; and one more, so that a longer input shows itself.
 const ROOM: usize = 65537;
 
 // Prints words with spaces between, and ends the line.
-fn print_line(words: &[u64]) -> bool {
-    let mut good = true;
+fn print_line(stdout: Stdout, words: &[u64]) -> io::Result<()> {
     let mut i: usize = 0;
     while i < words.len() {
         if 0 < i {
-            good = good & say(b" ");
+            say(stdout, b" ")?;
         }
-        good = good & say_number(b"", words[i]);
+        say_number(stdout, b"", words[i])?;
         i += 1;
     }
-    good & say(b"\n")
+    say(stdout, b"\n")
 }
 
 // Prints the words of each thread, a line each.
-fn print_threads(t: Trace, words: &[u64]) -> bool {
-    let mut good = true;
+fn print_threads(stdout: Stdout, t: Trace, words: &[u64]) -> io::Result<()> {
     let mut at: usize = 0;
     let mut core: u8 = 0;
     while core < THREADS {
         let count = words_in(t, core);
         if count <= words.len() - at {
             let end = at + count;
-            good = good & print_line(&words[at..end]);
+            print_line(stdout, &words[at..end])?;
             at = end;
         }
         core += 1;
     }
-    good
+    Ok(())
 }
 
 // Prints reads, a line each.
-fn print_reads(reads: &[u16]) -> bool {
-    let mut good = true;
+fn print_reads(stdout: Stdout, reads: &[u16]) -> io::Result<()> {
     let mut i: usize = 0;
     while i < reads.len() {
-        good = good & say_u16(b"", reads[i]) & say(b"\n");
+        say_u16(stdout, b"", reads[i])?;
+        say(stdout, b"\n")?;
         i += 1;
     }
-    good
+    Ok(())
 }
 
 // Tells why nothing is printed.
-fn refused(answer: signature::Answer) {
+fn refused(stderr: Stderr, answer: signature::Answer) -> io::Result<()> {
     match answer {
-        signature::Answer::Done => {}
-        signature::Answer::NotWellFormed => refuse(10),
-        signature::Answer::WrongLength => refuse(26),
-        signature::Answer::NotListed(load) => refuse_at(23, b" record ", load),
-        signature::Answer::TooLarge(word) => refuse_at(24, b" word ", word),
+        signature::Answer::Done => Ok(()),
+        signature::Answer::NotWellFormed => refuse(stderr, 10),
+        signature::Answer::WrongLength => refuse(stderr, 26),
+        signature::Answer::NotListed(load) => refuse_at(stderr, 23, b" record ", load),
+        signature::Answer::TooLarge(word) => refuse_at(stderr, 24, b" word ", word),
     }
 }
 
@@ -80,117 +82,130 @@ fn done(answer: signature::Answer) -> bool {
     }
 }
 
-// The words of a trace's reads, in lent memory of their number. False where they could not be written.
-fn forth_into(t: Trace, words: &mut [u64]) -> bool {
+// The words of a trace's reads, in lent memory of their number.
+fn forth_into(stdout: Stdout, stderr: Stderr, t: Trace, words: &mut [u64]) -> io::Result<()> {
     let answer = pack(t, words);
     if done(answer) {
-        return print_threads(t, words);
+        return print_threads(stdout, t, words);
     }
-    refused(answer);
-    true
+    refused(stderr, answer)
 }
 
 // The same with memory for them.
-fn forth(t: Trace) -> bool {
+fn forth(stdout: Stdout, stderr: Stderr, t: Trace) -> io::Result<()> {
     let n = words_of(t);
     if RECORDS < n {
-        return true;
+        return Ok(());
     }
     let mut words = [0u64; RECORDS];
-    forth_into(t, &mut words[..n])
+    forth_into(stdout, stderr, t, &mut words[..n])
 }
 
-// The reads that words stand for, in lent memory of their number. False where they could not be written.
-fn back_into(t: Trace, words: &[u64], reads: &mut [u16]) -> bool {
+// The reads that words stand for, in lent memory of their number.
+fn back_into(
+    stdout: Stdout,
+    stderr: Stderr,
+    t: Trace,
+    words: &[u64],
+    reads: &mut [u16],
+) -> io::Result<()> {
     let answer = unpack(t, words, reads);
     if done(answer) {
-        return print_reads(reads);
+        return print_reads(stdout, reads);
     }
-    refused(answer);
-    true
+    refused(stderr, answer)
 }
 
 // The same with memory for them.
-fn back(t: Trace, words: &[u64]) -> bool {
+fn back(stdout: Stdout, stderr: Stderr, t: Trace, words: &[u64]) -> io::Result<()> {
     let n = loads_of(t);
     if RECORDS < n {
-        return true;
+        return Ok(());
     }
     let mut reads = [0u16; RECORDS];
-    back_into(t, words, &mut reads[..n])
+    back_into(stdout, stderr, t, words, &mut reads[..n])
 }
 
 // The same where the words are still to be read.
-fn back_listed(t: Trace, bytes: &[u8]) -> bool {
+fn back_listed(stdout: Stdout, stderr: Stderr, t: Trace, bytes: &[u8]) -> io::Result<()> {
     let mut list = [0u64; 257];
     let listed = numbers(bytes, &mut list);
     let count = listed.count;
     if listed.good {
-        return back(t, &list[..count]);
+        return back(stdout, stderr, t, &list[..count]);
     }
-    tell(b"no list of words\n");
-    true
+    tell(stderr, b"no list of words\n")
 }
 
-// What a text and the words behind it come to, with words or back. False where it could not be written.
-fn answered(text: &[u8], bytes: &[u8], backwards: bool) -> bool {
+// What a text and the words behind it come to, with words or back.
+fn answered(
+    stdout: Stdout,
+    stderr: Stderr,
+    text: &[u8],
+    bytes: &[u8],
+    backwards: bool,
+) -> io::Result<()> {
     let reading = reader::read_whole(text);
     let answer = reading.answer;
     match answer {
         reader::Answer::Good => {
             if backwards {
-                back_listed(reading.trace, bytes)
+                back_listed(stdout, stderr, reading.trace, bytes)
             } else {
-                forth(reading.trace)
+                forth(stdout, stderr, reading.trace)
             }
         }
-        reader::Answer::Refused { reason, line } => {
-            refuse_at(number(reason), b" line ", line);
-            true
-        }
-        reader::Answer::Lost => {
-            refuse_at(LOST, b" line ", 0);
-            true
-        }
+        reader::Answer::Refused { reason, line } => refuse_at(
+            stderr,
+            number(reason),
+            b" line ",
+            line,
+        ),
+        reader::Answer::Lost => refuse_at(stderr, LOST, b" line ", 0),
     }
 }
 
-// Whether all could be written of what an input comes to: all of it is the text, or backwards what stands before the first empty line.
-fn split(input: &[u8], backwards: bool) -> bool {
+// What an input comes to: all of it is the text, or backwards what stands before the first empty line.
+fn split(stdout: Stdout, stderr: Stderr, input: &[u8], backwards: bool) -> io::Result<()> {
     let n = input.len();
     if !backwards {
-        return answered(input, b"", false);
+        return answered(stdout, stderr, input, b"", false);
     }
     let end = empty_line(input);
-    answered(&input[..end], &input[end..n], true)
+    answered(stdout, stderr, &input[..end], &input[end..n], true)
 }
 
 // Reads the input and answers it. Where a read failed nothing is told: half a text is another one.
-fn watch(backwards: bool) {
+fn watch(mut stdin: Stdin, stdout: Stdout, stderr: Stderr, backwards: bool) -> io::Result<()> {
     let mut buffer: [u8; ROOM] = [0; 65537];
-    let got = fill(&mut buffer);
+    let got = fill(&mut stdin, &mut buffer);
     let n = got.count;
-    if !got.whole {
-        os::fail(b"words: standard input");
-    } else if !split(&buffer[..n], backwards) {
-        os::fail(b"words: standard output");
+    if let Err(why) = got.whole {
+        return fail(stderr, b"words: standard input", why);
+    }
+    match split(stdout, stderr, &buffer[..n], backwards) {
+        Ok(()) => Ok(()),
+        Err(why) => fail(stderr, b"words: standard output", why),
     }
 }
 
 // Whether the one word is `back`.
-fn asked_back() -> bool {
+fn asked_back(rt: &impl Env) -> bool {
     let mut word = [0u8; 5];
-    let n = os::arg(1, &mut word);
+    let n = arg(rt, 1, &mut word);
     (n == 4) & (word[0] == b'b') & (word[1] == b'a') & (word[2] == b'c') & (word[3] == b'k')
 }
 
-fn main() {
-    let count = os::arg_count();
+fn main(rt: HostRuntime) -> io::Result<()> {
+    let count = arg_count(&rt);
     if count == 1 {
-        watch(false);
-    } else if (count == 2) & asked_back() {
-        watch(true);
+        watch(rt.stdin(), rt.stdout(), rt.stderr(), false)
+    } else if (count == 2) & asked_back(&rt) {
+        watch(rt.stdin(), rt.stdout(), rt.stderr(), true)
     } else {
-        tell(b"usage: words < TRACE, or words back < TRACE, an empty line and words\n");
+        tell(
+            rt.stderr(),
+            b"usage: words < TRACE, or words back < TRACE, an empty line and words\n",
+        )
     }
 }

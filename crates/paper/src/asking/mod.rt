@@ -1,4 +1,6 @@
 // What the words behind the program's name ask for.
+use saying::args::{arg, arg_count};
+use std::env::Env;
 
 // Whether the numbers are wanted instead of words, the model, 0 for the first that has a list, and whether the words could be understood.
 #[derive(Clone, Copy)]
@@ -29,31 +31,31 @@ fn begins(bytes: &[u8], word: &[u8]) -> bool {
 }
 
 // Whether argument i is the word, which is shorter than eight bytes: of a longer argument eight bytes come, and its length tells it apart.
-fn is_word(i: usize, word: &[u8]) -> bool {
+fn is_word(rt: &impl Env, i: usize, word: &[u8]) -> bool {
     let mut got = [0u8; 8];
-    let n = os::arg(i, &mut got);
+    let n = arg(rt, i, &mut got);
     n == word.len() && begins(&got, word)
 }
 
 // The model that argument i names; 0, which is no model's, where it names none.
-fn model_named(i: usize) -> u8 {
-    if is_word(i, b"sc") {
+fn model_named(rt: &impl Env, i: usize) -> u8 {
+    if is_word(rt, i, b"sc") {
         return pairs::SC;
     }
-    if is_word(i, b"tso") {
+    if is_word(rt, i, b"tso") {
         return pairs::TSO;
     }
-    if is_word(i, b"pso") {
+    if is_word(rt, i, b"pso") {
         return pairs::PSO;
     }
-    if is_word(i, b"wmo") {
+    if is_word(rt, i, b"wmo") {
         return pairs::WMO;
     }
     0
 }
 
 // What is asked for where the model is looked for at argument i, which may be missing; behind it nothing may stand.
-fn asked_from(i: usize, count: usize, numbers: bool) -> Wanted {
+fn asked_from(rt: &impl Env, i: usize, count: usize, numbers: bool) -> Wanted {
     if count <= i {
         return Wanted {
             numbers,
@@ -61,7 +63,7 @@ fn asked_from(i: usize, count: usize, numbers: bool) -> Wanted {
             good: true,
         };
     }
-    let model = model_named(i);
+    let model = model_named(rt, i);
     Wanted {
         numbers,
         model,
@@ -70,13 +72,13 @@ fn asked_from(i: usize, count: usize, numbers: bool) -> Wanted {
 }
 
 // What all the words ask for.
-pub fn asked() -> Wanted {
-    let count = os::arg_count();
+pub fn asked(rt: &impl Env) -> Wanted {
+    let count = arg_count(rt);
     if count < 2 {
-        return asked_from(1, count, false);
+        return asked_from(rt, 1, count, false);
     }
-    if is_word(1, b"numbers") {
-        return asked_from(2, count, true);
+    if is_word(rt, 1, b"numbers") {
+        return asked_from(rt, 2, count, true);
     }
-    asked_from(1, count, false)
+    asked_from(rt, 1, count, false)
 }

@@ -2,6 +2,8 @@
 ghost use Rattle.std.specs.Prelude.{◌≤◌, ◌<◌, length};
 
 use saying::{say, say_u16, say_usize};
+use std::io;
+use std::io::Stdout;
 
 // The rule of an entry that splits its branch; 0 closes it, the others are the rules of an edge.
 const SPLIT: u16 = 8;
@@ -24,13 +26,12 @@ struct Entry {
     end: usize,
 }
 
-// How far the words have come: the number of the next entry, how many splits are open, whether there was room for them, and whether all could be written.
+// How far the words have come: the number of the next entry, how many splits are open, and whether there was room for them.
 #[derive(Clone, Copy)]
 struct Walk {
     next: usize,
     open: usize,
     fits: bool,
-    good: bool,
 }
 
 // The number at a place, 0 where there is none, so that no place is out of reach.
@@ -114,51 +115,56 @@ fn entry_at(list: &[u16], at: usize) -> Entry
 }
 
 // Prints the numbers from one place up to another, a space before each, and ends the line.
-fn say_rest(list: &[u16], from: usize, end: usize) -> bool {
-    let mut good = true;
+fn say_rest(stdout: Stdout, list: &[u16], from: usize, end: usize) -> io::Result<()> {
     let mut i = from;
     while i < end {
-        good = good & say_u16(b" ", number_at(list, i));
+        say_u16(stdout, b" ", number_at(list, i))?;
         i += 1;
     }
-    good & say(b"\n")
+    say(stdout, b"\n")
 }
 
 // Prints the numbers of a list, an entry to a line.
-pub fn say_numbers(list: &[u16]) -> bool {
-    let mut good = true;
+pub fn say_numbers(stdout: Stdout, list: &[u16]) -> io::Result<()> {
     let mut at: usize = 0;
     while at < list.len() {
         let e = entry_at(list, at);
-        good = good & say_u16(b"", list[at]) & say_rest(list, at + 1, e.end);
+        say_u16(stdout, b"", list[at])?;
+        say_rest(stdout, list, at + 1, e.end)?;
         at = e.end;
     }
-    good
+    Ok(())
 }
 
 // Prints a number and the pair that it stands for, with what it is between them.
-fn say_pair(number: usize, what: &[u8], x: u16, y: u16) -> bool {
-    say_usize(b"", number) & say_u16(what, x) & say_u16(b" before ", y)
+fn say_pair(stdout: Stdout, number: usize, what: &[u8], x: u16, y: u16) -> io::Result<()> {
+    say_usize(stdout, b"", number)?;
+    say_u16(stdout, what, x)?;
+    say_u16(stdout, b" before ", y)
 }
 
 // Prints an edge, its rule and the entries that it rests on.
-fn say_edge(list: &[u16], e: Entry, number: usize) -> bool {
-    let good = say_pair(number, b": ", e.x, e.y) & say_u16(b" by rule ", e.rule);
+fn say_edge(stdout: Stdout, list: &[u16], e: Entry, number: usize) -> io::Result<()> {
+    say_pair(stdout, number, b": ", e.x, e.y)?;
+    say_u16(stdout, b" by rule ", e.rule)?;
     if e.from < e.end {
-        return good & say(b", from") & say_rest(list, e.from, e.end);
+        say(stdout, b", from")?;
+        return say_rest(stdout, list, e.from, e.end);
     }
-    good & say(b"\n")
+    say(stdout, b"\n")
 }
 
 // Prints the line of an entry.
-fn say_entry(list: &[u16], e: Entry, number: usize) -> bool {
+fn say_entry(stdout: Stdout, list: &[u16], e: Entry, number: usize) -> io::Result<()> {
     if e.rule == CLOSE {
-        return say(b"circle") & say_rest(list, e.from, e.end);
+        say(stdout, b"circle")?;
+        return say_rest(stdout, list, e.from, e.end);
     }
     if e.rule == SPLIT {
-        return say_pair(number, b": split, ", e.x, e.y) & say(b"\n");
+        say_pair(stdout, number, b": split, ", e.x, e.y)?;
+        return say(stdout, b"\n");
     }
-    say_edge(list, e, number)
+    say_edge(stdout, list, e, number)
 }
 
 // Behind a split: it is put on the stack of those that are open, where there is room.
@@ -169,7 +175,6 @@ fn opened(e: Entry, w: Walk, numbers: &mut [usize], xs: &mut [u16], ys: &mut [u1
             next: w.next,
             open,
             fits: false,
-            good: w.good,
         };
     }
     put_wide(numbers, open, w.next);
@@ -179,26 +184,25 @@ fn opened(e: Entry, w: Walk, numbers: &mut [usize], xs: &mut [u16], ys: &mut [u1
         next: after(w.next),
         open: open + 1,
         fits: w.fits,
-        good: w.good,
     }
 }
 
 // Behind a circle: the latest open split is taken from the stack, if there is one, and its other side begins under its number.
-fn closed(w: Walk, numbers: &[usize], xs: &[u16], ys: &[u16]) -> Walk {
+fn closed(stdout: Stdout, w: Walk, numbers: &[usize], xs: &[u16], ys: &[u16]) -> io::Result<Walk> {
     if w.open == 0 {
-        return w;
+        return Ok(w);
     }
     let open = w.open - 1;
     let number = wide_at(numbers, open);
     let x = number_at(xs, open);
     let y = number_at(ys, open);
-    let said = say_pair(number, b": other side, ", y, x) & say(b"\n");
-    Walk {
+    say_pair(stdout, number, b": other side, ", y, x)?;
+    say(stdout, b"\n")?;
+    Ok(Walk {
         next: after(number),
         open,
         fits: w.fits,
-        good: w.good & said,
-    }
+    })
 }
 
 // Behind an edge: the next entry has the next number.
@@ -207,39 +211,49 @@ fn passed(w: Walk) -> Walk {
         next: after(w.next),
         open: w.open,
         fits: w.fits,
-        good: w.good,
     }
 }
 
 // What is so behind an entry.
-fn stepped(e: Entry, w: Walk, numbers: &mut [usize], xs: &mut [u16], ys: &mut [u16]) -> Walk {
+fn stepped(
+    stdout: Stdout,
+    e: Entry,
+    w: Walk,
+    numbers: &mut [usize],
+    xs: &mut [u16],
+    ys: &mut [u16],
+) -> io::Result<Walk> {
     if e.rule == SPLIT {
-        return opened(e, w, numbers, xs, ys);
+        return Ok(opened(e, w, numbers, xs, ys));
     }
     if e.rule == CLOSE {
-        return closed(w, numbers, xs, ys);
+        return closed(stdout, w, numbers, xs, ys);
     }
-    passed(w)
+    Ok(passed(w))
 }
 
 // Prints a list in words, with lent memory for the open splits: their numbers and pairs.
-pub fn say_lines(list: &[u16], numbers: &mut [usize], xs: &mut [u16], ys: &mut [u16]) -> bool {
+pub fn say_lines(
+    stdout: Stdout,
+    list: &[u16],
+    numbers: &mut [usize],
+    xs: &mut [u16],
+    ys: &mut [u16],
+) -> io::Result<()> {
     let mut w = Walk {
         next: 0,
         open: 0,
         fits: true,
-        good: true,
     };
-    let mut good = true;
     let mut at: usize = 0;
     while at < list.len() {
         let e = entry_at(list, at);
-        good = good & say_entry(list, e, w.next);
-        w = stepped(e, w, numbers, xs, ys);
+        say_entry(stdout, list, e, w.next)?;
+        w = stepped(stdout, e, w, numbers, xs, ys)?;
         if !w.fits {
-            return good & w.good & say(b"too long\n");
+            return say(stdout, b"too long\n");
         }
         at = e.end;
     }
-    good & w.good
+    Ok(())
 }
