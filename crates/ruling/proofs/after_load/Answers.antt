@@ -5,14 +5,14 @@ use Rattle.laws.specs.Tests.{any}
 use Rattle.laws.proofs.Loops.{any-more, any-stops, any-fewer}
 use Rattle.trace.specs.Meaning.{frame_of}
 use Rattle.rows.specs.Rows.{bit}
-use Rattle.ruling.proofs.Parts.{not_on, not-off, any_none, after-other, after-apart, after-unread, after-found}
+use Rattle.ruling.proofs.Parts.{any_none, after-other, after-apart, after-unread, after-found}
 use Rattle.ruling.proofs.after_load.Goals.{else-y-from, then-y-from+else-source}
 use Rattle.ruling.proofs.after_load.Goals as goal
 
 pub returns-then-not-writer : goal.returns-then-not-writer
 returns-then-not-writer c =
     let a = c.args in
-    sym (any_none _ _ (after-other (frame_of a.t) (bit a.chains.now) a.x a.y (sym c.writer.ensures ∙ not_on c.if-not-writer.true-raw)))
+    sym (any_none _ _ (after-other (frame_of a.t) (bit a.chains.now) a.x a.y (sym c.writer.ensures ∙ c.if-not-writer.true)))
 
 pub loop-from-init : goal.loop-from-init
 unfolding any
@@ -22,7 +22,7 @@ pub returns-then-source : goal.returns-then-source
 returns-then-source c =
     let a = c.args in
     sym (any-stops _ _ _ c.loop-from-test.true
-    (after-found (frame_of a.t) (bit a.chains.now) a.x a.y c.loop-from.from (sym c.writer.ensures ∙ not-off c.if-not-writer.false-raw)
+    (after-found (frame_of a.t) (bit a.chains.now) a.x a.y c.loop-from.from (sym c.writer.ensures ∙ c.if-not-writer.false)
     (rw c.test.ensures at c.if-y-from.true) (sym c.source.ensures ∙ c.if-source.true)))
 
 pub loop-from-preserved : goal.loop-from-preserved

@@ -9,7 +9,7 @@ use Rattle.pairs.specs.RecordTests.{earlier_by, writer_by}
 use Rattle.rows.specs.Rows.{bit}
 use Rattle.rules.specs.RuleTests.{writer?}
 use Rattle.ruling.proofs.Picked.{known-cond}
-use Rattle.ruling.proofs.Parts.{not_on, not-off, any_none, before-other, before-apart, before-late, before-unread, before-found}
+use Rattle.ruling.proofs.Parts.{any_none, before-other, before-apart, before-late, before-unread, before-found}
 use Rattle.ruling.proofs.before_source.Goals.{After-earlier_by, After-writer-2, After-writer_by, else-writer_by, then-writer_by+then-known+else-source, then-writer_by+else-known}
 use Rattle.ruling.proofs.before_source.Goals as goal
 
@@ -22,7 +22,7 @@ both c = (cc)
 pub returns-then-not-writer : goal.returns-then-not-writer
 returns-then-not-writer c =
     let a = c.args in
-    sym (any_none _ _ (before-other (frame_of a.t) a.chained (bit a.chains.now) a.x a.y (sym (both (goal.at.returns-then-not-writer c).After-writer-2) ∙ not_on c.if-not-writer.true-raw)))
+    sym (any_none _ _ (before-other (frame_of a.t) a.chained (bit a.chains.now) a.x a.y (sym (both (goal.at.returns-then-not-writer c).After-writer-2) ∙ c.if-not-writer.true)))
 
 pub loop-load-init : goal.loop-load-init
 unfolding any
@@ -51,7 +51,7 @@ pub returns-then-source : goal.returns-then-source
 returns-then-source c =
     let a = c.args in
     sym (any-stops _ _ _ c.loop-load-test.true
-    (before-found (frame_of a.t) a.chained (bit a.chains.now) a.x a.y c.loop-load.load (sym (both (goal.at.returns-then-source c).After-writer-2) ∙ not-off c.if-not-writer.false-raw) (sym (apart (goal.at.returns-then-source c).After-writer_by) ∙ c.if-writer_by.true)
+    (before-found (frame_of a.t) a.chained (bit a.chains.now) a.x a.y c.loop-load.load (sym (both (goal.at.returns-then-source c).After-writer-2) ∙ c.if-not-writer.false) (sym (apart (goal.at.returns-then-source c).After-writer_by) ∙ c.if-writer_by.true)
     (sym (known (goal.at.returns-then-source c).After-earlier_by) ∙ c.if-known.true) (sym c.source.ensures ∙ c.if-source.true)))
 
 pub loop-load-preserved : goal.loop-load-preserved

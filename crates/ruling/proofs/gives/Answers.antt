@@ -9,6 +9,7 @@ use Rattle.trace.specs.Meaning.{frame_of}
 use Rattle.rows.specs.Rows.{bit}
 use Rattle.pairs.specs.Kept.{kept_of}
 use Rattle.rules.specs.Rules.{nothing}
+use borrow.Author.Rules.{rules as facts}
 use Rattle.rules.specs.RuleTests.{rules, gives?}
 use Rattle.ruling.proofs.gives.Goals as goal
 
@@ -58,5 +59,4 @@ module _ (f : Frame) (K C : Table) (x y : ℕ) where
 pub returns-in_default : goal.returns-in_default
 returns-in_default c =
     let a = c.args in
-    let k = c.in_default.in_default-own.rest in
-    sym (other (frame_of a.t) (kept_of a.model a.t) (bit a.chains.now) a.x a.y a.rule k.0.0.0.0.0.0.1 k.0.0.0.0.0.1 k.0.0.0.0.1 k.0.0.0.1 k.0.0.1 k.0.1 k.1)
+    sym (other (frame_of a.t) (kept_of a.model a.t) (bit a.chains.now) a.x a.y a.rule (search facts) (search facts) (search facts) (search facts) (search facts) (search facts) (search facts))

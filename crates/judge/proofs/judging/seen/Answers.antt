@@ -1,19 +1,17 @@
 -- `judge::judging::seen`: the value is what the latest visible writer of the places passed wrote.
 use mathlib.Core.Path.{refl, sym, ap₂, ◌∙◌}
 use mathlib.Core.Bool.{true, false}
-use Prim.Native.Nat.{◌<◌}
 use native.Mathlib.Omega.{arith}
 use lib.Dec.{ltb}
 use lib.ListN.{get_or}
 use Rattle.laws.specs.Latest.{last_of}
 use Rattle.laws.proofs.Latest.{last_on, last_off, last-all}
-use Rattle.trace.specs.Bounds.{RECORDS}
 use Rattle.trace.specs.Meaning.{frame_of}
 use Rattle.trace.specs.declared.Op.{Op}
 use Rattle.rules.specs.Seen.{seen}
 use Rattle.judge.specs.inner.VisibleBy.{visible_by}
 use Rattle.judge.proofs.Positions.{visible-at, visible-by}
-use Rattle.judge.proofs.judging.seen.Goals.{After-shared_slice_known-in-loop-i-1, else-visible, then-visible}
+use Rattle.judge.proofs.judging.seen.Goals.{else-visible, then-visible}
 use Rattle.judge.proofs.judging.seen.Goals as goal
 
 pub offset_bounds-sites-load : goal.offset_bounds-sites-load
@@ -29,15 +27,11 @@ loop-i-init c = (omega arith, cc)
 pub overflow_cast-x : goal.overflow_cast-x
 overflow_cast-x c = omega (arith, c.type_inv.list c.loop-i.i)
 
--- a number of the list is that of a record
-below : (c : After-shared_slice_known-in-loop-i-1) → get_or c.args.list.now c.loop-i.i 0 < RECORDS
-below c = c.requires.2 c.loop-i.i c.loop-i-test.true
-
 pub offset_bounds-t-x : goal.offset_bounds-t-x
-offset_bounds-t-x c = let small = below c in omega arith
+offset_bounds-t-x c = let small = c.requires.2 c.loop-i.i c.loop-i-test.true in omega arith
 
 pub bounds-t-x : goal.bounds-t-x
-bounds-t-x c = let small = below c in omega arith
+bounds-t-x c = let small = c.requires.2 c.loop-i.i c.loop-i-test.true in omega arith
 
 pub loop-i-preserved : goal.loop-i-preserved
 unfolding frame_of

@@ -1,5 +1,4 @@
 -- `machine::running::finished`.
-use borrow.Author.Tests.{not-true, not-false}
 use mathlib.Core.Path.{sym}
 use Rattle.laws.specs.Tests.{all}
 use Rattle.laws.proofs.Loops.{all_more, all-stops, all-fewer}
@@ -13,10 +12,10 @@ loop-i-init c = search rules
 
 pub returns-then-not-m-i : goal.returns-then-not-m-i
 unfolding finished
-returns-then-not-m-i c = sym (all-stops _ _ c.loop-i.i c.loop-i-test.true (not-true _ c.if-not-m-i.true-raw))
+returns-then-not-m-i c = sym (all-stops _ _ c.loop-i.i c.loop-i-test.true (c.if-not-m-i.true))
 
 pub loop-i-preserved : goal.loop-i-preserved
-loop-i-preserved c = all_more _ c.loop-i.i c.loop-i.invariant (not-false _ c.if-not-m-i.false-raw)
+loop-i-preserved c = all_more _ c.loop-i.i c.loop-i.invariant (c.if-not-m-i.false)
 
 pub returns : goal.returns
 unfolding finished

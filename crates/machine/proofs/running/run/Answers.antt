@@ -11,13 +11,13 @@ use Rattle.machine.proofs.ByCases.{answer-model, answer-form, answer-runs, run-s
 use Rattle.machine.proofs.running.run.Goals as goal
 
 pub returns-then-not-machined : goal.returns-then-not-machined
-returns-then-not-machined c = let a = c.args in answer-model a.t a.model a.steps.now (sym c.machined.ensures ∙ not-true _ c.if-not-machined.true-raw)
+returns-then-not-machined c = let a = c.args in answer-model a.t a.model a.steps.now (sym c.machined.ensures ∙ c.if-not-machined.true)
 
 pub returns-then-not-well_formed : goal.returns-then-not-well_formed
-returns-then-not-well_formed c = let a = c.args in answer-form a.t a.model a.steps.now (sym c.machined.ensures ∙ not-false _ c.if-not-machined.false-raw) (sym c.well_formed-2.ensures ∙ not-true _ c.if-not-well_formed.true-raw)
+returns-then-not-well_formed c = let a = c.args in answer-form a.t a.model a.steps.now (sym c.machined.ensures ∙ c.if-not-machined.false) (sym c.well_formed-2.ensures ∙ c.if-not-well_formed.true)
 
 pub loop-i-init : goal.loop-i-init
-loop-i-init c = let a = c.args in (((sym c.machined.ensures ∙ not-false _ c.if-not-machined.false-raw, sym c.well_formed-2.ensures ∙ not-false _ c.if-not-well_formed.false-raw), omega arith), ap (λ (M : Machine). run a.t a.model M a.steps.now 0) (sym c.start-m.ensures))
+loop-i-init c = let a = c.args in (((sym c.machined.ensures ∙ c.if-not-machined.false, sym c.well_formed-2.ensures ∙ c.if-not-well_formed.false), omega arith), ap (λ (M : Machine). run a.t a.model M a.steps.now 0) (sym c.start-m.ensures))
 
 pub step-s-requires : goal.step-s-requires
 step-s-requires c = c.loop-i.invariant.0.0.1

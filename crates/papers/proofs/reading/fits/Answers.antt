@@ -10,17 +10,15 @@ use Rattle.rows.specs.Bounds.{CELLS}
 use Rattle.rows.specs.Rows.{bit}
 use Rattle.rows.specs.Put.{put_of}
 use Rattle.rows.specs.Empty.{empty_of}
-use Rattle.papers.specs.Paper.{may_rest}
 use Rattle.papers.specs.inner.ReaderBranch.{link_joins}
 use Rattle.papers.specs.declared.reading.Link.TheVariants.{Between}
 use Rattle.papers.proofs.Branches.{joins-bit, no-bit}
-use borrow.Author.Tests.{not-true, not-false}
 use Rattle.papers.proofs.reading.fits.Goals as goal
 
 pub returns-then-not-may : goal.returns-then-not-may
 returns-then-not-may c =
     let s = c.args in
-    sym (ap (λ b. b && gives? (frame_of s.t) (kept_of s.model s.t) nothing (link_joins s.l) s.x s.y s.rule) (not-true (may_rest s.rule s.k) c.if-not-may.true-raw))
+    sym (ap (λ b. b && gives? (frame_of s.t) (kept_of s.model s.t) nothing (link_joins s.l) s.x s.y s.rule) (c.if-not-may.true))
 
 pub returns-in_default : goal.returns-in_default
 returns-in_default c =
@@ -28,7 +26,7 @@ returns-in_default c =
     c.gives.ensures
     ∙ ap (λ C. gives? (frame_of s.t) (kept_of s.model s.t) nothing C s.x s.y s.rule)
     (fun_ext (λ x. fun_ext (λ y. ap (λ r. bit r x y) c.empty-chain.ensures ∙ no-bit CELLS x y ∙ ap (λ l. link_joins l x y) (sym c.in_default.is))))
-    ∙ sym (ap (λ b. b && gives? (frame_of s.t) (kept_of s.model s.t) nothing (link_joins s.l) s.x s.y s.rule) (not-false (may_rest s.rule s.k) c.if-not-may.false-raw))
+    ∙ sym (ap (λ b. b && gives? (frame_of s.t) (kept_of s.model s.t) nothing (link_joins s.l) s.x s.y s.rule) (c.if-not-may.false))
 
 pub returns : goal.returns
 returns c =
@@ -39,4 +37,4 @@ returns c =
     let k : s.l ≡ Between w v = c.in-Between.is ∙ ap₂ Between (sym c.wide.ensures) (sym c.wide-2.ensures) in
     c.gives-2.ensures
     ∙ ap (λ C. gives? (frame_of s.t) (kept_of s.model s.t) nothing C s.x s.y s.rule) (fun_ext (λ x. fun_ext (λ y. ap (λ r. bit r x y) e ∙ joins-bit w v CELLS (omega arith) x y ∙ ap (λ l. link_joins l x y) (sym k))))
-    ∙ sym (ap (λ b. b && gives? (frame_of s.t) (kept_of s.model s.t) nothing (link_joins s.l) s.x s.y s.rule) (not-false (may_rest s.rule s.k) c.if-not-may.false-raw))
+    ∙ sym (ap (λ b. b && gives? (frame_of s.t) (kept_of s.model s.t) nothing (link_joins s.l) s.x s.y s.rule) (c.if-not-may.false))

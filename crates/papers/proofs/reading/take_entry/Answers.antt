@@ -4,7 +4,6 @@ use mathlib.Core.Bool.{not, ◌&&◌}
 use mathlib.Core.List.{List}
 use Prim.Native.Nat.{ℕ, ◌<◌}
 use native.Mathlib.Omega.{arith}
-use borrow.Author.Tests.{not-true, not-false}
 use lib.Dec.{eqb}
 use lib.ListN.{length}
 use Rattle.trace.specs.Meaning.{frame_of}
@@ -27,7 +26,7 @@ returns-then-not-closes c =
     let f = frame_of s.t in
     let K = kept_of s.model s.t in
     circle-wrong f K s.from.now s.to.now s.other.now s.count e c.if-rule-eq0.true c.closes.result
-    (c.closes.ensures ∙ ap (λ l. eqb s.x s.y && linked l s.x s.y) c.lead-l.ensures) (not-true c.closes.result c.if-not-closes.true-raw) _ _ _
+    (c.closes.ensures ∙ ap (λ l. eqb s.x s.y && linked l s.x s.y) c.lead-l.ensures) (c.if-not-closes.true) _ _ _
 
 -- src/reading/mod.rt:174:13
 pub returns-then-next-eq0 : goal.returns-then-next-eq0
@@ -38,7 +37,7 @@ returns-then-next-eq0 c =
     let K = kept_of s.model s.t in
     let r = c.other_side-next in
     circle-closed f K s.from.now s.to.now s.other.now s.count e c.if-rule-eq0.true c.closes.result
-    (c.closes.ensures ∙ ap (λ l. eqb s.x s.y && linked l s.x s.y) c.lead-l.ensures) (not-false c.closes.result c.if-not-closes.false-raw) _ _ _
+    (c.closes.ensures ∙ ap (λ l. eqb s.x s.y && linked l s.x s.y) c.lead-l.ensures) (c.if-not-closes.false) _ _ _
     r.result r.ensures.0 c.if-next-eq0.true
 
 -- src/reading/mod.rt:176:9
@@ -51,7 +50,7 @@ returns-then-rule-eq0 c =
     let r = c.other_side-next in
     let p = c.requires in
     circle-goes f K s.from.now s.to.now s.other.now s.count e c.if-rule-eq0.true c.closes.result
-    (c.closes.ensures ∙ ap (λ l. eqb s.x s.y && linked l s.x s.y) c.lead-l.ensures) (not-false c.closes.result c.if-not-closes.false-raw) _ _ _
+    (c.closes.ensures ∙ ap (λ l. eqb s.x s.y && linked l s.x s.y) c.lead-l.ensures) (c.if-not-closes.false) _ _ _
     r.result r.ensures.0 c.if-next-eq0.false (omega (arith, r.ensures.1, p.1))
 
 -- src/reading/mod.rt:179:9
@@ -73,7 +72,7 @@ returns-then-not-divides c =
     let m : s.count < BRANCH = omega (arith, c.if-count-ge-BRANCH.false) in
     split-wrong f K s.from.now s.to.now s.other.now s.count e c.if-rule-eq8.true m c.divides.result
     (c.divides.ensures ∙ ap₂ (λ a b. f.operation a && f.operation b && not (eqb a b) && eqb (length s.rests.now) 0) c.wide.ensures c.wide-then-rule-eq8.ensures)
-    (not-true c.divides.result c.if-not-divides.true-raw) _ _ _
+    (c.if-not-divides.true) _ _ _
 
 -- src/reading/mod.rt:188:9
 pub returns-then-rule-eq8 : goal.returns-then-rule-eq8
@@ -86,7 +85,7 @@ returns-then-rule-eq8 c =
     let p = c.requires in
     split_goes f K s.from.now s.to.now s.other.now s.count e c.if-rule-eq8.true m c.divides.result
     (c.divides.ensures ∙ ap₂ (λ a b. f.operation a && f.operation b && not (eqb a b) && eqb (length s.rests.now) 0) c.wide.ensures c.wide-then-rule-eq8.ensures)
-    (not-false c.divides.result c.if-not-divides.false-raw) (omega (arith, m, p.2)) (omega (arith, m, p.3)) (omega (arith, m, p.4))
+    (c.if-not-divides.false) (omega (arith, m, p.2)) (omega (arith, m, p.3)) (omega (arith, m, p.4))
 
 -- src/reading/mod.rt:191:9
 pub returns-then-not-fits : goal.returns-then-not-fits
@@ -100,7 +99,7 @@ returns-then-not-fits c =
     edge-wrong s.t p.0 K s.from.now s.to.now s.other.now s.count e c.if-rule-eq0.false c.if-rule-eq8.false m c.fits.result
     (c.fits.ensures ∙ ap₂ (λ a b. may_rest s.rule (length s.rests.now) && gives? f K nothing (link_joins c.lead-l.result) a b s.rule) c.wide-2.ensures c.wide-3.ensures
     ∙ ap (λ l. may_rest s.rule (length s.rests.now) && gives? f K nothing (link_joins l) s.x s.y s.rule) c.lead-l.ensures)
-    (not-true c.fits.result c.if-not-fits.true-raw) _ _ _
+    (c.if-not-fits.true) _ _ _
 
 -- src/reading/mod.rt:163:1
 pub returns : goal.returns
@@ -114,4 +113,4 @@ returns c =
     edge_goes s.t p.0 K s.from.now s.to.now s.other.now s.count e c.if-rule-eq0.false c.if-rule-eq8.false m c.fits.result
     (c.fits.ensures ∙ ap₂ (λ a b. may_rest s.rule (length s.rests.now) && gives? f K nothing (link_joins c.lead-l.result) a b s.rule) c.wide-2.ensures c.wide-3.ensures
     ∙ ap (λ l. may_rest s.rule (length s.rests.now) && gives? f K nothing (link_joins l) s.x s.y s.rule) c.lead-l.ensures)
-    (not-false c.fits.result c.if-not-fits.false-raw) (omega (arith, m, p.2)) (omega (arith, m, p.3)) (omega (arith, m, p.4))
+    (c.if-not-fits.false) (omega (arith, m, p.2)) (omega (arith, m, p.3)) (omega (arith, m, p.4))
