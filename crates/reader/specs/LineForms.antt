@@ -38,7 +38,7 @@ swap_rest =
 
 -- the word sync is the four bytes 73 79 6E 63
 abbrev pub sync : List ℕ
-sync = 0x73 ∷ 0x79 ∷ 0x6_e ∷ 0x63 ∷ []
+sync = 0x73 ∷ 0x79 ∷ 0x6E ∷ 0x63 ∷ []
 
 abbrev pub store_form : List ℕ
 store_form = thread_then store_rest

@@ -4,4 +4,4 @@
 use Rattle.std.specs.Prelude.{ℕ}
 
 abbrev pub FEED : ℕ
-FEED = 0x0_a
+FEED = 0x0A

@@ -5,7 +5,7 @@ ghost use Rattle.text.specs.Part.{LineOf};
 
 use crate::Cursor;
 
-const FEED: u8 = 0x0_a;
+const FEED: u8 = 0x0A;
 
 // Where the line that starts at a place ends: at its line feed, or at the end of the text; past the end, where it starts.
 pub fn line_end(text: &[u8], at: usize) -> usize
