@@ -3,8 +3,7 @@
 --   told-model, told-form, told-source == a question that is turned back
 --   told-sound, told-cut               == a trace that has an order, and one that is cut down
 use mathlib.Core.Path.{◌≡◌, refl, sym, ◌∙◌, subst}
-use mathlib.Core.Bool.{true, false, So, false≢true}
-use mathlib.Core.Option.{some}
+use mathlib.Core.Bool.{false, So, false≢true}
 use Prim.Native.Nat.{ℕ}
 use Rattle.laws.specs.Lowest.{Lowest}
 use Rattle.trace.specs.Meaning.{frame_of}

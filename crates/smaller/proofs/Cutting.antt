@@ -13,7 +13,6 @@ use mathlib.Core.Bool.{Bool, true, false, So, not, ◌&&◌, ◌||◌, false≢t
 use mathlib.Core.List.{List}
 use Prim.Native.Nat.{ℕ, suc, ◌+◌, ◌≤◌, ◌<◌}
 use native.Mathlib.Numerals.{add-one}
-use native.Mathlib.Omega.{arith}
 use lib.Dec.{eqb}
 use lib.ListN.{length, take}
 use Rattle.laws.specs.Dict.{Least}

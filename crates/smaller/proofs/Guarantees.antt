@@ -3,7 +3,7 @@
 --   left-order   == whichever record is removed, with what goes with it, a valid order exists
 --   left-verdict == its verdict is a circle, or that none is left
 --   cut-exactly  == a trace is cut down exactly where its verdict is a circle or that none is left
-use mathlib.Core.Path.{◌≡◌, refl, sym, ap, ◌∙◌, subst}
+use mathlib.Core.Path.{◌≡◌, sym, ap, subst}
 use mathlib.Core.Logic.{◌↔◌, ◌⊎◌, inl, inr}
 use mathlib.Core.Bool.{So}
 use mathlib.Core.List.{List}
@@ -23,14 +23,14 @@ use Rattle.rules.specs.Verdict.{Verdict, no_source, circle, order, none_left, Sa
 use Rattle.rules.proofs.ComputedVerdict.{verdict?}
 use Rattle.rules.proofs.Says.{verdict-one, circle-none, missing-none}
 use Rattle.rules.proofs.VerdictComputed.{verdict-says}
-use Rattle.parts.specs.Removal.{Set, every, Goes}
+use Rattle.parts.specs.Removal.{Set, Goes}
 use Rattle.parts.specs.CutDown.{Removed, Left}
 use Rattle.parts.specs.Picked.{picked, olds}
 use Rattle.parts.proofs.Picked.{picked_all, picked-missing}
 use Rattle.parts.proofs.Looks.{left-closed, left-well, left-faulty, left-stuck}
 use Rattle.smaller.specs.Smaller.{By, ToldSmaller}
 use Rattle.smaller.specs.declared.Answer.{Answer}
-use Rattle.smaller.specs.declared.Answer.TheVariants.{NoModel, NotWellFormed, NoSource, NothingWrong, Cut}
+use Rattle.smaller.specs.declared.Answer.TheVariants.{NoSource, NothingWrong, Cut}
 use Rattle.smaller.specs.declared.Smaller.{Smaller}
 use Rattle.smaller.specs.inner.RecordSets.{NoOrder}
 

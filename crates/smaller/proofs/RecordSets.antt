@@ -7,7 +7,7 @@
 --   padded-more  == one number more in an array
 use mathlib.Core.Path.{◌≡◌, refl, sym, ap, ◌∙◌, subst}
 use mathlib.Core.Logic.{◌≢◌, ◌↔◌, inl, inr}
-use mathlib.Core.Bool.{Bool, true, false, So, cond, false≢true}
+use mathlib.Core.Bool.{Bool, true, false, So, false≢true}
 use mathlib.Core.List.{List, [], ◌∷◌, ◌++◌, append_assoc}
 use Prim.Native.Nat.{ℕ, suc, ◌+◌, ◌-◌, ◌≤◌, ◌<◌}
 use native.Mathlib.Decide.{dec_lt}
@@ -15,9 +15,8 @@ use native.Mathlib.Omega.{arith}
 use lib.Dec.{ltb}
 use lib.ListN.{length, set, replicate, length-append}
 use lib.Seq.{set_at}
-use Rattle.laws.specs.Relation.{Chain}
 use Rattle.laws.proofs.Relation.{chain-mono}
-use Rattle.laws.proofs.Tests.{test, test-one, last?, and-iff, same-iff}
+use Rattle.laws.proofs.Tests.{test-one, last?, and-iff, same-iff}
 use Rattle.trace.specs.Bounds.{RECORDS}
 use Rattle.trace.specs.Op.{writes}
 use Rattle.trace.specs.Trace.{at}
