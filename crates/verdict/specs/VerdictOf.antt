@@ -1,14 +1,14 @@
 -- The verdict as the code holds it.
 --
---   refused_by o   == document 01's number of an outcome that turns the question back; 0 of any other
+--   refused_by o     == document 01's number of an outcome that turns the question back; 0 of any other
 --   RecordNumbers xs == each of xs is a record's number
---   bare o        == an outcome that has no operations
---   laid v        == a verdict as the code holds it
---   ordered r     == the order that a verdict hands back, if it does
---   Reaches t m   == a question that is answered, of a trace that lacks no source
---   Orderless t K == no list is a valid order of the trace with the kept pairs K, if that can be asked
---   ToldBy t K r  == what `verdict_by` promises of any trace with any kept pairs K: 10, then the verdict that `Says` allows; its operations have places
---   Told t m r    == what `verdict_of` promises of any trace under any model: 9 before 10, then the verdict that `Says` allows; its operations have places
+--   bare o           == an outcome that has no operations
+--   laid v           == a verdict as the code holds it
+--   ordered r        == the order that a verdict hands back, if it does
+--   Reaches t m      == a question that is answered, of a trace that lacks no source
+--   Orderless t K    == no list is a valid order of the trace with the kept pairs K, if that can be asked
+--   ToldBy t K r     == what `verdict_by` promises of any trace with any kept pairs K: 10, then the verdict that `Says` allows; its operations have places
+--   Told t m r       == what `verdict_of` promises of any trace under any model: 9 before 10, then the verdict that `Says` allows; its operations have places
 use Rattle.std.specs.Prelude.{◌≡◌, false, List, ℕ, ◌≤◌, ◌<◌, length, get_or, take, replicate}
 use Rattle.std.proofs.Math.Bool.{So}
 use Rattle.std.proofs.Math.Option.{Option, none, some}
