@@ -4,11 +4,11 @@
 --   firsts_in b, records_in b == how many first values and records its head says
 --   Framed b       == mark, version, length and number of records are as they should be
 --   address_at b i, value_at b i == the address and the value of first value i
---   low_at b i      == the lowest address that it may have: above the one before
+--   low_at b i     == the lowest address that it may have: above the one before
 --   NoFirst b i    == it is none: a value 0, or an address that is not above the one before
 --   GoodFirst b i  == it is one, and its address keeps its bound
---   values_at b k   == the first values after the first k of them
---   entry_at b k    == the record that record k's bytes are, if any
+--   values_at b k  == the first values after the first k of them
+--   entry_at b k   == the record that record k's bytes are, if any
 --   TookFile b k t == all first values and the first k records are good, and give the trace t
 --   BackFile b reason line == the file is turned back for a reason, with a line
 --   BackWhole b reason line == the same, held to lost cores too: where every record is good, and a core is lost

@@ -2,8 +2,8 @@
 --
 --   file_reason_number reason == document 02's number of a reason; 4, 6, 7 and 8 are those of a text
 --   entry_turn o fault == a record behind a trace: taken, or why not
---   turned_bytes t b  == the record that b begins with, behind the trace t: 20 before 4, 6 and 8
---   begun_file vs     == the trace of no records with these first values
+--   turned_bytes t b == the record that b begins with, behind the trace t: 20 before 4, 6 and 8
+--   begun_file vs    == the trace of no records with these first values
 --   good t           == the reading of a file
 --   back reason line == the answer to a refused one: the empty trace beside it
 --   read_firsts c low vs b == c first values, whose addresses are low and above, put into vs
@@ -11,7 +11,7 @@
 --   then_records r b k     == the same where the first values were read
 --   read_entries b c n == first values and records in turn
 --   marked b         == b has the mark, and is long enough for mark and version
---   read_file b       == what `read` answers
+--   read_file b      == what `read` answers
 use Rattle.std.specs.Prelude.{Bool, cond, ◌&&◌, ◌||◌, List, ℕ, zero, suc, ◌+◌, ◌*◌, eqb, ltb, leb, length, get_or, set, drop, replicate}
 use Rattle.trace.specs.Bounds.{RECORDS, ADDRESSES}
 use Rattle.trace.specs.Trace.{empty, pushed}

@@ -1,18 +1,18 @@
 -- The file of a trace, little endian.
 --
---   BYTE         == how many numbers a byte can be
---   VERSION      == the version of the layout
---   HEAD         == how many bytes stand before the entries: mark, version, number of first values, number of records
---   FIRST        == how many bytes a first value has: its address, and the value in two
---   RECORD       == how many bytes a record has
---   MARK         == the three letters that a file begins with, PYR
---   two n        == a number in two bytes, the lower first
+--   BYTE          == how many numbers a byte can be
+--   VERSION       == the version of the layout
+--   HEAD          == how many bytes stand before the entries: mark, version, number of first values, number of records
+--   FIRST         == how many bytes a first value has: its address, and the value in two
+--   RECORD        == how many bytes a record has
+--   MARK          == the three letters that a file begins with, PYR
+--   two n         == a number in two bytes, the lower first
 --   two_in b i    == the number that two bytes make from place i on
 --   kind_byte o   == the number of a record's kind
 --   record_of o   == a record: kind, thread, address, 0, value read, value written; what it does not carry is 0
 --   first_entry a v == the first value of an address: address, value; nothing where it is 0
 --   firsts_of a vs == the first values other than 0, vs being those of address a and up, addresses rising
---   many vs      == how many those are
+--   many vs       == how many those are
 --   record_bytes rs == records, one behind the other
 --   file_head c n == what stands before the entries of c first values and n records
 --   size_of c n   == how many bytes a file with c first values and n records has

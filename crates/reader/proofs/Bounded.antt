@@ -1,11 +1,11 @@
 -- Raw numbers that keep their bounds.
 --
 --   load-within, store-within, swap-within, fence-within == what `in_bounds` says of the numbers of each form
---   in-bounds-iff       == a record's raw form is in bounds exactly when the record is
+--   in-bounds-iff         == a record's raw form is in bounds exactly when the record is
 --   form-checked, form-nothing == what the form of a line leads to, cut or not
 --   init-late, init-nothing    == what an init line leads to, cut or not
 --   beginning-cut, beginning-none == whether it gives a first value, cut or not
---   checked-cut         == cutting a number past every bound changes nothing that a record gets
+--   checked-cut           == cutting a number past every bound changes nothing that a record gets
 use mathlib.Core.Path.{◌≡◌, refl, sym, ap, ◌∙◌}
 use mathlib.Core.Bool.{Bool, So, ◌&&◌}
 use mathlib.Core.Logic.{◌↔◌, inl, inr}

@@ -1,7 +1,7 @@
 -- Init lines as a list: what they give, and how many there can be.
 --
 --   Low is                      == each value is in bounds
---   start_all s is               == what stands above, with these init lines more
+--   start_all s is              == what stands above, with these init lines more
 --   Open given is               == none of them is of an address that has its init line already
 --   without-first, first-low    == the value of an address without an init line; values are as low as the first values
 --   first-start, start-records, start-len == the trace that init lines leave

@@ -5,11 +5,11 @@
 --   one_address raw   == a swap's two addresses are one
 --   op_of raw         == the record that a raw one stands for
 --   turn_of o fault   == a record, taken where nothing is wrong with it
---   joined t o       == a record of good numbers behind the trace so far: taken, or why not (6, 7, 8)
---   checked t raw    == a raw record behind the trace so far (4 to 8)
---   late a v         == an init line that gives no first value: 4, or else 17
---   unformed i       == a line of no record's form (3, 4, 17)
---   turned t l       == a line behind the trace so far that gives no first value (2 to 8, 17); the lowest number that applies
+--   joined t o        == a record of good numbers behind the trace so far: taken, or why not (6, 7, 8)
+--   checked t raw     == a raw record behind the trace so far (4 to 8)
+--   late a v          == an init line that gives no first value: 4, or else 17
+--   unformed i        == a line of no record's form (3, 4, 17)
+--   turned t l        == a line behind the trace so far that gives no first value (2 to 8, 17); the lowest number that applies
 --   init_given given l == the address and first value of an init line that gives one: short, ended, in bounds, and no line above gave that address one
 use Rattle.std.specs.Prelude.{Bool, true, false, not, ◌&&◌, cond, List, ℕ, eqb, ltb, length, get_or}
 use Rattle.trace.specs.Bounds.{THREADS, ADDRESSES, VALUES}

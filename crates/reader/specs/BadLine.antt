@@ -2,7 +2,7 @@
 --
 --   line_in a         == the line in an answer, counted from 1; 0 where no line is to blame
 --   bad_line_number text == the line that a text is turned back for
---   passed text n    == the place behind the first n lines; the end of the text where it has fewer
+--   passed text n     == the place behind the first n lines; the end of the text where it has fewer
 --   line_start text n == where line n starts; 0 for line 0
 --   line_end text n   == where line n ends, before its line feed; 0 for line 0
 --   start_of text     == where the bad line starts; 0 where no line is to blame

@@ -7,7 +7,7 @@
 --   TwoAddresses raw     == a swap whose two addresses differ
 --   Above                == what the lines above a line left: which addresses have an init line, and the trace so far
 --   top                  == above the first line: none has, and the trace is empty
---   with_init s a v       == with one init line more
+--   with_init s a v      == with one init line more
 --   grown s o            == with one record more
 --   LateInit s a v       == a record stands above, or an init line of this address
 --   Case reason s l      == the case of a reason's number: the line l, behind s

@@ -3,7 +3,7 @@
 --   thread_then rest                          == a form that goes on with `rest` behind the thread
 --   store_rest, load_rest, swap_rest, sync      == what stands behind the thread in each form, a hole for each number
 --   store_form, load_form, swap_form, fence_form == the forms
---   render raw     == the line of a raw record
+--   render raw      == the line of a raw record
 --   form_of line    == the raw record that a line renders, if any
 --   cut_form form   == the same with its numbers cut, as the code holds it
 --   render_op op    == the line of a record

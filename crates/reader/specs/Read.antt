@@ -1,12 +1,12 @@
 -- What any text whatever gets.
 --
---   refusal reason n         == the answer to a refused text: the empty trace beside it
+--   refusal reason n          == the answer to a refused text: the empty trace beside it
 --   read_lines n t ls         == the lines ls, the first of which is line n, behind the trace t: no more init lines are taken
---   none                     == the flags of no addresses
+--   none                      == the flags of no addresses
 --   read_inits n given t ls   == the same at the top: init lines first, the flags and the trace are what those above gave
 --   read_text text            == what `read` answers
 --   bad_lines t ls, bad_inits given t ls == the bytes of the first bad one of the lines; none where all are good
---   bad_line_of text           == the bytes of the line that a text is turned back for; none where no line is to blame
+--   bad_line_of text          == the bytes of the line that a text is turned back for; none where no line is to blame
 use Rattle.std.specs.Prelude.{Bool, true, false, cond, List, [], ◌∷◌, ℕ, ◌+◌, ltb, length, set, replicate}
 use Rattle.trace.specs.Bounds.{ADDRESSES}
 use Rattle.trace.specs.Trace.{empty, started, pushed}

@@ -1,12 +1,12 @@
 -- The texts of a trace: init lines in some order, then its records.
 --
---   Begin            == an init line's address and value
+--   Begin             == an init line's address and value
 --   render_records rs == records one after another, each line ended
 --   render_inits is   == the same of init lines
 --   first_in is a     == the value that the init lines give address a; 0 where none of them does
---   Apart is         == the init lines are of addresses within the bound, no two of one
+--   Apart is          == the init lines are of addresses within the bound, no two of one
 --   records_of t      == the used records of a trace
---   TextOf t text    == the text is the trace's: init lines that say its first values, then its records
+--   TextOf t text     == the text is the trace's: init lines that say its first values, then its records
 --   inits_of t        == the first values other than 0, addresses rising
 --   render_trace t    == the text of a trace with those init lines
 use Rattle.std.specs.Prelude.{◌≡◌, ◌≢◌, cond, List, [], ◌∷◌, ◌++◌, ℕ, zero, suc, ◌<◌, eqb, take}

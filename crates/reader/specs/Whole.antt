@@ -1,6 +1,6 @@
 -- What a text gets that may have lost a core: where every line is good and the thread numbers skip one, it is turned back as number 22, with line 0.
 --
---   LOST           == document 02's number of a lost core
+--   LOST            == document 02's number of a lost core
 --   whole_as a r    == a reading r with the answer a, held to this too
 --   read_whole text == what `read_whole` answers
 use Rattle.std.specs.Prelude.{cond, List, ℕ}

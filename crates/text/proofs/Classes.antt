@@ -1,12 +1,12 @@
 -- The class of a byte, by one test that antt computes over all bytes.
 --
---   code k          == a number for each class, so that classes can be compared
---   single b        == b is one of the bytes that the match names singly
---   test lo hi k b  == if b is from lo to before hi, and none of those, its class is k
---   between         == what the test says of a byte
---   not-single      == what the match's default knows
+--   code k            == a number for each class, so that classes can be compared
+--   single b          == b is one of the bytes that the match names singly
+--   test lo hi k b    == if b is from lo to before hi, and none of those, its class is k
+--   between           == what the test says of a byte
+--   not-single        == what the match's default knows
 --   is_digit_class k  == k is the class of digits
---   digit-class     == that class is given exactly to digits
+--   digit-class       == that class is given exactly to digits
 use mathlib.Core.Path.{◌≡◌, refl, sym, ap, ◌∙◌}
 use mathlib.Core.Logic.{◌⊎◌, inl, inr}
 use mathlib.Core.Bool.{Bool, true, false, ◌&&◌, ◌||◌, not, So, cond}

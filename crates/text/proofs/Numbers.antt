@@ -2,7 +2,7 @@
 --
 --   digits-on, digits-stop, digits-none == the run of digits at a place
 --   cut-value                         == cutting before more digits follow changes nothing
---   run_from s i a                     == the run at place i behind the number a
+--   run_from s i a                    == the run at place i behind the number a
 --   run_on, run-stop, run_none        == one byte more of a run; its end
 --   no_number, a-number               == when a run of digits is a number
 --   number-missing, number-there      == the two answers of `number_at`

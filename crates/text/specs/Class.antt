@@ -1,8 +1,8 @@
 -- The class that a byte falls into.
 --
 --   within lo hi b == b is from lo to hi
---   is_mark b       == b is one of  : = ; [ ] { }
---   class_of b      == the class of b
+--   is_mark b      == b is one of  : = ; [ ] { }
+--   class_of b     == the class of b
 use Rattle.std.specs.Prelude.{Bool, ◌&&◌, ◌||◌, cond, ℕ, eqb, leb}
 use Rattle.text.specs.declared.Class.{Class}
 use Rattle.text.specs.declared.Class.TheVariants.{Digit, Space, Mark, Letter, Other}

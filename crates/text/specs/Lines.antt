@@ -1,7 +1,7 @@
 -- Lines of a text: bytes up to a line feed or the end.
 --
---   Line           == the bytes of a line, and whether a line feed ends it
---   lines text     == all lines of a text, from the top
+--   Line            == the bytes of a line, and whether a line feed ends it
+--   lines text      == all lines of a text, from the top
 --   line_len text   == how many bytes stand before the first line feed, or all of them
 --   end_at text at  == where the line that starts at a place ends
 --   line_at text at == the line at a place, without its line feed; at or past the end, the empty one

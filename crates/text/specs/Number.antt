@@ -1,11 +1,11 @@
 -- Decimal numbers of any length.
 --
 --   is_digit b      == b is a digit
---   digits text    == the digits that a text begins with
---   value a ds     == the number that the digits ds write behind the number a
+--   digits text     == the digits that a text begins with
+--   value a ds      == the number that the digits ds write behind the number a
 --   is_number ds    == the digits are a number: one at least, and only 0 itself begins with 0
---   decimal n      == the digits of n
---   cut n          == n, or the first number past every bound where n is past it
+--   decimal n       == the digits of n
+--   cut n           == n, or the first number past every bound where n is past it
 --   run_at text at  == the digits at a place as the code holds them: their value, cut, and where they end
 --   number_at text at == the number at a place, cut, and where it ends
 use Rattle.std.specs.Prelude.{Bool, true, false, cond, List, [], ◌∷◌, ◌++◌, ℕ, zero, suc, ◌+◌, ◌*◌, ◌-◌, ◌/◌, ◌%◌, min, eqb, ltb, length, drop}

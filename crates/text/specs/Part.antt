@@ -1,9 +1,9 @@
 -- A part of a lent text: where it lies, and its bytes.
 --
 --   PartOf text start end r == r is the text's own part from start to before end: it lies start bytes behind the front of the text and has those bytes
---   start_at text at         == where the line at a place starts: there; past the end, at the end
+--   start_at text at        == where the line at a place starts: there; past the end, at the end
 --   LineOf text at r        == r is the line at a place, without its line feed; at or past the end the empty part at the end of the text
---   laid_part r              == all that a part is: the block it lies in, the place there, then the bytes
+--   laid_part r             == all that a part is: the block it lies in, the place there, then the bytes
 use Rattle.std.specs.Prelude.{cond, ◌≡◌, List, ◌∷◌, ℕ, ◌+◌, ◌-◌, leb, length, take, drop}
 use Rattle.std.specs.Borrow.{Bor}
 use Rattle.text.specs.Lines.{end_at}

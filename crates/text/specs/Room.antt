@@ -2,7 +2,7 @@
 --
 --   has_room word out at == from the place on, the buffer is long enough for the word
 --   put_at word out at   == the buffer with the word at the place and all other bytes as they were; where there is no room, as it was
---   behind word out at  == the place behind the word; where there is no room, the place itself
+--   behind word out at   == the place behind the word; where there is no room, the place itself
 use Rattle.std.specs.Prelude.{Bool, cond, List, ℕ, ◌+◌, leb, length}
 use Rattle.std.proofs.Math.Seq.{paste}
 

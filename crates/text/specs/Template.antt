@@ -1,13 +1,13 @@
 -- A template is a line in which a hole stands for each number.
 --
---   HOLE             == the byte that marks a number's place
---   NUMBERS          == how many numbers stand behind a thread at the most
---   fill ts ns       == the line that a template gives with the numbers ns
---   Hit              == the numbers that were found, or that the line is another
---   found ts text    == the numbers with which the template gives the text
+--   HOLE              == the byte that marks a number's place
+--   NUMBERS           == how many numbers stand behind a thread at the most
+--   fill ts ns        == the line that a template gives with the numbers ns
+--   Hit               == the numbers that were found, or that the line is another
+--   found ts text     == the numbers with which the template gives the text
 --   step_at t text at == one byte of a template against a place: the number that a hole takes, 0 for any other byte, and where it ends
---   missed           == a line of another form as the code holds it
---   fitted ts text   == the same as the code holds it: the numbers cut, unused places 0
+--   missed            == a line of another form as the code holds it
+--   fitted ts text    == the same as the code holds it: the numbers cut, unused places 0
 use Rattle.std.specs.Prelude.{Bool, true, false, cond, List, [], ◌∷◌, ◌++◌, map, ℕ, ◌+◌, eqb, length, get_or, drop, replicate}
 use Rattle.std.proofs.lemmas.List.Edits.{sets}
 use Rattle.text.specs.Number.{digits, value, is_number, decimal, cut, number_at}

@@ -3,7 +3,6 @@ use mathlib.Core.Path.{sym, ap, ◌∙◌}
 use mathlib.Core.Bool.{So}
 use Prim.Native.Nat.{ℕ}
 use native.Mathlib.Omega.{arith}
-use borrow.Author.Tests.{not-true, not-false}
 use Rattle.trace.specs.WellFormed.{well_formed}
 use Rattle.packed.specs.Layout.{size_of}
 use Rattle.packed.proofs.FileLaid.{len-fits, wrote-ten, wrote-short, wrote-done}
@@ -12,12 +11,12 @@ use Rattle.packed.proofs.packing.write.Goals as goal
 
 -- the trace is well formed
 well : (c : Else-not-well_formed) → So (well_formed c.args.t)
-well c = sym c.well_formed-2.ensures ∙ not-false _ c.if-not-well_formed.false-raw
+well c = sym c.well_formed-2.ensures ∙ c.if-not-well_formed.false
 
 pub returns-then-not-well_formed : goal.returns-then-not-well_formed
 returns-then-not-well_formed c =
     let a = c.args in
-    wrote-ten a.t a.out.now (sym c.well_formed-2.ensures ∙ not-true _ c.if-not-well_formed.true-raw)
+    wrote-ten a.t a.out.now (sym c.well_formed-2.ensures ∙ c.if-not-well_formed.true)
 
 pub overflow_mul-size-2 : goal.overflow_mul-size-2
 overflow_mul-size-2 c = omega (arith, len-fits c.args.t (well (goal.at.overflow_mul-size-2 c).Else-not-well_formed))

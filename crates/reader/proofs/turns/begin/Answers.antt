@@ -4,7 +4,7 @@ use mathlib.Core.Bool.{true, ◌&&◌}
 use Prim.Native.Nat.{ℕ, ◌<◌}
 use native.Mathlib.Omega.{arith}
 use lib.Dec.{ltb}
-use borrow.Author.Tests.{lt-ltb, le-ltb, not-true, not-false}
+use borrow.Author.Tests.{lt-ltb, le-ltb}
 use Rattle.laws.proofs.Tests.{and-iff, so-lt}
 use Rattle.trace.specs.Bounds.{ADDRESSES, VALUES}
 use Rattle.reader.specs.Bounds.{LINE}
@@ -21,14 +21,14 @@ returns-then-bytes-gt-LINE c = rw (lt-ltb LINE _ c.if-bytes-gt-LINE.true) refl
 
 pub returns-then-not-ended : goal.returns-then-not-ended
 unfolding init_given
-returns-then-not-ended c = rw (le-ltb LINE _ c.if-bytes-gt-LINE.false, not-true c.args.ended c.if-not-ended.true-raw) refl
+returns-then-not-ended c = rw (le-ltb LINE _ c.if-bytes-gt-LINE.false, c.if-not-ended.true) refl
 
 -- behind the tests of length and ending, the init line decides
 decides : (c : After-init) → init_given c.args.given.now (record { bytes = c.args.bytes.now; ended = c.args.ended }) ≡ beginning c.args.given.now (init_of c.args.bytes.now)
 unfolding init_given
 decides c =
     let a = c.args in
-    rw (le-ltb LINE _ c.if-bytes-gt-LINE.false, not-false a.ended c.if-not-ended.false-raw) refl
+    rw (le-ltb LINE _ c.if-bytes-gt-LINE.false, c.if-not-ended.false) refl
 
 pub returns-in_default : goal.returns-in_default
 returns-in_default c =
@@ -45,13 +45,13 @@ bounds-given-i c = omega (arith, below c.in-Of.addr c.in-Of.value c.if-addr-addr
 pub returns-then-not-given-i : goal.returns-then-not-given-i
 returns-then-not-given-i c =
     let a = c.args in
-    let q : init.Of c.in-Of.addr c.in-Of.value ≡ beginning a.given.now (init.Of c.in-Of.addr c.in-Of.value) = rw (c.if-addr-addresses.true, c.if-not-given-i.true-raw) refl in
+    let q : init.Of c.in-Of.addr c.in-Of.value ≡ beginning a.given.now (init.Of c.in-Of.addr c.in-Of.value) = rw (c.if-addr-addresses.true, c.if-not-given-i.true) refl in
     q ∙ beginning-cut a.given.now (init_of a.bytes.now) _ _ (sym c.in-Of.is ∙ c.init.ensures) ∙ sym (decides (goal.at.returns-then-not-given-i c).After-init)
 
 pub returns-else-not-given-i : goal.returns-else-not-given-i
 returns-else-not-given-i c =
     let a = c.args in
-    let q : init.Nothing ≡ beginning a.given.now (init.Of c.in-Of.addr c.in-Of.value) = rw (c.if-addr-addresses.true, c.if-not-given-i.false-raw) refl in
+    let q : init.Nothing ≡ beginning a.given.now (init.Of c.in-Of.addr c.in-Of.value) = rw (c.if-addr-addresses.true, c.if-not-given-i.false) refl in
     q ∙ beginning-cut a.given.now (init_of a.bytes.now) _ _ (sym c.in-Of.is ∙ c.init.ensures) ∙ sym (decides (goal.at.returns-else-not-given-i c).After-init)
 
 pub returns-else-addr-addresses : goal.returns-else-addr-addresses

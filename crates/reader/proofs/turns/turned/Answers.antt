@@ -1,6 +1,6 @@
 -- `reader::turns::turned`: length, then ending, then form.
 use mathlib.Core.Path.{sym, ◌∙◌}
-use borrow.Author.Tests.{lt-ltb, le-ltb, not-true, not-false}
+use borrow.Author.Tests.{lt-ltb, le-ltb}
 use Rattle.reader.specs.Bounds.{LINE}
 use Rattle.reader.specs.LineForms.{form_of, init_of}
 use Rattle.reader.specs.Answer.{turned}
@@ -13,18 +13,18 @@ returns-then-bytes-gt-LINE c = rw (lt-ltb LINE _ c.if-bytes-gt-LINE.true)
 
 pub returns-then-not-ended : goal.returns-then-not-ended
 unfolding turned
-returns-then-not-ended c = rw (le-ltb LINE _ c.if-bytes-gt-LINE.false, not-true c.args.ended c.if-not-ended.true-raw)
+returns-then-not-ended c = rw (le-ltb LINE _ c.if-bytes-gt-LINE.false, c.if-not-ended.true)
 
 pub returns-in-Of : goal.returns-in-Of
 unfolding turned
 returns-in-Of c =
     let a = c.args in
-    rw (le-ltb LINE _ c.if-bytes-gt-LINE.false, not-false a.ended c.if-not-ended.false-raw)
+    rw (le-ltb LINE _ c.if-bytes-gt-LINE.false, c.if-not-ended.false)
     (c.checked.ensures ∙ form-checked a.t (form_of a.bytes.now) (init_of a.bytes.now) _ (sym c.in-Of.is ∙ c.form.ensures))
 
 pub returns-in-Nothing : goal.returns-in-Nothing
 unfolding turned
 returns-in-Nothing c =
     let a = c.args in
-    rw (le-ltb LINE _ c.if-bytes-gt-LINE.false, not-false a.ended c.if-not-ended.false-raw)
+    rw (le-ltb LINE _ c.if-bytes-gt-LINE.false, c.if-not-ended.false)
     (c.unformed.ensures ∙ form-nothing a.t (form_of a.bytes.now) (init_of a.bytes.now) (sym c.in-Nothing.is ∙ c.form.ensures))

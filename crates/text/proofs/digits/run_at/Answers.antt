@@ -3,7 +3,6 @@ use mathlib.Core.Path.{◌≡◌, sym, ap, ◌∙◌}
 use mathlib.Core.Bool.{true}
 use Prim.Native.Nat.{◌+◌}
 use native.Mathlib.Omega.{arith}
-use borrow.Author.Tests.{not-true, not-false}
 use lib.ListN.{get_or}
 use Rattle.text.specs.Number.{is_digit}
 use Rattle.text.proofs.Numbers.{run_from, run_on, run-stop, run_none}
@@ -14,11 +13,11 @@ use Rattle.text.proofs.digits.run_at.Goals as goal
 pub returns-then-not-is_digit : goal.returns-then-not-is_digit
 returns-then-not-is_digit c =
     let s = c.args.line.now in
-    run-stop s c.loop-i.i c.loop-i.value c.loop-i.invariant.0 (omega arith) (sym c.is_digit.ensures ∙ not-true _ c.if-not-is_digit.true-raw) ∙ c.loop-i.invariant.1
+    run-stop s c.loop-i.i c.loop-i.value c.loop-i.invariant.0 (omega arith) (sym c.is_digit.ensures ∙ c.if-not-is_digit.true) ∙ c.loop-i.invariant.1
 
 -- past the test the byte is a digit
 here : (c : Else-not-is_digit) → is_digit (get_or c.args.line.now c.loop-i.i 0) ≡ true
-here c = sym c.is_digit.ensures ∙ not-false _ c.if-not-is_digit.false-raw
+here c = sym c.is_digit.ensures ∙ c.if-not-is_digit.false
 
 pub with_digit-value-requires : goal.with_digit-value-requires
 with_digit-value-requires c = (c.loop-i.invariant.0, (digit-iff.0 (here c)).0, (digit-iff.0 (here c)).1)
