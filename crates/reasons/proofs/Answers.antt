@@ -5,15 +5,15 @@
 --   wrote-model, wrote-form, wrote-source == a question that is turned back, and a missing source
 --   wrote-order, wrote-paper    == a trace that has an order, and one that has none
 use mathlib.Core.Path.{◌≡◌, refl, sym, ap, ◌∙◌, subst}
-use mathlib.Core.Bool.{Bool, true, false, So, false≢true}
+use mathlib.Core.Bool.{Bool, false, So, false≢true}
 use mathlib.Core.List.{List, [], ◌++◌}
 use mathlib.Core.Option.{some}
-use Prim.Native.Nat.{ℕ, zero, suc, ◌+◌, ◌*◌, ◌<◌, ◌≤◌}
+use Prim.Native.Nat.{ℕ, suc, ◌+◌, ◌*◌, ◌≤◌}
 use native.Mathlib.Nat.{zero-add}
 use native.Mathlib.Numerals.{add-one}
 use native.Mathlib.Omega.{arith}
 use lib.ListN.{length, take, drop}
-use lib.Seq.{sets, sets-eq}
+use lib.Seq.{sets-eq}
 use Rattle.laws.specs.Dict.{Least}
 use Rattle.laws.specs.Lowest.{Lowest}
 use Rattle.laws.specs.ListOf.{row}
@@ -37,7 +37,6 @@ use Rattle.pairs.specs.declared.sources.Found.{Found}
 use Rattle.pairs.specs.declared.sources.Found.TheVariants.{At, Nothing}
 use Rattle.pairs.proofs.KeptPairs.{kept-joins}
 use Rattle.pairs.proofs.MissingOf.{missing-lowest}
-use Rattle.edges.specs.ForcedPairs.{answered}
 use Rattle.search.specs.FirstOrder.{found?, FirstOrder}
 use Rattle.search.specs.declared.Order.{Order}
 use Rattle.papers.specs.Paper.{Claim, spell}

@@ -34,7 +34,7 @@ use Rattle.edges.specs.declared.Forced.{Forced}
 use Rattle.edges.proofs.Supposed.{supposed-iff, supposed-joins}
 use Rattle.papers.specs.Paper.{Claim, named}
 use Rattle.reasons.specs.Telling.{inside}
-use Rattle.reasons.specs.Writing.{fallen, held_in}
+use Rattle.reasons.specs.Writing.{fallen}
 use Rattle.reasons.specs.inner.Choice.{SupposedIn, HeldRows}
 use Rattle.reasons.proofs.Names.{inside-iff, named-grow, named-last, named-cases}
 use Rattle.reasons.proofs.Writing.{branch-closing}

@@ -13,11 +13,11 @@ use mathlib.Core.Path.{◌≡◌, refl, sym, ap, ap₂, ◌∙◌, subst}
 use mathlib.Core.Logic.{inl, inr}
 use mathlib.Core.Bool.{Bool, true, false, So, not, ◌&&◌, false≢true}
 use mathlib.Core.List.{List, [], ◌∷◌, ◌++◌, append-nil}
-use Prim.Native.Nat.{ℕ, zero, suc, ◌+◌, ◌-◌, ◌<◌, ◌≤◌}
+use Prim.Native.Nat.{ℕ, suc, ◌+◌, ◌-◌, ◌<◌, ◌≤◌}
 use native.Mathlib.Numerals.{add-one}
 use native.Mathlib.Omega.{arith}
 use lib.Dec.{eqb}
-use lib.ListN.{length, get_or, set, take, drop, length-append, length-set, drop_of_length-le}
+use lib.ListN.{length, get_or, set, take, drop, drop_of_length-le}
 use lib.Seq.{sets, take-suc, take-suc-set, drop-cons, get_or-take, append_snoc, length-take-le, set_out, get_or-set_same}
 use Rattle.laws.specs.Relation.{Table}
 use Rattle.laws.proofs.Tests.{and-iff, same-iff, off}
@@ -29,7 +29,7 @@ use Rattle.papers.specs.inner.ReaderBranch.{branch_of}
 use Rattle.papers.proofs.Branches.{branch-more, same_branch, set_same}
 use Rattle.reasons.specs.Telling.{edges_of, entry_number, numbers}
 use Rattle.reasons.specs.Ways.{step_of, way_of}
-use Rattle.reasons.specs.inner.Laid.{PutAt, Done, EntriesTold}
+use Rattle.reasons.specs.inner.Laid.{PutAt, EntriesTold}
 use Rattle.reasons.specs.declared.naming.Put.{Put}
 use Rattle.reasons.specs.declared.naming.Put.TheVariants.{At, Full}
 use Rattle.reasons.specs.declared.naming.Told.TheVariants.{On, Over}

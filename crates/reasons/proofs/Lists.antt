@@ -9,11 +9,11 @@
 --   side-joins, side-closes, side-list == one side of a split, as the arrays keep it
 --   kept_at                     == what was laid, where the answer is known
 --   split-over, first-over, sides-laid == the entry of a split, and then the lists for both sides
-use mathlib.Core.Path.{◌≡◌, refl, sym, ap, ap₂, ◌∙◌, subst, subst⁻¹, fun_ext}
+use mathlib.Core.Path.{◌≡◌, sym, ap, ap₂, ◌∙◌, subst, subst⁻¹, fun_ext}
 use mathlib.Core.Logic.{◌⊎◌, inl, inr}
-use mathlib.Core.Bool.{true, false, So, false≢true}
+use mathlib.Core.Bool.{false, So, false≢true}
 use mathlib.Core.List.{List, [], ◌∷◌, ◌++◌, append_assoc}
-use mathlib.Core.Option.{Option, none, some}
+use mathlib.Core.Option.{Option}
 use Prim.Native.Nat.{ℕ, suc, ◌+◌, ◌-◌, ◌<◌, ◌≤◌}
 use native.Mathlib.Decide.{dec_lt}
 use native.Mathlib.Nat.{not-suc-le-zero}
@@ -44,9 +44,9 @@ use Rattle.edges.specs.Supposed.{supposed_of}
 use Rattle.edges.specs.ForcedPairs.{Forces}
 use Rattle.edges.specs.declared.Forced.{Forced}
 use Rattle.edges.proofs.Supposed.{supposed-iff}
-use Rattle.papers.specs.Paper.{BRANCH, Claim, Entry, named, branch_room, spell}
+use Rattle.papers.specs.Paper.{BRANCH, Claim, Entry, named, spell}
 use Rattle.papers.specs.inner.ReaderBranch.{branch_of}
-use Rattle.papers.proofs.Branches.{branch-long, branch-more}
+use Rattle.papers.proofs.Branches.{branch-more}
 use Rattle.reasons.specs.Telling.{inside}
 use Rattle.reasons.specs.Writing.{split_entry, fallen, choose, leaf_of, paper_of}
 use Rattle.reasons.specs.inner.Fair.{Fair}

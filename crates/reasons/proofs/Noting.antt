@@ -4,15 +4,15 @@
 --   noted-none, noted_more, noted-all == none, one record more, all of them
 use mathlib.Core.Path.{◌≡◌, sym, ap, ◌∙◌}
 use mathlib.Core.Logic.{◌⊎◌, inl, inr}
-use mathlib.Core.Bool.{Bool, false, So, false≢true}
+use mathlib.Core.Bool.{So}
 use mathlib.Core.List.{List}
-use Prim.Native.Nat.{ℕ, ◌+◌, ◌<◌, ◌≤◌}
+use Prim.Native.Nat.{ℕ, ◌+◌, ◌<◌}
 use native.Mathlib.Decide.{dec_lt}
 use native.Mathlib.Omega.{arith}
 use lib.Dec.{eqb}
 use lib.ListN.{length}
 use Rattle.laws.specs.Tests.{any}
-use Rattle.laws.proofs.Tests.{so-any, so-eq, last?, test-one, same-iff, off}
+use Rattle.laws.proofs.Tests.{so-any, so-eq, test-one, same-iff}
 use Rattle.trace.specs.Bounds.{RECORDS}
 use Rattle.rules.specs.Frame.{Frame}
 use Rattle.rows.specs.Bounds.{WORDS}

@@ -9,12 +9,11 @@
 --   ranked-half, ranked-one, ranked-none == a rank, by the sides that fall
 --   open-known, open-operations == whether a pair is open, by the rows of the branch; then it joins operations
 use mathlib.Core.Path.{◌≡◌, refl, sym, ap, ap₂, ◌∙◌, subst, subst⁻¹}
-use mathlib.Core.Logic.{◌↔◌, ◌⊎◌, inl, inr}
+use mathlib.Core.Logic.{◌↔◌, inl, inr}
 use mathlib.Core.Bool.{Bool, true, false, So, cond, not, ◌&&◌, ◌||◌, false≢true}
 use mathlib.Core.List.{List}
 use mathlib.Core.Option.{Option, none, some}
 use Prim.Native.Nat.{ℕ, ◌+◌, ◌<◌, ◌≤◌}
-use native.Mathlib.Decide.{dec_lt}
 use native.Mathlib.Omega.{arith}
 use lib.Dec.{leb}
 use Rattle.laws.specs.Tests.{any}
@@ -34,7 +33,7 @@ use Rattle.rules.specs.RuleTests.{writer?}
 use Rattle.rules.proofs.RuleTests.{writer-iff}
 use Rattle.papers.specs.Paper.{Claim, named}
 use Rattle.reasons.specs.Writing.{fallen, open?, falls, falls₂, first_pair, or_pair, choose}
-use Rattle.reasons.specs.inner.Choice.{BOTH, one_more, rank_of, Known, Higher, PairBefore, FirstOf, Best, ChosenPair}
+use Rattle.reasons.specs.inner.Choice.{BOTH, one_more, rank_of, Known, Higher, PairBefore, Best, ChosenPair}
 use Rattle.reasons.specs.declared.choice.Choice.{Choice}
 use Rattle.reasons.proofs.Choosing.{Open, open-iff}
 

@@ -24,7 +24,7 @@ use Rattle.laws.proofs.Tests.{off, eq?, or-iff, same-iff, so-eq, so-any, test-on
 use Rattle.laws.proofs.Lowest.{lowest-iff}
 use Rattle.trace.specs.Bounds.{RECORDS}
 use Rattle.rules.specs.Frame.{Frame, Good}
-use Rattle.rules.specs.Rules.{Chains, Edge as Forced, InRecords, nothing}
+use Rattle.rules.specs.Rules.{Edge as Forced, InRecords, nothing}
 use Rattle.rules.specs.ComputedRounds.{chains?, edge?}
 use Rattle.rules.specs.ShownCircle.{rule?}
 use Rattle.rules.specs.RuleTests.{source?}

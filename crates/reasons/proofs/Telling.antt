@@ -31,7 +31,7 @@ use Rattle.rules.proofs.RuleTests.{gives-iff, gives-small, chains-iff, edge-iff}
 use Rattle.pairs.proofs.SourceOf.{source-of-is, source-of-has}
 use Rattle.rules.proofs.Rounds.{edge-grow}
 use Rattle.rules.proofs.Ends.{step-within, chains-within}
-use Rattle.papers.specs.Paper.{CLOSE, SPLIT, CHAINED, Claim, Entry, edge_at, named, chained, branch_room, may_rest, fits, refutes}
+use Rattle.papers.specs.Paper.{CLOSE, SPLIT, CHAINED, Claim, Entry, edge_at, chained, branch_room, may_rest, fits, refutes}
 use Rattle.reasons.specs.inner.Fair.{Named, Distinct, further, Fair}
 use Rattle.reasons.specs.Telling.{edges_of, inside, entry_place, entry_number, numbers, along, rule_by, rest_load, bare_entry, rests_from, rests_to, way_at, resting, tell}
 use Rattle.reasons.proofs.Names.{inside-iff, named-grow, named-last, named-cases, chained-one, chained_more}
@@ -308,10 +308,10 @@ module _ (f : Frame) (g : Good f) (small : f.records ≤ RECORDS) (K P : Table) 
       (one-said f K (Forced f K P (suc k)) E₁ (record { rule = r; from = x; to = y; rests = is }) fair.once (λ q. omega arith) (λ q. omega arith) t new e)
 
   -- the way of a chain of a round that has no circle
-  way_at : (k x y : ℕ) → ((x : ℕ) → Chains f K P (suc k) x x → ⊥) → Chains f K P (suc k) (rests_from f K P k x y) (rests_to f K P k x y)
+  way-at-runs : (k x y : ℕ) → ((x : ℕ) → Chains f K P (suc k) x x → ⊥) → Chains f K P (suc k) (rests_from f K P k x y) (rests_to f K P k x y)
       → Run (Forced f K P k) (rests_from f K P k x y) (way_at f K P k x y) (rests_to f K P k x y)
   unfolding way_at
-  way_at k x y clear c =
+  way-at-runs k x y clear c =
       way-runs (Forced f K P k) (λ x y e. let b = within k x y e in (omega (arith, b.0), omega (arith, b.1))) (edge? f K P k) (chains? f K P (suc k))
       (edge-iff f g K P inK in_p k) (chains-iff f g K P inK in_p (suc k)) clear (rests_from f K P k x y) (rests_to f K P k x y) c
 
@@ -347,13 +347,13 @@ module _ (f : Frame) (g : Good f) (small : f.records ≤ RECORDS) (K P : Table) 
           let z = end-six k x y q L v w c in
           let i = start-six k x y q in
           rest-says k E s u x y (rule_by f K (chains? f K P (suc k)) x y) e tells n₁ n₂
-          (way_at k x y (clear k (omega arith)) (subst (λ (a : ℕ). Chains f K P (suc k) a (rests_to f K P k x y)) (sym i) z.1)) (omega arith) (omega arith)
+          (way-at-runs k x y (clear k (omega arith)) (subst (λ (a : ℕ). Chains f K P (suc k) a (rests_to f K P k x y)) (sym i) z.1)) (omega arith) (omega arith)
           (λ B is t. subst (Gives f K nothing (On (chained B is)) x y) (sym q) (rule6 (rests_to f K P k x y) z.0.0 z.0.1 d (subst (λ (a : ℕ). So (chained B is a (rests_to f K P k x y))) i t)))
       by tells n₁ n₂ r q (source S v w d c) =
           let i = start-seven k x y q S v in
           let j = end-seven k x y q in
           rest-says k E s u x y (rule_by f K (chains? f K P (suc k)) x y) e tells n₁ n₂
-          (way_at k x y (clear k (omega arith)) (subst (λ (a : ℕ). Chains f K P (suc k) a (rests_to f K P k x y)) (sym i) (subst (Chains f K P (suc k) S) (sym j) c))) (omega arith) (omega arith)
+          (way-at-runs k x y (clear k (omega arith)) (subst (λ (a : ℕ). Chains f K P (suc k) a (rests_to f K P k x y)) (sym i) (subst (Chains f K P (suc k) S) (sym j) c))) (omega arith) (omega arith)
           (λ B is t. subst (Gives f K nothing (On (chained B is)) x y) (sym q) (rule7 S v w d (subst (λ (a : ℕ). So (chained B is a y)) i (subst (λ (b : ℕ). So (chained B is (rests_from f K P k x y) b)) j t))))
 
       go : (b p c : Bool) → inside E x y ≡ b → eqb (rule_by f K nothing x y) 0 ≡ p → edge? f K P k x y ≡ c → Tells

@@ -8,7 +8,7 @@ use mathlib.Core.Path.{◌≡◌, sym, ap₂, ◌∙◌, subst}
 use mathlib.Core.Logic.{◌↔◌, inl, inr}
 use mathlib.Core.Bool.{So}
 use mathlib.Core.List.{List}
-use Prim.Native.Nat.{ℕ, ◌<◌, ◌≤◌}
+use Prim.Native.Nat.{ℕ, ◌≤◌}
 use native.Mathlib.Decide.{dec_lt}
 use native.Mathlib.Omega.{arith}
 use lib.ListN.{length, take, drop}
@@ -32,7 +32,7 @@ use Rattle.papers.specs.Accepts.{Paper}
 use Rattle.reasons.specs.Writes.{LaidInFront, ListedBy, Writes}
 use Rattle.reasons.specs.Writing.{paper}
 use Rattle.reasons.specs.declared.listing.Listed.{Listed}
-use Rattle.reasons.specs.declared.listing.Listed.TheVariants.{NoModel, NotWellFormed, Nothing, TooLong, Shown}
+use Rattle.reasons.specs.declared.listing.Listed.TheVariants.{Nothing, TooLong, Shown}
 use Rattle.reasons.proofs.Writing.{paper-right}
 use Rattle.reasons.proofs.listing.write.Reads as write
 use Rattle.reasons.proofs.listing.write.Kinds as write-kinds

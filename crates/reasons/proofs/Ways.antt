@@ -6,14 +6,14 @@
 use mathlib.Core.Path.{◌≡◌, refl, sym, subst}
 use mathlib.Core.Logic.{◌↔◌}
 use mathlib.Core.Bool.{Bool, true, false, So, ◌&&◌, false≢true}
-use mathlib.Core.List.{List, [], ◌∷◌}
-use Prim.Native.Nat.{ℕ, zero, suc, ◌*◌, ◌≤◌, ◌<◌}
+use mathlib.Core.List.{[], ◌∷◌}
+use Prim.Native.Nat.{ℕ, zero, suc, ◌≤◌, ◌<◌}
 use native.Mathlib.Decide.{dec_le}
 use native.Mathlib.Omega.{arith}
 use Rattle.laws.specs.Relation.{Rel, Table, Chain, one, more}
 use Rattle.laws.specs.Latest.{Latest, nobody-yet, at, last_of}
 use Rattle.laws.specs.Sums.{sum, num}
-use Rattle.laws.proofs.Sums.{sum-le, sum_same, sum_bound, num-le, num-le⁻¹, num-one}
+use Rattle.laws.proofs.Sums.{sum_same, sum_bound, num-le, num-le⁻¹, num-one}
 use Rattle.laws.proofs.Tests.{and-iff}
 use Rattle.laws.proofs.Latest.{latest-of}
 use Rattle.trace.specs.Bounds.{RECORDS}

@@ -43,7 +43,7 @@ use Rattle.rules.proofs.Circle.{circle-none}
 use Rattle.rules.proofs.Closing.{contradicted?, held?, closing-computed}
 use Rattle.rules.proofs.Shown.{shown-computed}
 use Rattle.rules.proofs.Sorted.{held-valid, held-step}
-use Rattle.papers.specs.Paper.{Claim, Entry, named, branch_room, accepted}
+use Rattle.papers.specs.Paper.{Claim, named, branch_room, accepted}
 use Rattle.papers.proofs.Sound.{accepted-sound}
 use Rattle.reasons.specs.inner.Fair.{Named, none_yet, Fair}
 use Rattle.reasons.specs.Telling.{edges_of, inside, numbers, along, tell}

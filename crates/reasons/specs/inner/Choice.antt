@@ -12,7 +12,7 @@
 --   Best n R x y c           == of the pairs a, b with a < b < n that come before x, y, c is the first of the highest rank
 --   NextIn f K E r           == r is what comes next in the branch E
 --   ChosenPair o c               == c is the pair o; its rank is 0 where there is none
-use Rattle.std.specs.Prelude.{◌≡◌, ◌⊎◌, ◌↔◌, Bool, true, false, cond, List, ℕ, ◌+◌, ◌<◌, ◌≤◌, length}
+use Rattle.std.specs.Prelude.{◌≡◌, ◌⊎◌, ◌↔◌, Bool, false, cond, List, ℕ, ◌+◌, ◌<◌, ◌≤◌, length}
 use Rattle.std.proofs.Math.Bool.{So}
 use Rattle.std.proofs.Math.Option.{Option, none, some}
 use Rattle.laws.specs.Relation.{Table}
