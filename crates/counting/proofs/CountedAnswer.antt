@@ -4,8 +4,8 @@
 --   looked            == the search from nothing placed, in the first places of a list
 --   counted-order, counted-end, counted-over == what is answered where it finds an order, comes to its end, or is over the limit
 --   counted-refused   == and with nothing to search
-use mathlib.Core.Path.{◌≡◌, refl, sym, ap, ap₂, ◌∙◌, subst}
-use mathlib.Core.Bool.{Bool, true, false, So, cond, false≢true}
+use mathlib.Core.Path.{◌≡◌, refl, sym, ap, ◌∙◌, subst}
+use mathlib.Core.Bool.{Bool, true, false, So, cond}
 use mathlib.Core.List.{List, [], ◌++◌}
 use mathlib.Core.Option.{Option, none, some}
 use Prim.Native.Nat.{ℕ, ◌+◌, ◌-◌, ◌*◌, ◌<◌, ◌≤◌}
@@ -17,7 +17,6 @@ use lib.Seq.{length-take-le, get_or-drop, get_or-append-add, take_at, take_all}
 use Rattle.laws.proofs.Tests.{so-le, off}
 use Rattle.laws.proofs.Sums.{sum_bound}
 use Rattle.trace.specs.Bounds.{RECORDS}
-use Rattle.rules.specs.Frame.{Frame}
 use Rattle.trace.specs.Meaning.{frame_of}
 use Rattle.trace.specs.declared.Trace.{Trace}
 use Rattle.trace.specs.WellFormed.{well_formed}

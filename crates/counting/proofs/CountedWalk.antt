@@ -7,8 +7,8 @@ use mathlib.Core.Path.{◌≡◌, refl, sym, ap, ap₂, ◌∙◌, subst}
 use mathlib.Core.Logic.{inl, inr}
 use mathlib.Core.Bool.{Bool, true, false, So, cond, false≢true}
 use mathlib.Core.List.{List, [], ◌∷◌, ◌++◌}
-use mathlib.Core.Option.{Option, none, some}
-use Prim.Native.Nat.{ℕ, zero, suc, ◌+◌, ◌-◌, ◌<◌, ◌≤◌}
+use mathlib.Core.Option.{Option, some}
+use Prim.Native.Nat.{ℕ, suc, ◌+◌, ◌-◌, ◌<◌, ◌≤◌}
 use native.Mathlib.Numerals.{add-one}
 use native.Mathlib.Decide.{dec_lt}
 use native.Mathlib.Omega.{arith}
@@ -20,7 +20,7 @@ use Rattle.laws.proofs.Tests.{off, so-le, eq?}
 use Rattle.rules.specs.Frame.{Frame}
 use Rattle.rows.specs.Rows.{bit}
 use Rattle.rows.specs.inner.Sets.{More}
-use Rattle.plain.specs.Plain.{Next, next?, plain}
+use Rattle.plain.specs.Plain.{next?, plain}
 use Rattle.plain.specs.inner.BudgetedWalk.{Looped}
 use Rattle.plain.specs.inner.Remembered.{StandsFor, Remembered}
 use Rattle.plain.proofs.Remembered.{remember}

@@ -1,7 +1,7 @@
 -- The tables are laid, and the search begins.
 --
 --   among_none, among-more, among-all == a set that is filled record by record: no record yet, one more, all
---   up_to f k                == how many operations there are below k
+--   up_to f k               == how many operations there are below k
 --   up_none, up-yes, up-no  == no record yet, and one more that is an operation or is none
 --   kept_at, feeds-at       == the tests of a pair, as a loop reads them off two records
 --   filled, filled-back     == rows to which every pair that passes was added, in row x or in row y
@@ -11,12 +11,12 @@ use mathlib.Core.Path.{◌≡◌, refl, sym, ap, ◌∙◌, subst}
 use mathlib.Core.Logic.{◌⊎◌, inl, inr, ◌↔◌}
 use mathlib.Core.Bool.{Bool, true, false, So, not, cond, ◌&&◌, false≢true}
 use mathlib.Core.List.{List, []}
-use Prim.Native.Nat.{ℕ, ◌+◌, ◌*◌, ◌<◌, ◌≤◌}
+use Prim.Native.Nat.{ℕ, ◌+◌, ◌*◌, ◌<◌}
 use native.Mathlib.Numerals.{add-one}
 use native.Mathlib.Nat.{not-suc-le-zero}
 use native.Mathlib.Omega.{arith}
 use lib.Dec.{eqb, ltb}
-use lib.ListN.{length, get_or, take, drop, length-take, length-drop, length-replicate, get_or-replicate}
+use lib.ListN.{drop, length-take, length-drop, length-replicate, get_or-replicate}
 use lib.Seq.{length-take-le, get_or-take, get_or-drop, ext_get_or}
 use Rattle.laws.specs.Places.{count}
 use Rattle.laws.specs.Relation.{Table}
@@ -45,7 +45,6 @@ use Rattle.rows.specs.inner.AddedPairs.{Added}
 use Rattle.edges.specs.inner.DrawnEdges.{reads_first}
 use Rattle.rules.specs.Ready.{operations}
 use Rattle.plain.specs.Plain.{so_far, Orderly}
-use Rattle.plain.specs.inner.SameBelow.{Served}
 use Rattle.plain.specs.inner.Remembered.{StandsFor}
 use Rattle.counting.specs.inner.FailedLists.{LISTS, list_slot, Recalled}
 use Rattle.counting.specs.inner.CountedWalk.{counting_tables, LaidTables}

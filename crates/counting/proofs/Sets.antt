@@ -4,21 +4,20 @@
 --   right-iff   == a read that is right
 --   next_of     == an operation that may be next
 --   child       == the two sets after one step
-use mathlib.Core.Path.{◌≡◌, refl, sym, ap, ◌∙◌, subst}
+use mathlib.Core.Path.{◌≡◌, sym, ap, ◌∙◌, subst}
 use mathlib.Core.Logic.{◌↔◌, ◌⊎◌, inl, inr}
-use mathlib.Core.Bool.{Bool, true, false, So, not, ◌&&◌, ◌||◌, false≢true}
+use mathlib.Core.Bool.{false, So, not, ◌&&◌, ◌||◌, false≢true}
 use mathlib.Core.List.{List, [], ◌∷◌, ◌++◌}
 use Prim.Native.Nat.{ℕ, ◌<◌, ◌≤◌}
 use native.Mathlib.Omega.{arith}
 use Rattle.laws.specs.Places.{count}
 use Rattle.laws.specs.Relation.{Table}
-use Rattle.laws.specs.Latest.{last_of, Latest, nobody-yet, at}
-use Rattle.laws.specs.inner.Steps.{Steps}
-use Rattle.laws.proofs.Tests.{and-iff, or-iff, not_iff, same-iff, so-eq, so-not, test, off, eq?}
+use Rattle.laws.specs.Latest.{Latest, nobody-yet, at}
+use Rattle.laws.proofs.Tests.{and-iff, or-iff, not_iff, same-iff, test, off, eq?}
 use Rattle.laws.proofs.Latest.{latest-of}
 use Rattle.laws.proofs.Steps.{steps-join}
 use Rattle.trace.specs.Bounds.{RECORDS}
-use Rattle.rules.specs.Frame.{Frame, Good, Writer, Source}
+use Rattle.rules.specs.Frame.{Frame, Source}
 use Rattle.rows.specs.Rows.{bit}
 use Rattle.rows.specs.Within.{Within}
 use Rattle.rows.specs.inner.Sets.{More}

@@ -1,9 +1,9 @@
 -- What the plain search of a trace comes to within a limit, as the answer of a function.
 --
---   bare_count w     == what it came to, without an order
+--   bare_count w       == what it came to, without an order
 --   counted_order n xs == an order after n steps, in an array whose unused places are 0
---   counted_by l r   == the answer within the limit l of a search that makes r's steps and finds what r finds
---   counted_of t m l == the answer for any trace, model and limit; with nothing to search, over the limit
+--   counted_by l r     == the answer within the limit l of a search that makes r's steps and finds what r finds
+--   counted_of t m l   == the answer for any trace, model and limit; with nothing to search, over the limit
 use Rattle.std.specs.Prelude.{cond, List, [], ℕ, leb, length, replicate}
 use Rattle.std.proofs.Math.Option.{Option, none, some}
 use Rattle.trace.specs.Bounds.{RECORDS}

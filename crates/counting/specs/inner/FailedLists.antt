@@ -1,7 +1,7 @@
 -- The memory of the counted search: in each slot the two sets of a list that failed, and the steps below it. It may forget.
 --
 --   LISTS               == how many lists it has room for
---   list_slot memory s   == the set in slot s
+--   list_slot memory s  == the set in slot s
 --   Put memory h set next == next is the memory with the set in slot h
 --   Recalled f K sets serves counts == what each slot says is so
 use Rattle.std.specs.Prelude.{◌≡◌, ◌≢◌, List, ℕ, ◌*◌, ◌<◌, length, get_or, take, drop}

@@ -1,6 +1,6 @@
 -- The plain search as its functions see it: by sets and rows.
 --
---   waiting_own own placed c S == S writes c's address, is earlier in its program order, and is not placed
+--   waiting_own own placed c S  == S writes c's address, is earlier in its program order, and is not placed
 --   last_waiting n own placed c == the last such S below n; RECORDS where there is none
 --   RightBy ..             == c's read is right: where own writers wait, it reads from the last of them; otherwise it is served
 --   Nexts ..               == c may be placed next

@@ -76,9 +76,9 @@ fn lay_writer(
     rivals: &mut [u64],
 )
     requires { (x < t.len) × (t.len ≤ RECORDS) × (length own.old ≡ CELLS) × (length fed.old ≡ CELLS) × (length rivals.old ≡ CELLS) }
-    ensures added { Added own.old (Union t.len (λ y. Only (owns (frame_of t) x y) y x)) own.new }
-    ensures added_2 { Added fed.old (Union t.len (λ y. Only (feeds? (frame_of t) reads.now served.now x y) x y)) fed.new }
-    ensures added_3 { Added rivals.old (Union t.len (λ y. Only (writer? (frame_of t) x y) x y)) rivals.new }
+    ensures owned { Added own.old (Union t.len (λ y. Only (owns (frame_of t) x y) y x)) own.new }
+    ensures sourced { Added fed.old (Union t.len (λ y. Only (feeds? (frame_of t) reads.now served.now x y) x y)) fed.new }
+    ensures rival { Added rivals.old (Union t.len (λ y. Only (writer? (frame_of t) x y) x y)) rivals.new }
 {
     let n = t.len;
     let record = t.records[x];
