@@ -1,14 +1,14 @@
 -- What the program prints for a text: one line for each model, or the one line of a refusal.
 --
---   spaced ns        == the numbers, each after a space
+--   spaced ns         == the numbers, each after a space
 --   saying_as o os rs == what is said of an outcome with the operations os and the rules rs
---   saying v         == what is said of a verdict
+--   saying v          == what is said of a verdict
 --   name_of m         == the name of a model
 --   line_of m v       == the line of a verdict under a model
 --   refusal_of n line == the line of a refused text
---   Lines t m out    == out is the lines of a trace, one for the verdict under each model up to m
---   Answers a t out  == out is the whole output for what the reader answers, with the trace beside it: the lines under all models
---   Prints text out  == out is the whole output for a text
+--   Lines t m out     == out is the lines of a trace, one for the verdict under each model up to m
+--   Answers a t out   == out is the whole output for what the reader answers, with the trace beside it: the lines under all models
+--   Prints text out   == out is the whole output for a text
 use Rattle.std.specs.Prelude.{◌≡◌, List, [], ◌∷◌, ◌++◌, ℕ, zero, suc, take, get_or}
 use Rattle.trace.specs.declared.Trace.{Trace}
 use Rattle.text.specs.Bounds.{FEED}

@@ -1,20 +1,20 @@
 -- The words of an answer, as bytes.
 --
---   sc       == `SC`
---   tso      == `TSO`
---   pso      == `PSO`
---   wmo      == `WMO`
---   names    == the models' names by their numbers; there is no model 0
---   colon    == `: `
---   order    == `order`
+--   sc        == `SC`
+--   tso       == `TSO`
+--   pso       == `PSO`
+--   wmo       == `WMO`
+--   names     == the models' names by their numbers; there is no model 0
+--   colon     == `: `
+--   order     == `order`
 --   no_order  == `no order, `
 --   no_source == `no source `
---   circle   == `circle`
---   by       == ` by`
+--   circle    == `circle`
+--   by        == ` by`
 --   none_left == `none left`
---   refused  == `refused `
+--   refused   == `refused `
 --   on_line   == ` line `
---   SPACE    == a space
+--   SPACE     == a space
 use Rattle.std.specs.Prelude.{List, [], ◌∷◌, ℕ}
 
 abbrev pub SPACE : ℕ
