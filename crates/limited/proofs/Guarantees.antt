@@ -3,7 +3,7 @@
 --   undecided-exactly == on a question that is answered, undecided comes exactly where the count of the full verdict passes the limit, and the limit is its count
 --   decided-full      == a verdict that comes is the full entry's, with its operations and rules
 --   more-steps        == more steps never change a verdict already given, nor its count
-use mathlib.Core.Path.{◌≡◌, refl, sym, ap, ◌∙◌, subst}
+use mathlib.Core.Path.{◌≡◌, sym, ap, ◌∙◌}
 use mathlib.Core.Logic.{◌↔◌, inl, inr}
 use mathlib.Core.Bool.{So}
 use Prim.Native.Nat.{ℕ, ◌≤◌, ◌<◌}
@@ -21,7 +21,6 @@ use Rattle.verdict.specs.declared.Verdict.{Verdict}
 use Rattle.plain.specs.Limited.{Limited, decided, undecided, counted, Limits}
 use Rattle.plain.proofs.Limited.{limits-one, limits-more}
 use Rattle.limited.specs.LimitedVerdict.{of, laid_limit, ToldLimited}
-use Rattle.limited.specs.declared.Limited as answer
 use Rattle.limited.specs.declared.Limited.TheVariants.{Decided, Undecided}
 use Rattle.limited.specs.declared.Limit.{Limit}
 

@@ -33,11 +33,10 @@ use Rattle.rules.specs.Verdict.{Verdict, no_source, circle, order, none_left, Sa
 use Rattle.rules.specs.Ready.{operations}
 use Rattle.pairs.specs.MissingOf.{record?, missing_of}
 use Rattle.pairs.specs.declared.sources.Found.{Found}
-use Rattle.pairs.specs.declared.sources.Found.TheVariants.{At, Nothing}
+use Rattle.pairs.specs.declared.sources.Found.TheVariants.{At}
 use Rattle.pairs.proofs.MissingOf.{missing-lowest}
 use Rattle.pairs.proofs.ValidOrders.{well-fits, valid-short}
 use Rattle.verdict.specs.VerdictOf as full
-use Rattle.verdict.specs.declared.Outcome.{Outcome}
 use Rattle.verdict.specs.declared.Outcome.TheVariants.{NoSource, Circle, Order, NoneLeft, NoModel, NotWellFormed}
 use Rattle.verdict.specs.declared.Verdict as held
 use Rattle.verdict.proofs.LaidOut as verdict

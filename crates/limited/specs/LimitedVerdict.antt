@@ -1,11 +1,11 @@
 -- The limited verdict as the code holds it.
 --
---   bare_limit o n  == an outcome that has no operations, with its count
+--   bare_limit o n == an outcome that has no operations, with its count
 --   of v n         == a verdict as the full entry holds it, with its count
---   laid_limit a    == an answer at a limit as the code holds it
+--   laid_limit a   == an answer at a limit as the code holds it
 --   ToldLimited t m l r == what `limited_verdict` promises of any trace, model and limit: 9 before 10, both with count 0, then the answer that `Limits` allows; its
 --                     operations have places
-use Rattle.std.specs.Prelude.{◌≡◌, false, List, ℕ, ◌≤◌, replicate}
+use Rattle.std.specs.Prelude.{◌≡◌, false, ℕ, ◌≤◌, replicate}
 use Rattle.std.proofs.Math.Bool.{So}
 use Rattle.trace.specs.Bounds.{RECORDS}
 use Rattle.trace.specs.Meaning.{frame_of}
