@@ -9,7 +9,6 @@
 --   Filled t vs u k i   == u has the reads in its first i records, k of them used; those still to come make it the program with all of them
 --   filled-start, filled-more, filled-end == it is so at first, after one record more, and at the end it is all
 use mathlib.Core.Path.{◌≡◌, refl, sym, ap, ap₂, ◌∙◌, subst}
-use mathlib.Core.Logic.{◌≢◌}
 use mathlib.Core.Bool.{Bool, true, false, cond, not, So, ◌&&◌, ◌||◌}
 use mathlib.Core.List.{List, [], ◌∷◌, ◌++◌, append_assoc, append-nil}
 use Prim.Native.Nat.{ℕ, zero, suc, ◌+◌, ◌<◌, ◌≤◌}
@@ -22,8 +21,8 @@ use lib.Seq.{take-suc-set, take_all, drop-cons, drop-drop, get_or-drop}
 use Rattle.trace.specs.Bounds.{RECORDS, ADDRESSES, VALUES}
 use Rattle.laws.specs.Tests.{any}
 use Rattle.laws.specs.Picks.{picks}
-use Rattle.trace.specs.Op.{thread, address, read, written, reads, writes, fence}
-use Rattle.trace.specs.Trace.{at, idle, first}
+use Rattle.trace.specs.Op.{thread, address, written, reads, writes, fence}
+use Rattle.trace.specs.Trace.{at, first}
 use Rattle.trace.specs.Meaning.{frame_of}
 use Rattle.trace.specs.FormFacts.{Bounded, WritesThere, Fresh, Follows, Form}
 use Rattle.trace.specs.WellFormed.{well_formed}

@@ -11,9 +11,9 @@
 --   judging-start, judging-more == it is so at first, and after one run more
 --   told-judged            == the verdict on a trace, once it is laid out
 --   all-judged             == each run is judged by its own reads
---   ten, nine, wrong, too_large, all_done == the answers, each by the tests that lead to it
+--   ten, nine, wrong, too_large, all_told == the answers, each by the tests that lead to it
 use mathlib.Core.Path.{◌≡◌, refl, sym, ap, ap₂, ◌∙◌, subst}
-use mathlib.Core.Logic.{◌⊎◌, ◌≢◌, inl, inr}
+use mathlib.Core.Logic.{◌≢◌, inl, inr}
 use mathlib.Core.Bool.{Bool, true, false, cond, So, ◌&&◌, false≢true}
 use mathlib.Core.List.{List, ◌++◌}
 use mathlib.Core.Option.{Option, none, some}
@@ -382,5 +382,5 @@ module _ (t : Trace) (m : ℕ) (ws before : List ℕ) where
           pub too_large : (i k : ℕ) → At i k ≡ large_from t ws 0 (runs_in (length before)) → Nights t m ws before before (TooLarge i k)
           too_large i k e = turned (TooLarge i k) (ap large_told e ∙ told) (λ d. let z : ◌≡◌ {A = ℕ} 0 1 = cc in omega arith)
 
-          pub all_done : Nothing ≡ large_from t ws 0 (runs_in (length before)) → (after : List ℕ) → all_done t m ws (runs_in (length before)) after → Nights t m ws before after Done
-          all_done e after a = record { answer = ap large_told e ∙ told; stays = λ n. absurd (n refl); judged = λ _. a }
+          pub all_told : Nothing ≡ large_from t ws 0 (runs_in (length before)) → (after : List ℕ) → all_done t m ws (runs_in (length before)) after → Nights t m ws before after Done
+          all_told e after a = record { answer = ap large_told e ∙ told; stays = λ n. absurd (n refl); judged = λ _. a }

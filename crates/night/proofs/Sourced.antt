@@ -5,15 +5,14 @@
 --   each-some    == what stands in a list that a function made comes from one of its numbers
 --   runs-sourced == no source is missing in a run
 --   no-lack      == so the kind of a run's verdict is not that of a missing source
-use mathlib.Core.Path.{◌≡◌, refl, sym, ap, ◌∙◌, subst}
-use mathlib.Core.Logic.{◌≢◌, inl, inr}
-use mathlib.Core.Bool.{Bool, true, false, cond, So, not, ◌&&◌, false≢true}
+use mathlib.Core.Path.{◌≡◌, refl, sym, ap, ◌∙◌}
+use mathlib.Core.Logic.{◌≢◌}
+use mathlib.Core.Bool.{Bool, true, false, cond, So, false≢true}
 use mathlib.Core.List.{List, [], ◌∷◌}
 use Prim.Native.Nat.{ℕ, zero, suc, ◌+◌, ◌<◌, ◌≤◌}
 use native.Mathlib.Omega.{arith}
-use lib.Dec.{eqb}
 use lib.ListN.{length, get_or, drop}
-use Rattle.laws.specs.Places.{pos, count}
+use Rattle.laws.specs.Places.{count}
 use Rattle.laws.specs.Picks.{picks}
 use Rattle.laws.proofs.Tests.{and-iff, same-iff, so-eq, not_iff}
 use Rattle.laws.proofs.Places.{at-pos, count-here, count-le}
@@ -28,7 +27,6 @@ use Rattle.trace.specs.declared.Record.{Record}
 use Rattle.trace.specs.declared.Trace.{Trace}
 use Rattle.trace.proofs.Meaning.{reads-iff, writes-iff}
 use Rattle.trace.proofs.WellFormed.{form-iff}
-use Rattle.rules.specs.Frame.{Source}
 use Rattle.rules.specs.Missing.{Missing, Sourced}
 use Rattle.rules.specs.Verdict as said
 use Rattle.signature.specs.Reads.{other, each, values, range_of, digit_of, loads}
@@ -70,11 +68,11 @@ fill-own g q (r ∷ rs) i (suc k) h e L b s = go (fill-own g q rs (suc i) k (ome
         ap (λ (c : Bool). (get_or (fill_reads rs (cond c (drop 1 (each g (picks q (suc i) k))) (each g (picks q (suc i) k)))) L nothing).op) (here ∙ d) ∙ later rec L b s
 
 -- an operation that reads another value
-read_as : (o : Op) (v : ℕ) → So (reads o) → read (read_as o v) ≡ v
-read_as (Load t a r) v s = refl
-read_as (Store t a w) v s = absurd (false≢true s)
-read_as (Swap t a r w) v s = refl
-read_as (Fence t) v s = absurd (false≢true s)
+read_back : (o : Op) (v : ℕ) → So (reads o) → read (read_as o v) ≡ v
+read_back (Load t a r) v s = refl
+read_back (Store t a w) v s = absurd (false≢true s)
+read_back (Swap t a r w) v s = refl
+read_back (Fence t) v s = absurd (false≢true s)
 
 reads_as : (o : Op) (v : ℕ) → reads (read_as o v) ≡ reads o
 reads_as (Load t a r) v = refl
@@ -109,7 +107,7 @@ module _ (t : Trace) (form : Form t) (ws : List ℕ) where
   unfolding filled_reads loads
   run-reads L b s =
       ap read (fill-own (read_of t ws) (λ L. reads (at t L)) t.records 0 t.len (omega (arith, form.fits, form.places)) (λ j c. ap (λ (n : ℕ). reads (at t n)) (let z : j ≡ 0 + j = omega arith in z)) L b (ap (λ (n : ℕ). reads (at t n)) (let z : 0 + L ≡ L = omega arith in z) ∙ s))
-      ∙ read_as (at t L) (read_of t ws (0 + L)) s
+      ∙ read_back (at t L) (read_of t ws (0 + L)) s
       ∙ ap (read_of t ws) (let z : 0 + L ≡ L = omega arith in z)
 
   -- what was read is in its list: the first value, or one that another record wrote

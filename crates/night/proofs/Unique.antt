@@ -5,25 +5,23 @@
 --   nights-one      == what `night` answers and leaves is settled
 --   FUNCTION-settles, FUNCTION-leaves == the contract settles what the function gives back, and what the lent memory holds
 use mathlib.Core.Path.{◌≡◌, refl, sym, ap, ◌∙◌}
-use mathlib.Core.Bool.{true, false}
 use mathlib.Core.List.{List}
 use mathlib.Core.Logic.{inl, inr, ◌⊎◌, ◌≢◌}
-use Prim.Native.Nat.{ℕ, ◌+◌, ◌*◌, ◌/◌, ◌%◌, ◌<◌, ◌≤◌}
+use Prim.Native.Nat.{ℕ, ◌+◌, ◌*◌, ◌/◌, ◌%◌, ◌<◌}
 use native.Mathlib.Nat.{div-add-mod', mod-lt, div-lt_iff_lt-mul}
 use native.Mathlib.Omega.{arith}
-use lib.ListN.{length, get_or, take, drop}
+use lib.ListN.{length, get_or, drop}
 use lib.Seq.{ext_get_or, get_or-take, get_or-drop}
 use Rattle.laws.specs.Settles.{Settles, Leaves}
 use Rattle.trace.specs.Meaning.{frame_of}
 use Rattle.trace.specs.declared.Trace.{Trace}
 use Rattle.pairs.specs.Kept.{kept_of}
-use Rattle.rules.specs.Verdict as said
 use Rattle.rules.proofs.Says.{verdict-one}
 use Rattle.signature.specs.Unpack.{reads_of}
 use Rattle.night.specs.FilledReads.{filled_reads}
 use Rattle.night.specs.Block.{BLOCK, block_of}
 use Rattle.signature.specs.ManyRuns.{words_at}
-use Rattle.night.specs.Night.{block_at, runs_in, night_of, JudgedRun, all_done, Nights}
+use Rattle.night.specs.Night.{block_at, runs_in, JudgedRun, all_done, Nights}
 use Rattle.night.specs.declared.Answer.{Answer}
 use Rattle.night.specs.declared.Answer.TheVariants.{Done, NotWellFormed, NoModel, WrongLength, TooLarge}
 use Rattle.night.proofs.seeing.seen.Reads as sees

@@ -8,7 +8,7 @@
 --   BlockPut t m n before after i == the block of run i is the verdict on the program with the run's reads, n of them, as they stood; no block behind it
 --                                    and nothing in front of it is another
 --   AllJudged t m n before after runs == so is the block of each run
-use Rattle.std.specs.Prelude.{◌≡◌, List, ℕ, ◌*◌, ◌<◌, ◌≤◌, length, take, drop}
+use Rattle.std.specs.Prelude.{◌≡◌, List, ℕ, ◌*◌, ◌<◌, length, take, drop}
 use Rattle.std.proofs.Math.Bool.{So}
 use Rattle.trace.specs.Meaning.{frame_of}
 use Rattle.trace.specs.WellFormed.{well_formed}
