@@ -4,6 +4,7 @@
 --   FUNCTION-settles == the contract settles what the function gives back
 --   FUNCTION-shows   == the contract settles the part of the text that it hands back: where it lies and its bytes
 --   FUNCTION-says    == the clause of a function over the struct is this statement of what comes back, and nothing else
+--   FUNCTION-read-settles, FUNCTION-read-shows == the same of that contract as Reads has it
 use mathlib.Core.Path.{◌≡◌, refl, ◌∙◌, sym}
 use mathlib.Core.List.{List}
 use Prim.Native.Nat.{ℕ}
@@ -24,12 +25,18 @@ use Rattle.lines.specs.declared.Reader.{Reader}
 use Rattle.lines.specs.contracts.new as new
 use Rattle.lines.specs.contracts.line as line
 use Rattle.lines.specs.contracts.next as next
-use Rattle.lines.proofs.line_at.Reads as line_at_lem
+use Rattle.lines.proofs.new.Reads as new-reads
+use Rattle.lines.proofs.new.Kinds as new-kinds
+use Rattle.lines.proofs.line.Reads as line-reads
+use Rattle.lines.proofs.line.Kinds as line-kinds
+use Rattle.lines.proofs.next.Reads as next-reads
+use Rattle.lines.proofs.next.Kinds as next-kinds
+use Rattle.lines.proofs.line_at.Reads as line-at
 use Rattle.lines.proofs.line_at.Kinds as line-at-kinds
 use Rattle.lines.proofs.next_at.Reads as next-at
 use Rattle.lines.proofs.next_at.Kinds as next-at-kinds
 
-pub line-at-shows : Shows 1 line-at-kinds.ps line-at-kinds.r (λ κs x. laid_part x) line_at_lem.Post
+pub line-at-shows : Shows 1 line-at-kinds.ps line-at-kinds.r (λ κs x. laid_part x) line-at.Post
 line-at-shows κs a x y s t p q = part-one a.0 p q
 
 pub next-at-settles : Settles 1 next-at-kinds.ps next-at-kinds.r next-at.Post
@@ -60,3 +67,13 @@ line-shows r x y p q = part-one r.text p q
 
 pub next-settles : (r x y : Reader) → Next r x → Next r y → x ≡ y
 next-settles r x y p q i = record { text = (p.0 ∙ sym q.0) i; at = (p.1 ∙ sym q.1) i }
+
+-- the same of their contracts as every other function's is told
+pub new-read-settles : Settles 1 new-kinds.ps new-kinds.r new-reads.Post
+new-read-settles κs a x y s t p q = new-settles a.0 x y p q
+
+pub line-read-shows : Shows 1 line-kinds.ps line-kinds.r (λ κs x. laid_part x) line-reads.Post
+line-read-shows κs a x y s t p q = line-shows a.0 x y p q
+
+pub next-read-settles : Settles 1 next-kinds.ps next-kinds.r next-reads.Post
+next-read-settles κs a x y s t p q = next-settles a.0 x y p q
