@@ -84,8 +84,8 @@ fn close(
     limit: usize,
     at: usize,
 ) -> Put
-    requires so { So (well_formed t) × So (modelled model) × (len ≤ length steps.now) × (len < RECORDS) × (at ≤ limit) × (length from.old ≡ BRANCH) × (length to.old ≡ BRANCH) }
-    requires supposed_value { (supposed_of t supposed.now ≡ inside (branch_of from.old to.old count)) × (count + length (along (tell (frame_of t) (kept_of model t) (inside (branch_of from.old to.old count)) k) (branch_of from.old to.old count) s (take len steps.now) s) ≤ BRANCH) }
+    requires lengths { So (well_formed t) × So (modelled model) × (len ≤ length steps.now) × (len < RECORDS) × (at ≤ limit) × (length from.old ≡ BRANCH) × (length to.old ≡ BRANCH) }
+    requires branch { (supposed_of t supposed.now ≡ inside (branch_of from.old to.old count)) × (count + length (along (tell (frame_of t) (kept_of model t) (inside (branch_of from.old to.old count)) k) (branch_of from.old to.old count) s (take len steps.now) s) ≤ BRANCH) }
     ensures { PutKept limit from.old to.old count out.old at (spell (closing (frame_of t) (kept_of model t) k (branch_of from.old to.old count) s (take len steps.now))) from.new to.new out.new result }
 {
     match tell_all(

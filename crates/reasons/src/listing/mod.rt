@@ -78,8 +78,8 @@ fn paper(
     limit: usize,
     at: usize,
 ) -> Put
-    requires so { So (well_formed t) × So (modelled model) × ReadRow (frame_of t) read.now × (length supposed.old ≡ CELLS) × (length from.old ≡ BRANCH) × (length to.old ≡ BRANCH) × (count ≤ BRANCH) × (at ≤ limit) }
-    requires joins { Joins (frame_of t) (inside (branch_of from.old to.old count)) × Closable (frame_of t) (kept_of model t) m (branch_of from.old to.old count) }
+    requires lengths { So (well_formed t) × So (modelled model) × ReadRow (frame_of t) read.now × (length supposed.old ≡ CELLS) × (length from.old ≡ BRANCH) × (length to.old ≡ BRANCH) × (count ≤ BRANCH) × (at ≤ limit) }
+    requires closable { Joins (frame_of t) (inside (branch_of from.old to.old count)) × Closable (frame_of t) (kept_of model t) m (branch_of from.old to.old count) }
     ensures { PutKept limit from.old to.old count out.old at (spell (paper_of (frame_of t) (kept_of model t) m (branch_of from.old to.old count))) from.new to.new out.new result }
 {
     draw(from, to, count, supposed);

@@ -4,7 +4,6 @@ use mathlib.Core.Logic.{inl, inr, ⊎_elim}
 use mathlib.Core.Bool.{true, false}
 use Prim.Native.Nat.{ℕ, ◌+◌}
 use native.Mathlib.Omega.{arith}
-use borrow.Author.Tests.{not-true, not-false}
 use Rattle.laws.proofs.Tests.{off, and-iff, not_iff, same-iff, so-le}
 use Rattle.trace.specs.Meaning.{frame_of}
 use Rattle.pairs.specs.Kept.{kept_of}
@@ -20,7 +19,7 @@ returns-then-not-open c = (
       let a = c.args in
       let f = frame_of a.t in
       let K = kept_of a.model a.t in
-      let o = sym (not-true _ c.if-not-open.true-raw) ∙ c.open.ensures ∙ open-known a.t c.requires.0 a.model a.x a.y E _ _ _ k c.requires.2 c.requires.3 in
+      let o = sym (c.if-not-open.true) ∙ c.open.ensures ∙ open-known a.t c.requires.0 a.model a.x a.y E _ _ _ k c.requires.2 c.requires.3 in
       higher-by f K E a.x a.y false _ _ o refl refl a.best a.best (record { keeps = omega arith; reaches = omega arith; one = inl refl }),
   c.requires.4,
 )
@@ -28,7 +27,7 @@ returns-then-not-open c = (
 pub fallen-one-requires : goal.fallen-one-requires
 fallen-one-requires c =
     let a = c.args in
-    let o = open-operations a.t c.requires.0 a.model a.x a.y _ _ _ (sym c.open.ensures ∙ not-false _ c.if-not-open.false-raw) in
+    let o = open-operations a.t c.requires.0 a.model a.x a.y _ _ _ (sym c.open.ensures ∙ c.if-not-open.false) in
     (c.requires.0, c.requires.1, o.0, o.1)
 
 pub returns-then-best-one : goal.returns-then-best-one
@@ -37,7 +36,7 @@ returns-then-best-one c = (
       let a = c.args in
       let f = frame_of a.t in
       let K = kept_of a.model a.t in
-      let o = sym (not-false _ c.if-not-open.false-raw) ∙ c.open.ensures ∙ open-known a.t c.requires.0 a.model a.x a.y E _ _ _ k c.requires.2 c.requires.3 in
+      let o = sym (c.if-not-open.false) ∙ c.open.ensures ∙ open-known a.t c.requires.0 a.model a.x a.y E _ _ _ k c.requires.2 c.requires.3 in
       let s = (and-iff (so-le {m = BOTH} {n = a.best + 1}) (not_iff (same-iff {a = c.fallen-one.result}))).0 c.if-best-one.true in
       higher-by f K E a.x a.y true false _ o (sym (off s.1) ∙ c.fallen-one.ensures E k.long k.supposed) refl a.best a.best
       (record { keeps = omega arith; reaches = omega (arith, s.0, ranked-half (fallen f K (named E a.y a.x))); one = inl refl }),
@@ -47,7 +46,7 @@ returns-then-best-one c = (
 pub fallen-other-requires : goal.fallen-other-requires
 fallen-other-requires c =
     let a = c.args in
-    let o = open-operations a.t c.requires.0 a.model a.x a.y _ _ _ (sym c.open.ensures ∙ not-false _ c.if-not-open.false-raw) in
+    let o = open-operations a.t c.requires.0 a.model a.x a.y _ _ _ (sym c.open.ensures ∙ c.if-not-open.false) in
     (c.requires.0, c.requires.1, o.1, o.0)
 
 pub returns-then-one-other : goal.returns-then-one-other
@@ -56,7 +55,7 @@ returns-then-one-other c = (
       let a = c.args in
       let f = frame_of a.t in
       let K = kept_of a.model a.t in
-      let o = sym (not-false _ c.if-not-open.false-raw) ∙ c.open.ensures ∙ open-known a.t c.requires.0 a.model a.x a.y E _ _ _ k c.requires.2 c.requires.3 in
+      let o = sym (c.if-not-open.false) ∙ c.open.ensures ∙ open-known a.t c.requires.0 a.model a.x a.y E _ _ _ k c.requires.2 c.requires.3 in
       let p = c.fallen-one.ensures E k.long k.supposed in
       let q = c.fallen-other.ensures E k.long k.supposed in
       let s = (and-iff (same-iff {a = c.fallen-one.result}) (same-iff {a = c.fallen-other.result})).0 c.if-one-other.true in
@@ -70,7 +69,7 @@ returns-then-one-other-2 c = (
       let a = c.args in
       let f = frame_of a.t in
       let K = kept_of a.model a.t in
-      let o = sym (not-false _ c.if-not-open.false-raw) ∙ c.open.ensures ∙ open-known a.t c.requires.0 a.model a.x a.y E _ _ _ k c.requires.2 c.requires.3 in
+      let o = sym (c.if-not-open.false) ∙ c.open.ensures ∙ open-known a.t c.requires.0 a.model a.x a.y E _ _ _ k c.requires.2 c.requires.3 in
       let p = c.fallen-one.ensures E k.long k.supposed in
       let q = c.fallen-other.ensures E k.long k.supposed in
       let e = ranked-one c.fallen-one.result c.fallen-other.result c.if-one-other.false c.if-one-other-2.true in
@@ -84,7 +83,7 @@ returns c = (
       let a = c.args in
       let f = frame_of a.t in
       let K = kept_of a.model a.t in
-      let o = sym (not-false _ c.if-not-open.false-raw) ∙ c.open.ensures ∙ open-known a.t c.requires.0 a.model a.x a.y E _ _ _ k c.requires.2 c.requires.3 in
+      let o = sym (c.if-not-open.false) ∙ c.open.ensures ∙ open-known a.t c.requires.0 a.model a.x a.y E _ _ _ k c.requires.2 c.requires.3 in
       let p = c.fallen-one.ensures E k.long k.supposed in
       let q = c.fallen-other.ensures E k.long k.supposed in
       let e = ranked-none c.fallen-one.result c.fallen-other.result c.if-one-other-2.false in

@@ -17,7 +17,7 @@ returns-then-n-eq0 c =
 
 pub close-requires : goal.close-requires
 close-requires c =
-    let a = c.args in record { so = (c.requires.0, c.requires.1, search rules, omega (arith, c.shown-n.ensures.fits), c.requires.5, c.requires.6, c.requires.7); supposed_value = (c.requires.2, omega (arith, branch-long a.from.now a.to.now a.count, leaf-short a.t a.model a.supposed.now (branch_of a.from.now a.to.now a.count) c.requires.0 c.requires.1 c.requires.2 c.requires.3 c.last_round-last.result c.last_round-last.ensures c.shown-n.result _ c.shown-n.ensures c.requires.4 (omega (arith, c.if-n-eq0.false)))) }
+    let a = c.args in record { lengths = (c.requires.0, c.requires.1, search rules, omega (arith, c.shown-n.ensures.fits), c.requires.5, c.requires.6, c.requires.7); branch = (c.requires.2, omega (arith, branch-long a.from.now a.to.now a.count, leaf-short a.t a.model a.supposed.now (branch_of a.from.now a.to.now a.count) c.requires.0 c.requires.1 c.requires.2 c.requires.3 c.last_round-last.result c.last_round-last.ensures c.shown-n.result _ c.shown-n.ensures c.requires.4 (omega (arith, c.if-n-eq0.false)))) }
 
 pub returns : goal.returns
 returns c =

@@ -1,5 +1,5 @@
 -- `listing::paper`: what falls is the number of splits left.
-use mathlib.Core.Path.{◌≡◌, refl, sym, ◌∙◌, subst⁻¹}
+use mathlib.Core.Path.{◌≡◌, refl, ◌∙◌, subst⁻¹}
 use mathlib.Core.List.{List}
 use Prim.Native.Nat.{◌+◌, ◌-◌}
 use native.Mathlib.Omega.{arith}
@@ -19,121 +19,106 @@ use Rattle.reasons.proofs.listing.+paper.Goals as goal
 
 pub draw-requires : goal.draw-requires
 draw-requires t c =
-    let pre = c.requires.so in
+    let pre = c.requires.lengths in
     (omega (arith, pre.4, pre.6), omega (arith, pre.5, pre.6), pre.3)
 
 pub next_of-requires : goal.next_of-requires
 next_of-requires t c =
-    let pre = c.requires.so in
+    let pre = c.requires.lengths in
     let d = c.draw in
     (pre.0, pre.1, d.ensures.0, pre.2)
 
 pub leaf-requires : goal.leaf-requires
 leaf-requires t c =
     let a = c.args in
-    let pre = c.requires.so in
+    let pre = c.requires.lengths in
     let d = c.draw in
     let u = c.next_of in
-    let c₀ = circle-here a.t pre.0 a.model a.m a.count a.from.now a.to.now d.new.supposed c.requires.joins.0 d.ensures u.result u.ensures c.in_default.is in
-    (pre.0, pre.1, here-supposed a.t pre.0 a.model a.m a.count a.from.now a.to.now d.new.supposed c.requires.joins.0 d.ensures u.result u.ensures, c₀, closed-fair a.t pre.0 a.model c.requires.joins.1 c₀, pre.7, pre.4, pre.5)
+    let c₀ = circle-here a.t pre.0 a.model a.m a.count a.from.now a.to.now d.new.supposed c.requires.closable.0 d.ensures u.result u.ensures c.in_default.is in
+    (pre.0, pre.1, here-supposed a.t pre.0 a.model a.m a.count a.from.now a.to.now d.new.supposed c.requires.closable.0 d.ensures u.result u.ensures, c₀, closed-fair a.t pre.0 a.model c.requires.closable.1 c₀, pre.7, pre.4, pre.5)
 
 pub returns-in_default : goal.returns-in_default
 returns-in_default t c =
     let a = c.args in
-    let pre = c.requires.so in
+    let pre = c.requires.lengths in
     let E = branch_of a.from.now a.to.now a.count in
     let d = c.draw in
     let u = c.next_of in
-    let c₀ = circle-here a.t pre.0 a.model a.m a.count a.from.now a.to.now d.new.supposed c.requires.joins.0 d.ensures u.result u.ensures c.in_default.is in
+    let c₀ = circle-here a.t pre.0 a.model a.m a.count a.from.now a.to.now d.new.supposed c.requires.closable.0 d.ensures u.result u.ensures c.in_default.is in
     let v = c.leaf in
     subst⁻¹ (λ (es : List Entry). PutKept a.limit a.from.now a.to.now a.count a.out.now a.at (spell es) v.new.from v.new.to v.new.out v.result) (paper-closed a.t pre.0 a.model a.m E c₀) v.ensures
 
 pub overflow_cast-a : goal.overflow_cast-a
 overflow_cast-a t c =
     let a = c.args in
-    let pre = c.requires.so in
+    let pre = c.requires.lengths in
     let d = c.draw in
     let u = c.next_of in
-    let sp = split-here a.t pre.0 a.model a.m a.count a.from.now a.to.now d.new.supposed c.requires.joins.0 d.ensures u.result u.ensures _ _ c.in-Split.is c.requires.joins.1 in
+    let sp = split-here a.t pre.0 a.model a.m a.count a.from.now a.to.now d.new.supposed c.requires.closable.0 d.ensures u.result u.ensures _ _ c.in-Split.is c.requires.closable.1 in
     omega (arith, numbered a.t pre.0 _ sp.operations.0)
 
 pub overflow_cast-b : goal.overflow_cast-b
 overflow_cast-b t c =
     let a = c.args in
-    let pre = c.requires.so in
+    let pre = c.requires.lengths in
     let d = c.draw in
     let u = c.next_of in
-    let sp = split-here a.t pre.0 a.model a.m a.count a.from.now a.to.now d.new.supposed c.requires.joins.0 d.ensures u.result u.ensures _ _ c.in-Split.is c.requires.joins.1 in
+    let sp = split-here a.t pre.0 a.model a.m a.count a.from.now a.to.now d.new.supposed c.requires.closable.0 d.ensures u.result u.ensures _ _ c.in-Split.is c.requires.closable.1 in
     omega (arith, numbered a.t pre.0 _ sp.operations.1)
 
 pub returns-in_default-lay_split : goal.returns-in_default-lay_split
 returns-in_default-lay_split t c =
     let a = c.args in
-    let pre = c.requires.so in
+    let pre = c.requires.lengths in
     let E = branch_of a.from.now a.to.now a.count in
     let f = frame_of a.t in
     let K = kept_of a.model a.t in
     let d = c.draw in
     let u = c.next_of in
-    let sp = split-here a.t pre.0 a.model a.m a.count a.from.now a.to.now d.new.supposed c.requires.joins.0 d.ensures u.result u.ensures _ _ c.in-Split.is c.requires.joins.1 in
+    let sp = split-here a.t pre.0 a.model a.m a.count a.from.now a.to.now d.new.supposed c.requires.closable.0 d.ensures u.result u.ensures _ _ c.in-Split.is c.requires.closable.1 in
     let h = c.lay_split in
     let es = paper_of f K (a.m - 1) (named E c.in-Split.x c.in-Split.y) in
     let fs = paper_of f K (a.m - 1) (named E c.in-Split.y c.in-Split.x) in
     subst⁻¹ (λ (l : List Entry). a.limit < a.at + length (spell l)) sp.list
     (split-over a.limit a.out.now a.at c.in-Split.x c.in-Split.y es fs a.out.now (put-at _ _ _ _ _ _ _ h.ensures c.in_default-lay_split.is))
 
-pub offset_bounds-from-count : goal.offset_bounds-from-count
-offset_bounds-from-count t c =
-    let pre = c.requires.so in
-    omega (arith, pre.6)
-
 pub bounds-from-count : goal.bounds-from-count
 bounds-from-count t c =
     let a = c.args in
-    let pre = c.requires.so in
+    let pre = c.requires.lengths in
     let d = c.draw in
     let u = c.next_of in
-    let sp = split-here a.t pre.0 a.model a.m a.count a.from.now a.to.now d.new.supposed c.requires.joins.0 d.ensures u.result u.ensures _ _ c.in-Split.is c.requires.joins.1 in
+    let sp = split-here a.t pre.0 a.model a.m a.count a.from.now a.to.now d.new.supposed c.requires.closable.0 d.ensures u.result u.ensures _ _ c.in-Split.is c.requires.closable.1 in
     let room : a.count < BRANCH = omega (arith, sp.room, branch-long a.from.now a.to.now a.count) in
     omega (arith, room, pre.4)
-
-pub offset_bounds-to-count : goal.offset_bounds-to-count
-offset_bounds-to-count t c =
-    let pre = c.requires.so in
-    omega (arith, pre.6)
 
 pub bounds-to-count : goal.bounds-to-count
 bounds-to-count t c =
     let a = c.args in
-    let pre = c.requires.so in
+    let pre = c.requires.lengths in
     let d = c.draw in
     let u = c.next_of in
-    let sp = split-here a.t pre.0 a.model a.m a.count a.from.now a.to.now d.new.supposed c.requires.joins.0 d.ensures u.result u.ensures _ _ c.in-Split.is c.requires.joins.1 in
+    let sp = split-here a.t pre.0 a.model a.m a.count a.from.now a.to.now d.new.supposed c.requires.closable.0 d.ensures u.result u.ensures _ _ c.in-Split.is c.requires.closable.1 in
     let room : a.count < BRANCH = omega (arith, sp.room, branch-long a.from.now a.to.now a.count) in
     omega (arith, room, pre.5)
 
 pub overflow_sub-m : goal.overflow_sub-m
 overflow_sub-m t c =
     let a = c.args in
-    let pre = c.requires.so in
+    let pre = c.requires.lengths in
     let d = c.draw in
     let u = c.next_of in
-    let sp = split-here a.t pre.0 a.model a.m a.count a.from.now a.to.now d.new.supposed c.requires.joins.0 d.ensures u.result u.ensures _ _ c.in-Split.is c.requires.joins.1 in
+    let sp = split-here a.t pre.0 a.model a.m a.count a.from.now a.to.now d.new.supposed c.requires.closable.0 d.ensures u.result u.ensures _ _ c.in-Split.is c.requires.closable.1 in
     omega (arith, sp.fuel)
-
-pub overflow_add-count : goal.overflow_add-count
-overflow_add-count t c =
-    let pre = c.requires.so in
-    omega (arith, pre.6)
 
 pub paper-requires : goal.paper-requires
 paper-requires t c =
     let a = c.args in
-    let pre = c.requires.so in
+    let pre = c.requires.lengths in
     let E = branch_of a.from.now a.to.now a.count in
     let d = c.draw in
     let u = c.next_of in
-    let sp = split-here a.t pre.0 a.model a.m a.count a.from.now a.to.now d.new.supposed c.requires.joins.0 d.ensures u.result u.ensures _ _ c.in-Split.is c.requires.joins.1 in
+    let sp = split-here a.t pre.0 a.model a.m a.count a.from.now a.to.now d.new.supposed c.requires.closable.0 d.ensures u.result u.ensures _ _ c.in-Split.is c.requires.closable.1 in
     let h = c.lay_split in
     let room : a.count < BRANCH = omega (arith, sp.room, branch-long a.from.now a.to.now a.count) in
     let pl = put-at _ _ _ _ _ _ _ h.ensures c.in-At.is in
@@ -143,47 +128,22 @@ paper-requires t c =
       (
         (pre.0, pre.1, pre.2, d.ensures.0, length-set a.from.now a.count c.in-Split.x ∙ pre.4, length-set a.to.now a.count c.in-Split.y ∙ pre.5, omega arith, pl.1),
         (
-          side-joins a.t pre.0 a.model (a.m - 1) E a.from.now a.to.now a.count c.in-Split.x c.in-Split.y refl lf lt c.requires.joins.0 sp.operations.0 sp.operations.1,
+          side-joins a.t pre.0 a.model (a.m - 1) E a.from.now a.to.now a.count c.in-Split.x c.in-Split.y refl lf lt c.requires.closable.0 sp.operations.0 sp.operations.1,
           side-closes a.t pre.0 a.model (a.m - 1) E a.from.now a.to.now a.count c.in-Split.x c.in-Split.y refl lf lt sp.first,
         ),
       ),
     )
 
-pub shape_of-supposed-in_default-paper : goal.shape_of-supposed-in_default-paper
-shape_of-supposed-in_default-paper t c =
-    let pre = c.requires.so in
-    let d = c.draw in
-    let v = c.paper in
-    v.auto.supposed ∙ d.ensures.0 ∙ sym pre.3
-
-pub shape_of-from-in_default-paper : goal.shape_of-from-in_default-paper
-shape_of-from-in_default-paper t c =
-    let a = c.args in
-    let v = c.paper in
-    v.auto.from ∙ length-set a.from.now a.count c.in-Split.x
-
-pub shape_of-to-in_default-paper : goal.shape_of-to-in_default-paper
-shape_of-to-in_default-paper t c =
-    let a = c.args in
-    let v = c.paper in
-    v.auto.to ∙ length-set a.to.now a.count c.in-Split.y
-
-pub shape_of-out-in_default-paper : goal.shape_of-out-in_default-paper
-shape_of-out-in_default-paper t c =
-    let h = c.lay_split in
-    let v = c.paper in
-    v.auto.out ∙ h.auto.out
-
 pub returns-in_default-paper : goal.returns-in_default-paper
 returns-in_default-paper t c =
     let a = c.args in
-    let pre = c.requires.so in
+    let pre = c.requires.lengths in
     let E = branch_of a.from.now a.to.now a.count in
     let f = frame_of a.t in
     let K = kept_of a.model a.t in
     let d = c.draw in
     let u = c.next_of in
-    let sp = split-here a.t pre.0 a.model a.m a.count a.from.now a.to.now d.new.supposed c.requires.joins.0 d.ensures u.result u.ensures _ _ c.in-Split.is c.requires.joins.1 in
+    let sp = split-here a.t pre.0 a.model a.m a.count a.from.now a.to.now d.new.supposed c.requires.closable.0 d.ensures u.result u.ensures _ _ c.in-Split.is c.requires.closable.1 in
     let h = c.lay_split in
     let room : a.count < BRANCH = omega (arith, sp.room, branch-long a.from.now a.to.now a.count) in
     let pl = put-at _ _ _ _ _ _ _ h.ensures c.in-At.is in
@@ -199,34 +159,24 @@ returns-in_default-paper t c =
     let over = kept_at _ _ _ _ _ _ _ _ _ _ _ _ done c.in_default-paper.is in
     subst⁻¹ (λ (l : List Entry). a.limit < a.at + length (spell l)) sp.list (first-over a.limit a.out.now a.at c.in-Split.x c.in-Split.y es fs h.new.out c.in-At.p pl over)
 
-pub offset_bounds-from-count-2 : goal.offset_bounds-from-count-2
-offset_bounds-from-count-2 t c =
-    let pre = c.requires.so in
-    omega (arith, pre.6)
-
 pub bounds-from-count-2 : goal.bounds-from-count-2
 bounds-from-count-2 t c =
     let a = c.args in
-    let pre = c.requires.so in
+    let pre = c.requires.lengths in
     let d = c.draw in
     let u = c.next_of in
-    let sp = split-here a.t pre.0 a.model a.m a.count a.from.now a.to.now d.new.supposed c.requires.joins.0 d.ensures u.result u.ensures _ _ c.in-Split.is c.requires.joins.1 in
+    let sp = split-here a.t pre.0 a.model a.m a.count a.from.now a.to.now d.new.supposed c.requires.closable.0 d.ensures u.result u.ensures _ _ c.in-Split.is c.requires.closable.1 in
     let room : a.count < BRANCH = omega (arith, sp.room, branch-long a.from.now a.to.now a.count) in
     let v = c.paper in
     omega (arith, room, pre.4, v.auto.from, length-set a.from.now a.count c.in-Split.x)
 
-pub offset_bounds-to-count-2 : goal.offset_bounds-to-count-2
-offset_bounds-to-count-2 t c =
-    let pre = c.requires.so in
-    omega (arith, pre.6)
-
 pub bounds-to-count-2 : goal.bounds-to-count-2
 bounds-to-count-2 t c =
     let a = c.args in
-    let pre = c.requires.so in
+    let pre = c.requires.lengths in
     let d = c.draw in
     let u = c.next_of in
-    let sp = split-here a.t pre.0 a.model a.m a.count a.from.now a.to.now d.new.supposed c.requires.joins.0 d.ensures u.result u.ensures _ _ c.in-Split.is c.requires.joins.1 in
+    let sp = split-here a.t pre.0 a.model a.m a.count a.from.now a.to.now d.new.supposed c.requires.closable.0 d.ensures u.result u.ensures _ _ c.in-Split.is c.requires.closable.1 in
     let room : a.count < BRANCH = omega (arith, sp.room, branch-long a.from.now a.to.now a.count) in
     let v = c.paper in
     omega (arith, room, pre.5, v.auto.to, length-set a.to.now a.count c.in-Split.y)
@@ -234,25 +184,20 @@ bounds-to-count-2 t c =
 pub overflow_sub-m-2 : goal.overflow_sub-m-2
 overflow_sub-m-2 t c =
     let a = c.args in
-    let pre = c.requires.so in
+    let pre = c.requires.lengths in
     let d = c.draw in
     let u = c.next_of in
-    let sp = split-here a.t pre.0 a.model a.m a.count a.from.now a.to.now d.new.supposed c.requires.joins.0 d.ensures u.result u.ensures _ _ c.in-Split.is c.requires.joins.1 in
+    let sp = split-here a.t pre.0 a.model a.m a.count a.from.now a.to.now d.new.supposed c.requires.closable.0 d.ensures u.result u.ensures _ _ c.in-Split.is c.requires.closable.1 in
     omega (arith, sp.fuel)
-
-pub overflow_add-count-2 : goal.overflow_add-count-2
-overflow_add-count-2 t c =
-    let pre = c.requires.so in
-    omega (arith, pre.6)
 
 pub paper-requires-2 : goal.paper-requires-2
 paper-requires-2 t c =
     let a = c.args in
-    let pre = c.requires.so in
+    let pre = c.requires.lengths in
     let E = branch_of a.from.now a.to.now a.count in
     let d = c.draw in
     let u = c.next_of in
-    let sp = split-here a.t pre.0 a.model a.m a.count a.from.now a.to.now d.new.supposed c.requires.joins.0 d.ensures u.result u.ensures _ _ c.in-Split.is c.requires.joins.1 in
+    let sp = split-here a.t pre.0 a.model a.m a.count a.from.now a.to.now d.new.supposed c.requires.closable.0 d.ensures u.result u.ensures _ _ c.in-Split.is c.requires.closable.1 in
     let h = c.lay_split in
     let room : a.count < BRANCH = omega (arith, sp.room, branch-long a.from.now a.to.now a.count) in
     let lf : a.count < length a.from.now = omega (arith, room, pre.4) in
@@ -272,51 +217,22 @@ paper-requires-2 t c =
       (
         (pre.0, pre.1, pre.2, v.auto.supposed ∙ d.ensures.0, length-set from₁ a.count c.in-Split.y ∙ long, length-set to₁ a.count c.in-Split.x ∙ long', omega arith, kept.1),
         (
-          side-joins a.t pre.0 a.model (a.m - 1) E from₁ to₁ a.count c.in-Split.y c.in-Split.x front l₁ l₂ c.requires.joins.0 sp.operations.1 sp.operations.0,
+          side-joins a.t pre.0 a.model (a.m - 1) E from₁ to₁ a.count c.in-Split.y c.in-Split.x front l₁ l₂ c.requires.closable.0 sp.operations.1 sp.operations.0,
           side-closes a.t pre.0 a.model (a.m - 1) E from₁ to₁ a.count c.in-Split.y c.in-Split.x front l₁ l₂ sp.other,
         ),
       ),
     )
 
-pub shape_of-supposed : goal.shape_of-supposed
-shape_of-supposed t c =
-    let pre = c.requires.so in
-    let d = c.draw in
-    let v = c.paper in
-    let z = c.paper-2 in
-    z.auto.supposed ∙ v.auto.supposed ∙ d.ensures.0 ∙ sym pre.3
-
-pub shape_of-from : goal.shape_of-from
-shape_of-from t c =
-    let a = c.args in
-    let v = c.paper in
-    let z = c.paper-2 in
-    z.auto.from ∙ length-set v.new.from a.count c.in-Split.y ∙ v.auto.from ∙ length-set a.from.now a.count c.in-Split.x
-
-pub shape_of-to : goal.shape_of-to
-shape_of-to t c =
-    let a = c.args in
-    let v = c.paper in
-    let z = c.paper-2 in
-    z.auto.to ∙ length-set v.new.to a.count c.in-Split.x ∙ v.auto.to ∙ length-set a.to.now a.count c.in-Split.y
-
-pub shape_of-out : goal.shape_of-out
-shape_of-out t c =
-    let h = c.lay_split in
-    let v = c.paper in
-    let z = c.paper-2 in
-    z.auto.out ∙ v.auto.out ∙ h.auto.out
-
 pub returns : goal.returns
 returns t c =
     let a = c.args in
-    let pre = c.requires.so in
+    let pre = c.requires.lengths in
     let E = branch_of a.from.now a.to.now a.count in
     let f = frame_of a.t in
     let K = kept_of a.model a.t in
     let d = c.draw in
     let u = c.next_of in
-    let sp = split-here a.t pre.0 a.model a.m a.count a.from.now a.to.now d.new.supposed c.requires.joins.0 d.ensures u.result u.ensures _ _ c.in-Split.is c.requires.joins.1 in
+    let sp = split-here a.t pre.0 a.model a.m a.count a.from.now a.to.now d.new.supposed c.requires.closable.0 d.ensures u.result u.ensures _ _ c.in-Split.is c.requires.closable.1 in
     let h = c.lay_split in
     let room : a.count < BRANCH = omega (arith, sp.room, branch-long a.from.now a.to.now a.count) in
     let pl = put-at _ _ _ _ _ _ _ h.ensures c.in-At.is in

@@ -25,7 +25,7 @@ overflow_add-n c =
 pub paper-requires : goal.paper-requires
 paper-requires c =
     let a = c.args in
-    let zeros = replicate {A = ℕ} BRANCH 0 in record { so = (c.requires.0, c.requires.1, c.note_read.ensures, refl, refl, refl, omega arith, omega arith); joins = (whole-joins a.t c.requires.0 a.model c.requires.2 c.requires.3 zeros zeros (a.t.len * a.t.len + 1) refl, whole-closes a.t c.requires.0 a.model c.requires.2 c.requires.3 zeros zeros (a.t.len * a.t.len + 1) refl) }
+    let zeros = replicate {A = ℕ} BRANCH 0 in record { lengths = (c.requires.0, c.requires.1, c.note_read.ensures, refl, refl, refl, omega arith, omega arith); closable = (whole-joins a.t c.requires.0 a.model c.requires.2 c.requires.3 zeros zeros (a.t.len * a.t.len + 1) refl, whole-closes a.t c.requires.0 a.model c.requires.2 c.requires.3 zeros zeros (a.t.len * a.t.len + 1) refl) }
 
 pub returns : goal.returns
 returns c =

@@ -16,12 +16,6 @@ use Rattle.reasons.proofs.Along.{along-start, along-on, along-over, along-end}
 use Rattle.reasons.proofs.Resting.{tell-inside, inside-place, told-alone, told-short, told-resting}
 use Rattle.reasons.proofs.story.+tell.Goals as goal
 
-pub overflow_cast-p : goal.overflow_cast-p
-overflow_cast-p t c = omega (arith, c.requires.2)
-
-pub overflow_cast-q : goal.overflow_cast-q
-overflow_cast-q t c = omega (arith, c.requires.3)
-
 pub place-requires : goal.place-requires
 place-requires t c =
     let p = c.requires in
@@ -44,15 +38,6 @@ name-requires t c =
     let p = c.requires in
     (omega arith, omega arith, p.4, p.6, p.7)
 
-pub shape_of-from-then-rest : goal.shape_of-from-then-rest
-shape_of-from-then-rest t c = c.name.auto.from
-
-pub shape_of-to-then-rest : goal.shape_of-to-then-rest
-shape_of-to-then-rest t c = c.name.auto.to
-
-pub shape_of-out-then-rest : goal.shape_of-out-then-rest
-shape_of-out-then-rest t c = c.name.auto.out
-
 pub returns-then-rest : goal.returns-then-rest
 returns-then-rest t c =
     let a = c.args in
@@ -68,30 +53,12 @@ loop-i-init t c =
     let p = c.requires in
     (along-start a.limit a.from.now a.to.now a.out.now a.count a.at (telling (frame_of a.t) (kept_of a.model a.t) (supposed_of a.t a.supposed.now) o.result.number) o.result.from o.new.steps o.result.len o.result.to p.5 p.4, omega arith, o.ensures.from-small, p.6, p.7, refl)
 
-pub offset_bounds-steps-i : goal.offset_bounds-steps-i
-offset_bounds-steps-i t c = omega (arith, c.rests_on-rest.ensures.short)
-
-pub bounds-steps-i : goal.bounds-steps-i
-bounds-steps-i t c = omega (arith, c.rests_on-rest.ensures.short)
-
-pub overflow_cast-next : goal.overflow_cast-next
-overflow_cast-next t c = omega (arith, c.rests_on-rest.ensures.steps-small c.loop-i.i)
-
 pub tell-requires : goal.tell-requires
 tell-requires t c =
     let v = c.loop-i.invariant in
     let o = c.rests_on-rest in
     let p = c.requires in
     (omega (arith, c.decreases, o.ensures.lower c.if-rest.false), (p.0, p.1, v.2, o.ensures.steps-small c.loop-i.i, v.0.done.fits, v.0.done.small, v.3, v.4))
-
-pub shape_of-from-in_default : goal.shape_of-from-in_default
-shape_of-from-in_default t c = c.tell.auto.from ∙ c.loop-i.invariant.3 ∙ sym c.requires.6
-
-pub shape_of-to-in_default : goal.shape_of-to-in_default
-shape_of-to-in_default t c = c.tell.auto.to ∙ c.loop-i.invariant.4 ∙ sym c.requires.7
-
-pub shape_of-out-in_default : goal.shape_of-out-in_default
-shape_of-out-in_default t c = c.tell.auto.out ∙ c.loop-i.invariant.5
 
 pub returns-in_default : goal.returns-in_default
 returns-in_default t c =
@@ -126,15 +93,6 @@ tell-requires-2 t c =
     let p = c.requires in
     (omega (arith, c.decreases, o.ensures.lower c.if-rest.false), (p.0, p.1, v.2, o.ensures.to-small, v.0.done.fits, v.0.done.small, v.3, v.4))
 
-pub shape_of-from-in_default-tell : goal.shape_of-from-in_default-tell
-shape_of-from-in_default-tell t c = c.tell-2.auto.from ∙ c.loop-i.invariant.3 ∙ sym c.requires.6
-
-pub shape_of-to-in_default-tell : goal.shape_of-to-in_default-tell
-shape_of-to-in_default-tell t c = c.tell-2.auto.to ∙ c.loop-i.invariant.4 ∙ sym c.requires.7
-
-pub shape_of-out-in_default-tell : goal.shape_of-out-in_default-tell
-shape_of-out-in_default-tell t c = c.tell-2.auto.out ∙ c.loop-i.invariant.5
-
 pub returns-in_default-tell : goal.returns-in_default-tell
 returns-in_default-tell t c =
     let v = c.loop-i.invariant in
@@ -153,15 +111,6 @@ name_resting-requires t c =
     let b = c.tell-2 in
     let d = told-on a.limit c.loop-i.from c.loop-i.to c.loop-i.out c.loop-i.n c.loop-i.w _ b.new.from b.new.to b.new.out b.result _ _ b.ensures c.in-On-tell.is in
     (o.ensures.from-small, o.ensures.to-small, o.ensures.short, o.auto.steps, d.fits, d.small, b.auto.from ∙ v.3, b.auto.to ∙ v.4)
-
-pub shape_of-from : goal.shape_of-from
-shape_of-from t c = c.name_resting.auto.from ∙ c.tell-2.auto.from ∙ c.loop-i.invariant.3 ∙ sym c.requires.6
-
-pub shape_of-to : goal.shape_of-to
-shape_of-to t c = c.name_resting.auto.to ∙ c.tell-2.auto.to ∙ c.loop-i.invariant.4 ∙ sym c.requires.7
-
-pub shape_of-out : goal.shape_of-out
-shape_of-out t c = c.name_resting.auto.out ∙ c.tell-2.auto.out ∙ c.loop-i.invariant.5
 
 pub returns : goal.returns
 returns t c =
