@@ -1,16 +1,16 @@
 -- How the writer tells why an edge of some round is forced. K are the kept pairs, P the supposed ones.
 --
---   edges_of es           == the edges that the entries es name
+--   edges_of es          == the edges that the entries es name
 --   inside E x y         == an entry of E is x before y
---   entry_place E x y     == the lowest place of such an entry; the length of E where there is none
---   entry_number E x y    == the number of such an entry; 0 where there is none
+--   entry_place E x y    == the lowest place of such an entry; the length of E where there is none
+--   entry_number E x y   == the number of such an entry; 0 where there is none
 --   numbers E a zs b     == the numbers of the edges from a by way of zs to b
---   rule_by f K C x y     == the lowest rule that gives the edge, where C are the chains of the round before and no pairs are supposed; 0 where none does
---   rest_load f C x y     == the lowest load that reads from y and that a chain of C leads to from x, x itself excepted
+--   rule_by f K C x y    == the lowest rule that gives the edge, where C are the chains of the round before and no pairs are supposed; 0 where none does
+--   rest_load f C x y    == the lowest load that reads from y and that a chain of C leads to from x, x itself excepted
 --   rests_from, rests_to k x y == where the chain begins and ends that rule 6 or 7 asks for, by the chains of round k
---   way_at k x y          == the way between them
+--   way_at k x y         == the way between them
 --   along tell E a zs b  == tells the edges from a by way of zs to b, one after the other, in the branch E
---   bare_entry f K x y    == the entry of an edge that rests on nothing
+--   bare_entry f K x y   == the entry of an edge that rests on nothing
 --   resting tell k E x y == tells the chain of round k that the edge rests on, and then the edge
 --   tell k E x y         == tells an edge of round k in the branch E: nothing where it is named; otherwise first what it rests on, if anything
 use Rattle.std.specs.Prelude.{true, false, not, cond, ◌&&◌, List, [], ◌∷◌, ◌++◌, ℕ, zero, suc, eqb, ltb, length}

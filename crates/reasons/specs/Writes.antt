@@ -3,7 +3,7 @@
 --   LaidInFront ws before after r == the numbers ws stand in front, the rest is as it was, and r tells how many they are; where they do not fit, all is as it was
 --   ListedBy f K v before after r == the answer where the verdict is v: the list is laid where it is a circle or none left, and otherwise there is nothing to show
 --   Writes t m before after r     == what `write` promises of any trace under any model: 9 before 10, then the answer by the verdict that `Says` allows
---   write_number r                 == document 01's number of an answer that turns the question back, 21 where the room is too small; 0 of any other
+--   write_number r                == document 01's number of an answer that turns the question back, 21 where the room is too small; 0 of any other
 use Rattle.std.specs.Prelude.{◌≡◌, false, List, ◌++◌, ℕ, ◌<◌, ◌≤◌, length, drop}
 use Rattle.std.proofs.Math.Bool.{So}
 use Rattle.laws.specs.Relation.{Table}

@@ -1,19 +1,19 @@
 -- The list that the writer makes.
 --
 --   circle_entry, split_entry == the entries that end and split a branch
---   fallen f K E            == what the branch E names is contradicted: by round n * n some round has added nothing
---   held_in f K E x y        == x before y is held in the branch E, which is not contradicted
---   read_from f x            == some load or swap reads from x
---   open? f K E x y         == two writers of one address, one of them read from, held neither way in the branch E
---   falls, falls₂ f K E x y == a side of the split on x and y closes at once; both sides do
---   first_pair n t           == the first pair below n that passes t, in dictionary order
---   or_pair o p              == o, or p where there is none
---   choose f K E            == the first open pair of which both sides fall, or else the first of which one does, or else the first
---   circle_round f K P       == the first round with a circle
---   closing f K k E s c     == tells the circle of s and then c, of round k, and closes the branch E by it
---   leaf_of f K E            == the same of the circle shown, of the first round that has one
---   paper_of f K m E         == the list for the branch E; m is above what is not held
---   paper f K               == the list for a trace
+--   fallen f K E              == what the branch E names is contradicted: by round n * n some round has added nothing
+--   held_in f K E x y         == x before y is held in the branch E, which is not contradicted
+--   read_from f x             == some load or swap reads from x
+--   open? f K E x y           == two writers of one address, one of them read from, held neither way in the branch E
+--   falls, falls₂ f K E x y   == a side of the split on x and y closes at once; both sides do
+--   first_pair n t            == the first pair below n that passes t, in dictionary order
+--   or_pair o p               == o, or p where there is none
+--   choose f K E              == the first open pair of which both sides fall, or else the first of which one does, or else the first
+--   circle_round f K P        == the first round with a circle
+--   closing f K k E s c       == tells the circle of s and then c, of round k, and closes the branch E by it
+--   leaf_of f K E             == the same of the circle shown, of the first round that has one
+--   paper_of f K m E          == the list for the branch E; m is above what is not held
+--   paper f K                 == the list for a trace
 use Rattle.std.specs.Prelude.{Bool, true, false, not, ◌&&◌, ◌||◌, List, [], ◌∷◌, ◌++◌, ℕ, zero, suc, ◌*◌, eqb}
 use Rattle.std.proofs.Math.Option.{Option, none, some}
 use Rattle.laws.specs.Tests.{any}

@@ -1,17 +1,17 @@
 -- How the writer looks for the pair to split on.
 --
 --   BOTH                     == the rank of a pair of which both sides fall: no rank is higher
---   rank_of f K E x y         == how much a split on x and y is worth in the branch E: 0 where it is not open, otherwise 1, and 1 more for each side that falls
+--   rank_of f K E x y        == how much a split on x and y is worth in the branch E: 0 where it is not open, otherwise 1, and 1 more for each side that falls
 --   ReadRow f read           == the set read has who is read from
 --   SupposedIn t rows E      == the pairs that the rows suppose are those that E names
 --   NamedRows E rows         == the rows have the pairs of records that E names
 --   HeldRows f K E held      == the rows held have what is held in the branch E
 --   Known t m E rows read held == the rows of a branch, its set and what is held in it
 --   Higher best rank r       == r is the higher of the two
---   PairBefore a b x y           == the pair a, b comes before the pair x, y in dictionary order
+--   PairBefore a b x y       == the pair a, b comes before the pair x, y in dictionary order
 --   Best n R x y c           == of the pairs a, b with a < b < n that come before x, y, c is the first of the highest rank
 --   NextIn f K E r           == r is what comes next in the branch E
---   ChosenPair o c               == c is the pair o; its rank is 0 where there is none
+--   ChosenPair o c           == c is the pair o; its rank is 0 where there is none
 use Rattle.std.specs.Prelude.{◌≡◌, ◌⊎◌, ◌↔◌, Bool, false, cond, List, ℕ, ◌+◌, ◌<◌, ◌≤◌, length}
 use Rattle.std.proofs.Math.Bool.{So}
 use Rattle.std.proofs.Math.Option.{Option, none, some}

@@ -1,8 +1,8 @@
 -- What an edge rests on, as a function finds it.
 --
 --   resting_on tell E r x y a zs b == the edges from a by way of zs to b, told in the branch E, and then the edge x, y by rule r, which rests on them
---   RestsOn f K P k x y steps r   == r tells how the edge x, y of round k is told in a branch that does not name it: alone, or as one that rests on the edges by the first of
---                                    the steps, each told as one of an earlier round
+--   RestsOn f K P k x y steps r    == r tells how the edge x, y of round k is told in a branch that does not name it: alone, or as one that rests on the edges by the first of
+--                                     the steps, each told as one of an earlier round
 use Rattle.std.specs.Prelude.{◌≡◌, false, List, [], ◌∷◌, ◌++◌, ℕ, ◌<◌, ◌≤◌, take, get_or}
 use Rattle.std.proofs.Math.Bool.{So}
 use Rattle.laws.specs.Relation.{Table}
