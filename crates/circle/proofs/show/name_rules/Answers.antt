@@ -19,26 +19,8 @@ loop-i-init c =
     let a = c.args in
     (omega arith, named_none (frame_of a.t) (lent_of a.t a.kept.now) (bit a.chains.now) (take a.len a.operations.now) a.rules.now)
 
-pub offset_bounds-operations-i : goal.offset_bounds-operations-i
-offset_bounds-operations-i c = omega arith
-
-pub bounds-operations-i : goal.bounds-operations-i
-bounds-operations-i c = omega arith
-
-pub overflow_cast-x : goal.overflow_cast-x
-overflow_cast-x c = omega (arith, c.type_inv.operations c.loop-i.i)
-
 pub next_of-requires : goal.next_of-requires
 next_of-requires c = omega arith
-
-pub bounds-rules-i : goal.bounds-rules-i
-bounds-rules-i c = omega (arith, c.loop-i.invariant.1.long)
-
-pub overflow_add-i : goal.overflow_add-i
-overflow_add-i c = omega arith
-
-pub loop-i-smaller : goal.loop-i-smaller
-loop-i-smaller c = omega arith
 
 pub loop-i-preserved : goal.loop-i-preserved
 loop-i-preserved c =
@@ -50,9 +32,6 @@ loop-i-preserved c =
     let e : c.lowest_rule_by.result ≡ rule? f K nothing C (get_or (take a.len ops) c.loop-i.i 0) (after (take a.len ops) c.loop-i.i) =
     cc (c.lowest_rule_by.ensures, c.next_of.ensures, get_or-take a.len ops c.loop-i.i 0 (omega arith)) in
     (omega arith, named_more f K C (take a.len ops) a.rules.now c.loop-i.i c.lowest_rule_by.result c.loop-i.rules (omega (arith, c.loop-i.invariant.1.long)) e c.loop-i.invariant.1)
-
-pub shape_of-rules : goal.shape_of-rules
-shape_of-rules c = c.loop-i.invariant.1.long
 
 pub returns : goal.returns
 returns c =

@@ -16,9 +16,6 @@ done c =
     let a = c.args in
     row-added a.walks.now (λ i. (c.type_inv.walks i).fits) a.m a.next.now a.x c.requires.0 (omega (arith, c.requires.0, c.requires.1))
 
-pub shape_of-next : goal.shape_of-next
-shape_of-next c = ap length c.add_row.ensures ∙ (done (goal.at.shape_of-next c).After-add_row).long
-
 pub returns : goal.returns
 returns c = let e = c.add_row.ensures in
     record { long = ap length e ∙ (done (goal.at.returns c).After-add_row).long; pairs = λ i j. rw e ((done (goal.at.returns c).After-add_row).pairs i j) }

@@ -5,7 +5,7 @@ use native.Mathlib.Omega.{arith}
 use Rattle.trace.specs.Bounds.{RECORDS}
 use Rattle.rows.specs.Rows.{Edges}
 use Rattle.rows.proofs.Rows.{bit-bounds}
-use Rattle.edges.proofs.DrawnEdges.{next-on, next-at}
+use Rattle.edges.proofs.DrawnEdges.{next-at}
 use Rattle.circle.specs.inner.WalkRows.{Widened}
 use Rattle.circle.proofs.WalkRows.{Some, added-same}
 use Rattle.circle.proofs.Further.{RowsTurn, rows_all, rows-first, rows_next}
@@ -20,11 +20,6 @@ loop-m-init c =
 pub add_row-requires : goal.add_row-requires
 add_row-requires c = (c.requires.0, c.loop-m.invariant.1.long ∙ c.requires.1)
 
-pub loop-m-smaller : goal.loop-m-smaller
-loop-m-smaller c =
-    let a = c.args in
-    omega (arith, next-on a.edges.now a.x c.loop-m.m _ c.next-m-in-loop-m.ensures (omega arith))
-
 pub loop-m-preserved : goal.loop-m-preserved
 loop-m-preserved c =
     let a = c.args in
@@ -33,9 +28,6 @@ loop-m-preserved c =
       next-at a.edges.now a.x _ _ further,
       rows_next a.edges.now a.walks.now a.next.now a.x c.loop-m.m _ c.loop-m.next _ (omega arith) here further c.loop-m.invariant.1 c.add_row.ensures,
     )
-
-pub shape_of-next : goal.shape_of-next
-shape_of-next c = c.loop-m.invariant.1.long
 
 pub returns : goal.returns
 returns c =

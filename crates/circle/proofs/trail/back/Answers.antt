@@ -16,12 +16,6 @@ use Rattle.circle.proofs.trail.back.Goals as goal
 pub loop-x-init : goal.loop-x-init
 loop-x-init c = let a = c.args in (omega arith, added_none a.reach.now (BackTurn (Edges a.edges.now) (Edges a.reach.now) a.j))
 
-pub overflow_add-x : goal.overflow_add-x
-overflow_add-x c = omega arith
-
-pub loop-x-smaller : goal.loop-x-smaller
-loop-x-smaller c = omega arith
-
 pub loop-x-preserved : goal.loop-x-preserved
 loop-x-preserved c =
     let a = c.args in
@@ -47,9 +41,6 @@ loop-x-preserved c =
             false≢true (sym w.if-meets.false ∙ met.1 (m, d, (row m).1 t))))
       ]),
     )
-
-pub shape_of-reach : goal.shape_of-reach
-shape_of-reach c = c.loop-x.invariant.1.long
 
 pub returns : goal.returns
 returns c =

@@ -16,12 +16,6 @@ returns-then-test c =
     let l = c.loop-s in
     lowest-found RECORDS _ l.s (omega arith) l.invariant.1 (sym c.test.ensures ∙ c.if-test.true)
 
-pub overflow_add-s : goal.overflow_add-s
-overflow_add-s c = omega arith
-
-pub loop-s-smaller : goal.loop-s-smaller
-loop-s-smaller c = omega arith
-
 pub loop-s-preserved : goal.loop-s-preserved
 loop-s-preserved c =
     let l = c.loop-s in

@@ -13,20 +13,11 @@ use Rattle.circle.proofs.Tracing.{trace-first, trace-next, trace-lowest, traced}
 use Rattle.circle.proofs.trail.follow.Goals.{After-step_to-x}
 use Rattle.circle.proofs.trail.follow.Goals as goal
 
-pub overflow_cast-out : goal.overflow_cast-out
-overflow_cast-out c = omega arith
-
-pub bounds-out-0 : goal.bounds-out-0
-bounds-out-0 c = omega arith
-
 pub loop-i-init : goal.loop-i-init
 loop-i-init c =
     let a = c.args in
     let f = c.requires in
     (omega arith, omega arith, f.start, refl, λ p h. refl, trace-first (Edges a.edges.now) a.k a.s a.out.now (omega arith) f.closed)
-
-pub overflow_sub-k : goal.overflow_sub-k
-overflow_sub-k c = omega arith
 
 -- the step from the last place laid
 step-low : (c : After-step_to-x)
@@ -42,22 +33,6 @@ step-low c =
     trace-lowest a.edges.now a.reach.now a.k a.s c.loop-i.i c.loop-i.x c.loop-i.out c.step_to-x.result c.loop-i.invariant.5 c.requires.reach c.loop-i.invariant.0 (omega arith)
     c.step_to-x.ensures
 
-pub overflow_cast-out-in-loop-i : goal.overflow_cast-out-in-loop-i
-overflow_cast-out-in-loop-i c = omega (arith, (step-low c).0)
-
-pub offset_bounds-out-i : goal.offset_bounds-out-i
-offset_bounds-out-i c = omega (arith, c.loop-i.invariant.3, length-set c.args.out.now 0 c.args.s, c.requires.fits)
-
-pub bounds-out-i : goal.bounds-out-i
-bounds-out-i c =
-    omega (arith, c.loop-i.invariant.3, length-set c.args.out.now 0 c.args.s, c.requires.fits)
-
-pub overflow_add-i : goal.overflow_add-i
-overflow_add-i c = omega arith
-
-pub loop-i-smaller : goal.loop-i-smaller
-loop-i-smaller c = omega arith
-
 pub loop-i-preserved : goal.loop-i-preserved
 loop-i-preserved c =
     let a = c.args in
@@ -71,9 +46,6 @@ loop-i-preserved c =
       λ p h. get_or-set_other c.loop-i.out c.loop-i.i p y 0 (omega arith) ∙ c.loop-i.invariant.4 p h,
       trace-next (Edges a.edges.now) a.k a.s c.loop-i.i c.loop-i.x c.loop-i.out c.loop-i.invariant.5 y c.loop-i.invariant.0 (omega arith) (omega (arith, c.loop-i.invariant.3, c.requires.fits)) (step-low c).1,
     )
-
-pub shape_of-out : goal.shape_of-out
-shape_of-out c = let a = c.args in c.loop-i.invariant.3 ∙ length-set a.out.now 0 a.s
 
 pub returns : goal.returns
 returns c =

@@ -1,5 +1,5 @@
 -- `trail::further`: the rows have the walks from numbers below x that are an edge longer.
-use mathlib.Core.Path.{◌≡◌, sym, ◌∙◌}
+use mathlib.Core.Path.{◌≡◌, ◌∙◌}
 use native.Mathlib.Omega.{arith}
 use lib.ListN.{length}
 use Rattle.trace.specs.Bounds.{RECORDS}
@@ -16,12 +16,6 @@ loop-x-init c =
 pub add_rows-requires : goal.add_rows-requires
 add_rows-requires c = (omega arith, c.loop-x.invariant.2.long ∙ c.loop-x.invariant.1)
 
-pub overflow_add-x : goal.overflow_add-x
-overflow_add-x c = omega arith
-
-pub loop-x-smaller : goal.loop-x-smaller
-loop-x-smaller c = omega arith
-
 pub loop-x-preserved : goal.loop-x-preserved
 loop-x-preserved c =
     let a = c.args in (
@@ -29,9 +23,6 @@ loop-x-preserved c =
       c.loop-x.invariant.1,
       added-turn c.clear.new.rows (AllTurn a.edges.now a.walks.now) c.loop-x.x c.loop-x.next c.add_rows.new.next c.loop-x.invariant.2 c.add_rows.ensures,
     )
-
-pub shape_of-next : goal.shape_of-next
-shape_of-next c = c.loop-x.invariant.2.long ∙ c.loop-x.invariant.1 ∙ sym c.requires
 
 pub returns : goal.returns
 returns c =

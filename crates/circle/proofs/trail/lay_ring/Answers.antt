@@ -15,9 +15,6 @@ loop-x-init c =
 pub add_row-requires : goal.add_row-requires
 add_row-requires c = (omega arith, c.loop-x.invariant.1.long)
 
-pub loop-x-smaller : goal.loop-x-smaller
-loop-x-smaller c = omega arith
-
 pub loop-x-preserved : goal.loop-x-preserved
 loop-x-preserved c =
     let a = c.args in
@@ -30,9 +27,6 @@ loop-x-preserved c =
             rw e (ring-skip a.edges.now a.chains.now x c.loop-x.ring (sym c.test.ensures ∙ w.if-test.false) c.loop-x.invariant.1)
       ]),
     )
-
-pub shape_of-ring : goal.shape_of-ring
-shape_of-ring c = c.loop-x.invariant.1.long ∙ sym c.requires
 
 pub returns : goal.returns
 returns c = ring-all _ _ c.loop-x.x _ (omega arith) c.loop-x.invariant.1

@@ -12,12 +12,6 @@ loop-k-init c =
     let e : c.copy.new.to ≡ a.edges.now = c.copy.ensures ∙ copy-same a.edges.now a.walks.now (c.requires.0 ∙ sym c.requires.1) in
     (omega arith, omega arith, c.copy.auto.to ∙ c.requires.1, c.requires.2, rw e (try-first a.edges.now))
 
-pub shape_of-walks-then-reflexive : goal.shape_of-walks-then-reflexive
-shape_of-walks-then-reflexive c = c.loop-k.invariant.2 ∙ sym c.requires.1
-
-pub shape_of-next-then-reflexive : goal.shape_of-next-then-reflexive
-shape_of-next-then-reflexive c = c.loop-k.invariant.3 ∙ sym c.requires.2
-
 pub returns-then-reflexive : goal.returns-then-reflexive
 returns-then-reflexive c =
     let a = c.args in
@@ -25,12 +19,6 @@ returns-then-reflexive c =
 
 pub further-requires : goal.further-requires
 further-requires c = c.loop-k.invariant.3
-
-pub overflow_add-k : goal.overflow_add-k
-overflow_add-k c = omega arith
-
-pub loop-k-smaller : goal.loop-k-smaller
-loop-k-smaller c = omega arith
 
 pub loop-k-preserved : goal.loop-k-preserved
 loop-k-preserved c =
@@ -43,12 +31,6 @@ loop-k-preserved c =
       long,
       rw e (try-next (Edges a.edges.now) c.loop-k.k c.loop-k.walks c.loop-k.invariant.4 c.further.new.next (sym c.reflexive.ensures ∙ c.if-reflexive.false) c.further.ensures),
     )
-
-pub shape_of-walks : goal.shape_of-walks
-shape_of-walks c = c.loop-k.invariant.2 ∙ sym c.requires.1
-
-pub shape_of-next : goal.shape_of-next
-shape_of-next c = c.loop-k.invariant.3 ∙ sym c.requires.2
 
 pub returns : goal.returns
 returns c =

@@ -6,9 +6,6 @@ use Rattle.circle.proofs.trail.off_circles.Goals as goal
 pub loop-x-init : goal.loop-x-init
 loop-x-init c = (omega arith, others-none _)
 
-pub loop-x-smaller : goal.loop-x-smaller
-loop-x-smaller c = omega arith
-
 pub loop-x-preserved : goal.loop-x-preserved
 loop-x-preserved c =
     let a = c.args in

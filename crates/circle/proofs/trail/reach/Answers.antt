@@ -1,5 +1,5 @@
 -- `trail::reach`: the rows up to j have from where s is reached in as many steps.
-use mathlib.Core.Path.{◌≡◌, sym, ap, ◌∙◌, subst}
+use mathlib.Core.Path.{◌≡◌, ap, ◌∙◌, subst}
 use Prim.Native.Nat.{ℕ, ◌+◌}
 use native.Mathlib.Omega.{arith}
 use lib.ListN.{length}
@@ -22,17 +22,8 @@ loop-j-init c =
       rw e (reach-first (Edges a.edges.now) a.s _ (added-exactly n _ _ (added-one (empty_of n) 0 a.s (omega arith) c.requires.0 (empty-long n ∙ c.requires.3)))),
     )
 
-pub overflow_add-j : goal.overflow_add-j
-overflow_add-j c = omega arith
-
 pub back-requires : goal.back-requires
 back-requires c = (omega arith, c.loop-j.invariant.1)
-
-pub overflow_add-j-in-loop-j : goal.overflow_add-j-in-loop-j
-overflow_add-j-in-loop-j c = omega arith
-
-pub loop-j-smaller : goal.loop-j-smaller
-loop-j-smaller c = omega arith
 
 pub loop-j-preserved : goal.loop-j-preserved
 loop-j-preserved c =
@@ -41,9 +32,6 @@ loop-j-preserved c =
       c.back.auto.reach ∙ c.loop-j.invariant.1,
       reach-next (Edges a.edges.now) a.s c.loop-j.j c.loop-j.rows c.back.new.reach c.loop-j.invariant.2 c.back.ensures,
     )
-
-pub shape_of-rows : goal.shape_of-rows
-shape_of-rows c = c.loop-j.invariant.1 ∙ sym c.requires.3
 
 pub returns : goal.returns
 returns c =

@@ -6,7 +6,7 @@ use native.Mathlib.Omega.{arith}
 use Rattle.laws.proofs.Tests.{three}
 use Rattle.trace.specs.Bounds.{RECORDS}
 use Rattle.rows.proofs.Rows.{bit-bounds}
-use Rattle.edges.proofs.DrawnEdges.{next-on, next-at}
+use Rattle.edges.proofs.DrawnEdges.{next-at}
 use Rattle.circle.proofs.Lowest.{lowest-found, lowest-past}
 use Rattle.circle.proofs.trail.step_to.Goals as goal
 
@@ -20,11 +20,6 @@ pub returns-then-test : goal.returns-then-test
 returns-then-test c =
     let l = c.loop-to in
     lowest-found RECORDS _ l.to (omega arith) l.invariant.1 (elim l.invariant.0 [ inl e ↦ e | inr e ↦ absurd (omega arith) ], sym c.test.ensures ∙ c.if-test.true)
-
-pub loop-to-smaller : goal.loop-to-smaller
-loop-to-smaller c =
-    let a = c.args in
-    omega (arith, next-on a.edges.now a.x c.loop-to.to _ c.next-to-in-loop-to.ensures (omega arith))
 
 pub loop-to-preserved : goal.loop-to-preserved
 loop-to-preserved c =

@@ -11,26 +11,11 @@ use Rattle.circle.proofs.trail.wipe.Goals as goal
 pub loop-i-init : goal.loop-i-init
 loop-i-init c = (omega arith, omega arith, fill_none c.args.out.now 0)
 
-pub offset_bounds-out-i : goal.offset_bounds-out-i
-offset_bounds-out-i c = omega arith
-
-pub bounds-out-i : goal.bounds-out-i
-bounds-out-i c = omega arith
-
-pub overflow_add-i : goal.overflow_add-i
-overflow_add-i c = omega arith
-
-pub loop-i-smaller : goal.loop-i-smaller
-loop-i-smaller c = omega arith
-
 pub loop-i-preserved : goal.loop-i-preserved
 loop-i-preserved c =
     let l = c.loop-i in
     let long = length-set l.out l.i 0 in
     (omega arith, omega arith, ap (λ (r : List ℕ). set r l.i 0) l.invariant.2 ∙ fill_more l.i 0 c.args.out.now (omega arith))
-
-pub shape_of-out : goal.shape_of-out
-shape_of-out c = c.loop-i.invariant.0
 
 pub returns : goal.returns
 returns c = let l = c.loop-i in cleared l.out c.args.out.now l.i (omega arith) l.invariant.2

@@ -1,5 +1,5 @@
 -- `counting::tables::lay`: what the records below x give is laid.
-use mathlib.Core.Path.{◌≡◌, sym, ap, ◌∙◌}
+use mathlib.Core.Path.{◌≡◌, ap, ◌∙◌}
 use native.Mathlib.Omega.{arith}
 use Rattle.rows.specs.Bounds.{CELLS}
 use Rattle.rows.specs.Empty.{empty_of}
@@ -25,27 +25,12 @@ lay_writer-requires c =
     let i = c.loop-x.invariant in
     (c.loop-x-test.true, c.requires.0, i.2.long ∙ empty-long CELLS, i.3.long ∙ empty-long CELLS, i.4.long ∙ empty-long CELLS)
 
-pub overflow_add-x : goal.overflow_add-x
-overflow_add-x c = omega (arith, c.loop-x-test.true, c.requires.0)
-
 pub loop-x-preserved : goal.loop-x-preserved
 loop-x-preserved c =
     let i = c.loop-x.invariant in
     let x = c.loop-x.x in
     let r = c.lay_writer.ensures in
     (omega (arith, c.loop-x-test.true), union_more _ x i.1 c.lay_partners.ensures, union_more _ x i.2 r.owned, union_more _ x i.3 r.sourced, union_more _ x i.4 r.rival)
-
-pub shape_of-partners : goal.shape_of-partners
-shape_of-partners c = c.loop-x.invariant.1.long ∙ empty-long CELLS ∙ sym c.requires.1
-
-pub shape_of-own : goal.shape_of-own
-shape_of-own c = c.loop-x.invariant.2.long ∙ empty-long CELLS ∙ sym c.requires.2
-
-pub shape_of-fed : goal.shape_of-fed
-shape_of-fed c = c.loop-x.invariant.3.long ∙ empty-long CELLS ∙ sym c.requires.3
-
-pub shape_of-rivals : goal.shape_of-rivals
-shape_of-rivals c = c.loop-x.invariant.4.long ∙ empty-long CELLS ∙ sym c.requires.4
 
 pub returns : goal.returns
 returns c =

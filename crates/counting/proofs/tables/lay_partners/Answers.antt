@@ -22,9 +22,6 @@ loop-y-preserved c =
       union_more _ c.loop-y.y c.loop-y.invariant.2 (adds-only _ _ e d),
     )
 
-pub shape_of-partners : goal.shape_of-partners
-shape_of-partners c = c.loop-y.invariant.2.long
-
 pub returns : goal.returns
 returns c =
     let n : c.loop-y.y ≡ c.args.t.len = omega arith in

@@ -19,12 +19,6 @@ loop-x-init c =
     let f = frame_of c.args.t in
     (omega arith, up_none f, omega arith, among_none _ _ (c.clear.ensures ∙ ap empty_of c.requires.1), among_none _ _ (c.clear-2.ensures ∙ ap empty_of c.requires.2), among_none _ _ (c.clear-3.ensures ∙ ap empty_of c.requires.3))
 
-pub overflow_add-total : goal.overflow_add-total
-overflow_add-total c = omega (arith, c.loop-x.invariant.2, c.loop-x-test.true, c.requires.0)
-
-pub overflow_add-x : goal.overflow_add-x
-overflow_add-x c = omega (arith, c.loop-x-test.true, c.requires.0)
-
 pub loop-x-preserved : goal.loop-x-preserved
 loop-x-preserved c =
     let t = c.args.t in
@@ -44,15 +38,6 @@ loop-x-preserved c =
       | else-not-fence w ↦ let q : c.if-not-fence.total ≡ c.loop-x.total = w.total-is in
           (omega arith, omega (arith, q, i.1, up-no f x (e ∙ ap not w.if-not-fence.false)), omega (arith, q, i.2), a, b, d)
     ])
-
-pub shape_of-operations : goal.shape_of-operations
-shape_of-operations c = c.loop-x.invariant.3.long ∙ sym c.requires.1
-
-pub shape_of-reads : goal.shape_of-reads
-shape_of-reads c = c.loop-x.invariant.4.long ∙ sym c.requires.2
-
-pub shape_of-served : goal.shape_of-served
-shape_of-served c = c.loop-x.invariant.5.long ∙ sym c.requires.3
 
 pub returns : goal.returns
 returns c =

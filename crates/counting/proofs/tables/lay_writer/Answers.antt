@@ -31,15 +31,6 @@ loop-y-preserved c =
       union_more _ y c.loop-y.invariant.3 (adds-only _ _ w (adds-if _ a.x y (c.loop-y.invariant.3.long ∙ c.requires.4) (λ _. small) c.put_if-in-loop-y-2.ensures)),
     )
 
-pub shape_of-own : goal.shape_of-own
-shape_of-own c = c.loop-y.invariant.1.long
-
-pub shape_of-fed : goal.shape_of-fed
-shape_of-fed c = c.loop-y.invariant.2.long
-
-pub shape_of-rivals : goal.shape_of-rivals
-shape_of-rivals c = c.loop-y.invariant.3.long
-
 pub returns : goal.returns
 returns c =
     let n : c.loop-y.y ≡ c.args.t.len = omega arith in record { owned = rw n at c.loop-y.invariant.1; sourced = rw n at c.loop-y.invariant.2; rival = rw n at c.loop-y.invariant.3 }

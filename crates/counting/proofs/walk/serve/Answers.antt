@@ -25,8 +25,5 @@ fed c =
     subst (Fed a.fed.now a.rivals.now a.placed.now a.served.now a.y) (sym (served-by c))
     (fed-of a.fed.now a.rivals.now a.placed.now a.served.now a.y (λ i. (c.type_inv.fed i).fits) c.requires.0)
 
-pub shape_of-next : goal.shape_of-next
-shape_of-next c = (fed (goal.at.shape_of-next c).After-drop_row-2).long ∙ sym c.requires.1
-
 pub returns : goal.returns
 returns c = fed (goal.at.returns c).After-drop_row-2
