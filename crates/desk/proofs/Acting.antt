@@ -5,7 +5,7 @@
 --   act-turned              == a call on bytes that are not those of a session
 --   act-leaves, act-answers, act-lays == one on bytes that are
 --   answer-act, bytes-act   == one on the bytes of an intact session
---   bytes_after             == any list of calls, adding among them: the bytes of the session after them
+--   bytes-after             == any list of calls, adding among them: the bytes of the session after them
 --   code-done, done-code    == an answer is 0 exactly where the call was done
 --   given                   == every answer but 0 leaves the bytes as given
 use mathlib.Core.Path.{◌≡◌, refl, sym, ap, ap₂, ◌∙◌, subst}
@@ -32,7 +32,7 @@ use Rattle.session.specs.declared.Answer.TheVariants.{Done, Held, NotHeld, Contr
 use Rattle.session.specs.declared.Session.{Session}
 use Rattle.session.specs.declared.Reply.{Reply}
 use Rattle.session.proofs.Sessions.{intact-iff}
-use Rattle.session.proofs.Answering.{add_turn}
+use Rattle.session.proofs.Answering.{add-fault}
 use Rattle.session.proofs.Standing.{act-stays}
 use Rattle.session.proofs.Lasting.{act-intact, act-trace}
 use Rattle.desk.specs.SessionHead.{Fit, SESSION-HEAD, session_head, session_bytes}
@@ -114,10 +114,10 @@ module _ (C : Closings) (s : Session) (i : Intact C s) where
         ∙ ap₂ (λ (x : Session) (t : List ℕ). session_head (reply_of C x a).session ++ t) (session-again s (file_of s.trace) C o) (file-recorded a)
         ∙ ap (λ (t : Trace). session_head (reply_of C s a).session ++ file_of t) (sym (act-trace C s i a))
 
-pub bytes_after : (C : Closings) (cs : List Act) (s : Session) → Intact C s → bytes_after C (session_bytes s) cs ≡ session_bytes (session_after C s cs)
+pub bytes-after : (C : Closings) (cs : List Act) (s : Session) → Intact C s → bytes_after C (session_bytes s) cs ≡ session_bytes (session_after C s cs)
 unfolding bytes_after session_after
-bytes_after C [] s i = refl
-bytes_after C (a ∷ cs) s i = ap (λ (b : List ℕ). bytes_after C b cs) (bytes-act C s i a) ∙ bytes_after C cs (reply_of C s a).session (act-intact C s i a)
+bytes-after C [] s i = refl
+bytes-after C (a ∷ cs) s i = ap (λ (b : List ℕ). bytes_after C b cs) (bytes-act C s i a) ∙ bytes-after C cs (reply_of C s a).session (act-intact C s i a)
 
 -- an answer is 0 exactly where the call was done
 pub code-done : (a : Answer) → code_of a ≡ 0 → So (is_done a)
@@ -149,11 +149,11 @@ done-code (Refused r) s = absurd (false≢true s)
 -- a record is taken exactly where nothing is wrong with it
 pub add-joins : (C : Closings) (b : List ℕ) (p : Op) → is_done (add_of C (session_in C b) p).answer ≡ joins (session_in C b).trace p
 unfolding add_of joins
-add-joins C b p = ap is_done (add_turn C (session_in C b) p ((intact-iff C (session_in C b)).1 (named-intact C b)))
+add-joins C b p = ap is_done (add-fault C (session_in C b) p ((intact-iff C (session_in C b)).1 (named-intact C b)))
 
 pub add_done : (C : Closings) (s : Session) → Intact C s → (p : Op) → So (is_done (add_of C s p).answer) → So (joins s.trace p)
 unfolding add_of joins
-add_done C s i p d = sym (ap is_done (add_turn C s p ((intact-iff C s).1 i))) ∙ d
+add_done C s i p d = sym (ap is_done (add-fault C s p ((intact-iff C s).1 i))) ∙ d
 
 -- so the file stays where a call is not done
 file-stays : (C : Closings) (b : List ℕ) (a : Act) → is_done (reply_of C (session_in C b) a).answer ≡ false → file_after C b a ≡ file_in b

@@ -6,13 +6,13 @@
 --   text-short, laid-text  == the text of a well formed trace has a text's bytes at the most, and is laid down where any has room
 use mathlib.Core.Path.{◌≡◌, refl, sym, ap, ap₂, ◌∙◌}
 use mathlib.Core.Logic.{◌≢◌}
-use mathlib.Core.Bool.{So, cond}
+use mathlib.Core.Bool.{So}
 use mathlib.Core.List.{List, [], ◌∷◌, ◌++◌}
 use Prim.Native.Nat.{ℕ, ◌+◌, ◌<◌, ◌≤◌}
 use native.Mathlib.Omega.{arith}
 use lib.ListN.{length, take, drop, length-append}
 use lib.Seq.{take_at}
-use borrow.Author.Tests.{eq-eqb, ne_eqb, le-leb, lt-leb}
+use borrow.Author.Tests.{ne_eqb, le-leb, lt-leb}
 use Rattle.text.specs.Room.{put_at, behind}
 use Rattle.text.proofs.Put.{put_front, put-none, put_then, behind-room}
 use Rattle.trace.specs.WellFormed.{well_formed}

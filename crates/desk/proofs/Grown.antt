@@ -8,18 +8,18 @@
 --                                taken they are all the bytes of the longer session
 --   waiting-below         == a record that waits has a number of two bytes
 --   waiting_turned, waiting-short, waiting-done == the answer and the lent room
-use mathlib.Core.Path.{◌≡◌, refl, sym, ap, ap₂, ◌∙◌, subst}
+use mathlib.Core.Path.{◌≡◌, refl, sym, ap, ap₂, ◌∙◌}
 use mathlib.Core.Logic.{◌≢◌, inl, inr}
-use mathlib.Core.Bool.{Bool, true, false, So, cond, ◌&&◌, false≢true}
+use mathlib.Core.Bool.{Bool, false, So, cond}
 use mathlib.Core.List.{List, [], ◌∷◌, ◌++◌, append-nil}
-use Prim.Native.Nat.{ℕ, ◌+◌, ◌*◌, ◌-◌, ◌<◌, ◌≤◌}
+use Prim.Native.Nat.{ℕ, ◌+◌, ◌-◌, ◌<◌, ◌≤◌}
 use native.Mathlib.Omega.{arith}
-use lib.Dec.{eqb, leb}
-use lib.ListN.{length, take, drop, drop_of_length-le, length-append}
+use lib.Dec.{eqb}
+use lib.ListN.{length, drop, drop_of_length-le, length-append}
 use lib.Seq.{take_at, length-take-le}
 use borrow.Author.Tests.{eq-eqb, ne_eqb, le-leb, lt-leb}
 use Rattle.laws.specs.Lowest.{Lowest}
-use Rattle.laws.proofs.Tests.{test, eq?, so-eq}
+use Rattle.laws.proofs.Tests.{eq?}
 use Rattle.text.specs.Room.{put_at}
 use Rattle.text.proofs.Put.{put_front}
 use Rattle.trace.specs.Bounds.{RECORDS}

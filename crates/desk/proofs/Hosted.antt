@@ -3,16 +3,15 @@
 --   hosted-is         == a model is hosted exactly where it has a machine
 --   place-laid, steps-laid == a place, and steps from an order, at the front of a buffer
 --   run-one, replayed-one  == no second answer, and no second state of the buffer
-use mathlib.Core.Path.{◌≡◌, refl, sym, ap, ◌∙◌}
+use mathlib.Core.Path.{◌≡◌, sym, ap, ◌∙◌}
 use mathlib.Core.Bool.{Bool, true, false, cond}
 use mathlib.Core.List.{List, [], ◌∷◌, ◌++◌}
-use Prim.Native.Nat.{ℕ, ◌+◌, ◌≤◌, ◌<◌}
+use Prim.Native.Nat.{ℕ, ◌≤◌}
 use native.Mathlib.Omega.{arith}
 use lib.ListN.{length, drop, length-append}
-use borrow.Author.Tests.{le-leb, lt-ltb}
 use Rattle.text.specs.Room.{put_at}
 use Rattle.text.proofs.Put.{put_front, put_then}
-use Rattle.pairs.specs.Kept.{MODELS, modelled}
+use Rattle.pairs.specs.Kept.{modelled}
 use Rattle.machine.specs.Machine.{machined}
 use Rattle.machine.specs.Replay.{STEPS}
 use Rattle.machine.specs.declared.Steps.{Steps}
@@ -21,7 +20,6 @@ use Rattle.pairs.proofs.KeptPairs.{modelled-iff}
 use Rattle.desk.specs.VerdictBytes.{wide}
 use Rattle.desk.specs.Runs.{PLACE, REPLAY, spread, hosted, RunAnswered, Replayed}
 use Rattle.desk.proofs.Ranked.{ranked-one}
-use Rattle.desk.proofs.Spelling.{wide-long}
 
 pub hosted-is : (m : ℕ) (b : Bool) → machined m ≡ b → modelled (hosted m) ≡ b
 hosted-is m true e = ap (λ (x : Bool). modelled (cond x m 0)) e ∙ (modelled-iff m).1 (let k = (machined-iff m).0 e in (k.0, omega (arith, k.1)))

@@ -3,7 +3,7 @@
 --   judged-below == what comes with a judgement are places and records, so each fits two bytes
 --   judged-laid  == its two numbers at the front of a buffer
 --   judged-one   == no second answer, and no second state of the buffer
-use mathlib.Core.Path.{◌≡◌, refl, sym, ap, ◌∙◌}
+use mathlib.Core.Path.{◌≡◌, refl, sym, ◌∙◌}
 use mathlib.Core.Logic.{inl, inr}
 use mathlib.Core.Bool.{Bool, true, false, So, cond}
 use mathlib.Core.List.{List, [], ◌∷◌, ◌++◌}

@@ -26,7 +26,6 @@ use Rattle.text.specs.Room.{has_room, put_at, behind}
 use Rattle.text.proofs.Put.{behind-room, put-none, put_front, put_then}
 use Rattle.reader.specs.Whole.{read_whole}
 use Rattle.reader.specs.TextOf.{render_trace}
-use Rattle.reader.proofs.Whole.{whole-well}
 use Rattle.pairs.specs.Kept.{modelled, kept_of}
 use Rattle.rules.specs.Verdict.{Verdict, no_source, circle, order, none_left, Says}
 use Rattle.pairs.proofs.ValidOrders.{well-fits}

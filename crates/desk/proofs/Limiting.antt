@@ -7,10 +7,10 @@
 use mathlib.Core.Path.{◌≡◌, refl, sym, ap, ◌∙◌}
 use mathlib.Core.Logic.{inl, inr}
 use mathlib.Core.Bool.{So}
-use mathlib.Core.List.{List, [], ◌∷◌, ◌++◌, append_assoc}
-use Prim.Native.Nat.{ℕ, ◌+◌, ◌*◌, ◌≤◌, ◌<◌}
+use mathlib.Core.List.{List, ◌++◌}
+use Prim.Native.Nat.{ℕ, ◌+◌, ◌≤◌, ◌<◌}
 use native.Mathlib.Omega.{arith}
-use lib.ListN.{length, drop, length-append, length-drop}
+use lib.ListN.{length, drop, length-append}
 use Rattle.laws.proofs.Tests.{test}
 use Rattle.trace.specs.Bounds.{RECORDS}
 use Rattle.trace.specs.Meaning.{frame_of}
@@ -22,19 +22,16 @@ use Rattle.reader.specs.Whole.{read_whole}
 use Rattle.reader.proofs.Whole.{whole-well}
 use Rattle.pairs.specs.Kept.{modelled, kept_of}
 use Rattle.rules.specs.Verdict as verdict
-use Rattle.verdict.specs.VerdictOf as full
-use Rattle.verdict.specs.declared.Verdict.{Verdict}
 use Rattle.plain.specs.Limited as said
 use Rattle.plain.proofs.Limited.{limits-one}
 use Rattle.limited.specs.LimitedVerdict.{laid_limit, ToldLimited}
 use Rattle.limited.specs.declared.Limit.{Limit}
-use Rattle.desk.specs.AnswerNumbers.{answer_to, outcome_number}
 use Rattle.desk.specs.Text.{text_number}
 use Rattle.desk.specs.VerdictBytes.{VERDICT, wide, verdict_bytes}
 use Rattle.desk.specs.inner.SpelledVerdict.{lacking, spelled, laid_out}
 use Rattle.desk.specs.Limits.{LIMITED, eight, answer_at, verdict_in, count_in, bytes_at, limit_number, shown, LimitAnswered}
 use Rattle.desk.proofs.Ranked.{ranked-says, ranked-one}
-use Rattle.desk.proofs.Spelling.{wide-long, below, spelled-laid, answer-laid}
+use Rattle.desk.proofs.Spelling.{below, spelled-laid, answer-laid}
 
 pub eight-long : (n : ℕ) → length (eight n) ≡ 8
 unfolding eight wide

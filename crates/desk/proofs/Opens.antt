@@ -57,7 +57,7 @@ use Rattle.desk.specs.File.{file_number_in}
 use Rattle.desk.specs.Packs.{whole_number, whole_trace}
 use Rattle.desk.specs.OpenedBytes.{room_to_open, open_number, open_session, open_answer, open_bytes}
 use Rattle.desk.proofs.HeadBytes.{head-long}
-use Rattle.desk.proofs.Acting.{bytes_after, code-done}
+use Rattle.desk.proofs.Acting.{bytes-after, code-done}
 
 module _ (n : ℕ) (trace : Trace) (m : ℕ) where
   module _ (g : n ≡ 0) where
@@ -131,7 +131,7 @@ module _ (n : ℕ) (trace : Trace) (m : ℕ) where
           ∙ append-nil (session_bytes first)
 
       run : (cs : List Act) → bytes_after C (open_bytes C n trace m b) cs ≡ session_bytes (session_after C first cs)
-      run cs = ap (λ (x : List ℕ). bytes_after C x cs) opened-bytes ∙ bytes_after C cs first (opened-intact C trace m)
+      run cs = ap (λ (x : List ℕ). bytes_after C x cs) opened-bytes ∙ bytes-after C cs first (opened-intact C trace m)
 
       pub after-bytes : (cs : List Act) → bytes_after C (open_bytes C n trace m b) cs ≡ session_bytes (afresh C (recorded_after trace cs) m (standing_after trace [] cs))
       after-bytes cs = run cs ∙ ap session_bytes (after-opened C trace m o cs)
@@ -139,7 +139,7 @@ module _ (n : ℕ) (trace : Trace) (m : ℕ) where
       pub again-bytes : (cs : List Act) → bytes_after C (open_bytes C n trace m b) cs ≡ bytes_after C (session_bytes (open_of C (recorded_after trace cs) m).session) (suppose_all (standing_after trace [] cs))
       again-bytes cs =
           let u = recorded_after trace cs in
-          run cs ∙ ap session_bytes (after-again C trace m o cs) ∙ sym (bytes_after C (suppose_all (standing_after trace [] cs)) (open_of C u m).session (opened-intact C u m))
+          run cs ∙ ap session_bytes (after-again C trace m o cs) ∙ sym (bytes-after C (suppose_all (standing_after trace [] cs)) (open_of C u m).session (opened-intact C u m))
 
 -- a trace that was read is well formed, so that 10 never comes
 well-ten : (t : Trace) (m : ℕ) → So (well_formed t) → code_of (opening_of t m) ≡ 10 → ⊥

@@ -2,9 +2,9 @@
 --
 --   found                    == whether the writer found room
 --   placed-short, placed-none, placed-done == no room for a head; none for the file; room for both
-use mathlib.Core.Path.{◌≡◌, refl, sym, ap, ap₂, ◌∙◌}
+use mathlib.Core.Path.{◌≡◌, refl, sym, ap, ◌∙◌}
 use mathlib.Core.Bool.{Bool, true, false, So, cond, false≢true}
-use mathlib.Core.List.{List, [], ◌++◌, append-nil, append_assoc}
+use mathlib.Core.List.{List, ◌++◌, append-nil, append_assoc}
 use Prim.Native.Nat.{ℕ, ◌+◌, ◌-◌, ◌<◌, ◌≤◌}
 use native.Mathlib.Decide.{dec_lt}
 use native.Mathlib.Omega.{arith}
@@ -16,7 +16,6 @@ use Rattle.laws.proofs.Tests.{so-le}
 use Rattle.text.specs.Room.{put_at}
 use Rattle.text.proofs.Put.{put_front, put-none}
 use Rattle.trace.specs.WellFormed.{well_formed}
-use Rattle.trace.specs.declared.Trace.{Trace}
 use Rattle.packed.specs.Layout.{file_of}
 use Rattle.packed.specs.Write.{wrote_of, left_of}
 use Rattle.packed.specs.declared.Wrote.{Wrote}
