@@ -41,15 +41,20 @@ fn answer(stdout: Stdout, stderr: Stderr, file: &[u8]) -> io::Result<()> {
     }
 }
 
-// Reads the file and unpacks it. Where a read failed nothing is told: half a file is none.
-fn unpack(mut stdin: Stdin, stdout: Stdout, stderr: Stderr) -> io::Result<()> {
-    let mut file: [u8; ROOM] = [0; 525054];
-    let got = fill(&mut stdin, &mut file);
+// Reads the file into lent memory and unpacks it. Where a read failed nothing is told: half a file is none.
+fn unpack_in(mut stdin: Stdin, stdout: Stdout, stderr: Stderr, file: &mut [u8]) -> io::Result<()> {
+    let got = fill(&mut stdin, file);
     let n = got.count;
     match got.whole {
         Ok(()) => answer(stdout, stderr, &file[..n]),
         Err(why) => fail(stderr, b"unpack: standard input", why),
     }
+}
+
+// The same with memory for it.
+fn unpack(stdin: Stdin, stdout: Stdout, stderr: Stderr) -> io::Result<()> {
+    let mut file: [u8; ROOM] = [0; 525054];
+    unpack_in(stdin, stdout, stderr, &mut file)
 }
 
 fn main(rt: HostRuntime) -> io::Result<()> {
