@@ -1,5 +1,6 @@
 -- `reader::turns::turned`: length, then ending, then form.
-use mathlib.Core.Path.{sym, ◌∙◌}
+use mathlib.Core.Path.{◌≡◌, sym, ◌∙◌}
+use mathlib.Core.Bool.{false}
 use borrow.Author.Tests.{lt-ltb, le-ltb}
 use Rattle.reader.specs.Bounds.{LINE}
 use Rattle.reader.specs.LineForms.{form_of, init_of}
@@ -13,7 +14,9 @@ returns-then-bytes-gt-LINE c = rw (lt-ltb LINE _ c.if-bytes-gt-LINE.true)
 
 pub returns-then-not-ended : goal.returns-then-not-ended
 unfolding turned
-returns-then-not-ended c = rw (le-ltb LINE _ c.if-bytes-gt-LINE.false, c.if-not-ended.true)
+returns-then-not-ended c =
+    let e : c.args.ended ≡ false = c.if-not-ended.true in
+    rw (le-ltb LINE _ c.if-bytes-gt-LINE.false, e)
 
 pub returns-in-Of : goal.returns-in-Of
 unfolding turned
