@@ -4,4 +4,4 @@ use Rattle.std.proofs.lemmas.List.{length-replicate}
 use Rattle.unpack.proofs.unpack.Goals as goal
 
 pub slice_bounds-unpack_in-end : goal.slice_bounds-unpack_in-end
-slice_bounds-unpack_in-end c = sym (length-replicate {0} {ℕ} 525054 0)
+slice_bounds-unpack_in-end c = sym (length-replicate {0} {A = ℕ} 525054 0)
