@@ -5,18 +5,15 @@
 --   noted-sound  == on which such a session can be made
 --   lines-afresh == so after any lines
 use mathlib.Core.Path.{◌≡◌, refl, sym, ap, ◌∙◌}
-use mathlib.Core.Logic.{inl, inr}
 use mathlib.Core.Bool.{Bool, true, false, So, cond, ◌&&◌}
 use mathlib.Core.List.{List, [], ◌∷◌}
-use Prim.Native.Nat.{ℕ, ◌<◌}
+use Prim.Native.Nat.{ℕ}
 use native.Mathlib.Omega.{arith}
 use lib.Dec.{eqb, ltb}
 use lib.ListN.{length, set}
 use borrow.Author.Tests.{eqb-true}
-use Rattle.laws.proofs.Tests.{test, and-iff, same-iff}
-use Rattle.trace.specs.Bounds.{VALUES}
+use Rattle.laws.proofs.Tests.{and-iff, same-iff}
 use Rattle.trace.specs.Trace.{empty, started}
-use Rattle.trace.specs.declared.Trace.{Trace}
 use Rattle.trace.proofs.Growth.{started-well}
 use Rattle.pairs.specs.Kept.{modelled}
 use Rattle.text.specs.Lines.{Line}
@@ -27,7 +24,7 @@ use Rattle.reader.specs.declared.Init.TheVariants as init
 use Rattle.reader.specs.declared.Turn.{Turn}
 use Rattle.reader.specs.declared.Turn.TheVariants as turn
 use Rattle.reader.proofs.Begins.{begins-good}
-use Rattle.session.specs.Stack.{Allowed, stacked, stands}
+use Rattle.session.specs.Stack.{stacked, stands}
 use Rattle.session.specs.Opening.{openable}
 use Rattle.session.specs.Closings.{Closings}
 use Rattle.session.specs.Session.{afresh}

@@ -9,7 +9,6 @@ use native.Mathlib.Omega.{arith}
 use lib.Dec.{eqb}
 use Rattle.trace.specs.Bounds.{ADDRESSES, VALUES}
 use Rattle.reader.specs.Answer.{init_given}
-use Rattle.reader.specs.declared.Init.{Init}
 use Rattle.reader.specs.declared.Init.TheVariants as init
 use Rattle.reader.proofs.Begins.{begins-good}
 use Rattle.talk.specs.LineAnswers.{whole, first_value}
