@@ -30,7 +30,7 @@ fn begins(bytes: &[u8], word: &[u8]) -> bool {
     true
 }
 
-// Whether argument i is the word, which is shorter than eight bytes: of a longer argument eight bytes come, and its length tells it apart.
+// Whether argument i is the word, which has one byte at least and is shorter than eight: of a longer argument nothing comes.
 fn is_word(rt: &impl Env, i: usize, word: &[u8]) -> bool {
     let mut got = [0u8; 8];
     let n = arg(rt, i, &mut got);
