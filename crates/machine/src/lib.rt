@@ -49,6 +49,7 @@ pub enum Given {
 }
 
 // Steps from an order: the first len places of the list; unused places 0.
+// An array and its length: the project has no heap, and its memory is fixed.
 #[derive(Clone, Copy)]
 pub struct Steps {
     pub given: Given,

@@ -19,6 +19,7 @@ pub struct Pair {
 }
 
 // The pairs that stand, the latest last; unused places hold the pair 0, 0.
+// An array and its length: the project has no heap, and its memory is fixed.
 #[derive(Clone, Copy, PartialEq, Eq)]
 pub struct Stack {
     pub pairs: [Pair; PAIRS],
@@ -26,6 +27,7 @@ pub struct Stack {
 }
 
 // A session as a whole. The table of held edges is empty while contradicted.
+// The flag is no Option: a forged session may be contradicted and have a table too, and comes back as it was.
 #[derive(Clone, Copy, PartialEq, Eq)]
 pub struct Session {
     pub trace: Trace,

@@ -21,6 +21,7 @@ use trace::{Op, RECORDS, Trace};
 
 // A talk: the records that should be there, the pairs that should stand, the latest answer and the session. Of a forged session nothing is expected but that
 // it comes back as it was.
+// The flag is no Option: a forged session is compared by all of it too.
 #[derive(Clone, Copy)]
 struct Talk {
     trace: Trace,

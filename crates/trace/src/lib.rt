@@ -148,6 +148,7 @@ pub enum Fault {
 
 // The first len places are used; the others hold a fence of thread 0, so that equal traces are equal throughout. Beside them, the value that each
 // address begins with.
+// An array and its length: the project has no heap, and its memory is fixed.
 #[derive(Clone, Copy, PartialEq, Eq)]
 pub struct Trace {
     pub records: [Record; RECORDS],

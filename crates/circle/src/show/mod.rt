@@ -15,6 +15,7 @@ use ruling::lowest_rule_by;
 use trace::{RECORDS, Trace};
 
 // The circle that is shown: the first len operations, each with the rule of the edge that leads on from it. Unused places are 0.
+// An array and its length: the project has no heap, and its memory is fixed.
 #[derive(Clone, Copy)]
 pub struct Circle {
     pub len: usize,

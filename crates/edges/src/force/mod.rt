@@ -30,6 +30,7 @@ use trace::form::well_formed;
 use trace::{RECORDS, Trace, first};
 
 // Where the rounds end: the number of the round, and whether it has a circle.
+// The flag is no Option: a round has its number with a circle and without.
 #[derive(Clone, Copy)]
 pub struct End {
     pub number: usize,
@@ -37,6 +38,7 @@ pub struct End {
 }
 
 // The round at which the rounds end: its number, whether it has a circle, the chains before it, its edges and its chains, as rows.
+// The flag is no Option: all five stand in either case.
 #[derive(Clone, Copy)]
 pub struct Round {
     pub number: usize,
@@ -370,6 +372,7 @@ fn settle_all(
 }
 
 // What the rules force, taken in pass by pass; with a circle no pair, and true.
+// A `loop` and no `for`: the passes end where nothing is added.
 fn grow(t: Trace, kept: &[u64], supposed: &[u64], edges: &mut [u64]) -> bool
     requires { (So (well_formed t)) × (length edges.old ≡ CELLS) }
     ensures { Grew (frame_of t) (lent_of t kept.now) (supposed_of t supposed.now) result edges.new }
@@ -393,6 +396,7 @@ fn grow(t: Trace, kept: &[u64], supposed: &[u64], edges: &mut [u64]) -> bool
 
 // Goes from round to round until one has a circle or adds nothing, and tells which one that is. What is left are the chains before that round,
 // its edges and its chains.
+// A `loop` and no `for`: the rounds end where nothing is added.
 fn run(
     t: Trace,
     kept: &[u64],
@@ -428,6 +432,7 @@ fn run(
 
 // Goes from round to round until the next one is round k or has the edge x, y, and tells which one that is. What is left are its edges and its
 // chains. Once nothing is added any more, round k - 1 is as this one.
+// A `loop` and no `for`: the rounds end where nothing is added, before round k too.
 fn run_before(
     t: Trace,
     kept: &[u64],

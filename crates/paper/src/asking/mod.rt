@@ -3,6 +3,7 @@ use saying::args::{arg, arg_count};
 use std::env::Env;
 
 // Whether the numbers are wanted instead of words, and the model, if one is named: without it the first that has a list is meant.
+// The flag is no Option: numbers and words are asked of any model.
 #[derive(Clone, Copy)]
 pub struct Wanted {
     pub numbers: bool,
