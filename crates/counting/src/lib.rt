@@ -14,6 +14,7 @@ pub enum Walked {
 }
 
 // What the search came to, with the order where it found one: its first len places; unused places 0.
+// An array and its length: the project has no heap, and its memory is fixed.
 #[derive(Clone, Copy)]
 pub struct Counted {
     pub walked: Walked,

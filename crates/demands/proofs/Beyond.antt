@@ -23,6 +23,7 @@ use mathlib.Core.List.{List, [], ◌∷◌, ◌++◌}
 use mathlib.Core.Option.{Option, none, some}
 use Prim.Native.Nat.{ℕ, ◌<◌, ◌≤◌}
 use lib.ListN.{length, get_or, take}
+use Rattle.std.specs.Prelude.{Ok}
 use Rattle.laws.specs.Relation.{Table}
 use Rattle.rules.specs.Frame.{Frame, Good}
 use Rattle.rules.specs.Order.{Valid}
@@ -60,8 +61,9 @@ use Rattle.papers.specs.Accepts.{Paper}
 use Rattle.papers.proofs.Sound.{accepted-sound}
 use Rattle.papers.proofs.Knot as paper
 use Rattle.reasons.specs.Writes.{Writes}
-use Rattle.reasons.specs.declared.listing.Listed.{Listed}
-use Rattle.reasons.specs.declared.listing.Listed.TheVariants.{Nothing, Shown}
+use Rattle.reasons.specs.declared.listing.Reason.{Reason}
+use Rattle.std.specs.Prelude.{Some, None, Result, Ok}
+use Rattle.std.specs.Prelude as std
 use Rattle.reasons.proofs.Unique.{write-accepted, write-shows}
 use Rattle.signature.specs.Reads.{AllListed}
 use Rattle.signature.specs.Signature.{signature, tops, too_large}
@@ -76,7 +78,6 @@ use Rattle.packed.specs.Layout.{file_of}
 use Rattle.packed.proofs.RoundTrip.{files-one}
 use Rattle.machine.specs.Fifo.{buffer_of, Reached}
 use Rattle.machine.specs.Machine.{machined, step, answer}
-use Rattle.machine.specs.declared.Ran.TheVariants.{Through}
 use Rattle.machine.proofs.Equal.{machine-exactly}
 use Rattle.machine.proofs.Fifo.{fifo}
 
@@ -117,10 +118,10 @@ pub accepted-reasons : (f : Frame) → Good f → (K : Table) (es : List Entry) 
 accepted-reasons = accepted-sound
 
 module _ (t : Trace) (m : ℕ) (before : List ℕ) (k : So (modelled m)) (w : So (well_formed t)) (after : List ℕ) where
-  pub our-paper-accepted : (n : ℕ) → Writes t m before after (Shown n) → Paper (frame_of t) (kept_of m t) (take n after)
+  pub our-paper-accepted : (n : ℕ) → Writes t m before after (Ok (Some n)) → Paper (frame_of t) (kept_of m t) (take n after)
   our-paper-accepted = write-accepted t m before k w after
 
-  pub our-paper-exactly : (r : Listed) → Writes t m before after r → (r ≡ Nothing → ⊥) ↔ (Sourced (frame_of t) × ((xs : List ℕ) → Valid (frame_of t) (kept_of m t) xs → ⊥))
+  pub our-paper-exactly : (r : Result (std.Option ℕ) Reason) → Writes t m before after r → (r ≡ Ok None → ⊥) ↔ (Sourced (frame_of t) × ((xs : List ℕ) → Valid (frame_of t) (kept_of m t) xs → ⊥))
   our-paper-exactly = write-shows t m before k w after
 
 pub knot-none-left : ((xs : List ℕ) → Valid (frame_of (paper.trace_of paper.knot)) (kept_of SC (paper.trace_of paper.knot)) xs → ⊥)
@@ -150,7 +151,7 @@ files-apart = files-one
 
 -- ---- the plain machine
 module _ (t : Trace) (w : So (well_formed t)) (m : ℕ) (k : So (machined m)) where
-  pub machine-runs : ((xs : List ℕ) × Valid (frame_of t) (kept_of m t) xs) ↔ ((ss : List ℕ) × (answer t m ss ≡ Through true))
+  pub machine-runs : ((xs : List ℕ) × Valid (frame_of t) (kept_of m t) xs) ↔ ((ss : List ℕ) × (answer t m ss ≡ Ok true))
   machine-runs = machine-exactly t w m k
 
   -- M and N are states of the machine: a step from one to the other leaves a core's buffer alone, puts an entry in last or takes the first one out

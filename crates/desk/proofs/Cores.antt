@@ -11,6 +11,7 @@ use Prim.Native.Nat.{ℕ, ◌+◌, ◌<◌}
 use native.Mathlib.Omega.{arith}
 use lib.Dec.{ltb}
 use lib.ListN.{length, set}
+use Rattle.std.specs.Prelude.{Option, Some, None, Result, Ok, Err}
 use Rattle.laws.proofs.Tests.{test}
 use Rattle.trace.specs.Trace.{empty, started, pushed}
 use Rattle.trace.specs.WellFormed.{well_formed}
@@ -26,9 +27,6 @@ use Rattle.reader.specs.Read.{refusal, none, read_lines, read_inits, read_text}
 use Rattle.reader.specs.TextOf.{TextOf}
 use Rattle.reader.specs.Whole.{LOST, read_whole}
 use Rattle.reader.specs.declared.Init.{Init}
-use Rattle.reader.specs.declared.Init.TheVariants as init
-use Rattle.reader.specs.declared.Turn.{Turn}
-use Rattle.reader.specs.declared.Turn.TheVariants as turn
 use Rattle.reader.specs.declared.Reason.{Reason}
 use Rattle.reader.specs.declared.Reason.TheVariants.{LongText, LongLine, NoForm, PastBound, Addresses, FirstValue, TooMany, Twice, Late}
 use Rattle.reader.specs.declared.Answer.{Answer}
@@ -66,20 +64,20 @@ unfolding read_lines
 lines-not [] n t = omega arith
 lines-not (l ∷ ls) n t = go (turned t l) (λ o. lines-not ls (n + 1) (pushed t o))
   where
-    go : (u : Turn) → ((o : Op) → kind (read_lines (n + 1) (pushed t o) ls).answer < 2)
-        → (let r : Reading = elim u [ turn.Taken o ↦ read_lines (n + 1) (pushed t o) ls | turn.Refused reason ↦ refusal reason n ] in kind r.answer < 2)
-    go (turn.Taken o) h = h o
-    go (turn.Refused reason) h = omega arith
+    go : (u : Result Op Reason) → ((o : Op) → kind (read_lines (n + 1) (pushed t o) ls).answer < 2)
+        → (let r : Reading = elim u [ Ok o ↦ read_lines (n + 1) (pushed t o) ls | Err reason ↦ refusal reason n ] in kind r.answer < 2)
+    go (Ok o) h = h o
+    go (Err reason) h = omega arith
 
 inits-not : (ls : List Line) (n : ℕ) (given : List Bool) (t : Trace) → kind (read_inits n given t ls).answer < 2
 unfolding read_inits
 inits-not [] n given t = omega arith
 inits-not (l ∷ ls) n given t = go (init_given given l) (λ a v. inits-not ls (n + 1) (set given a true) (started t a v)) (lines-not (l ∷ ls) n t)
   where
-    go : (i : Init) → ((a v : ℕ) → kind (read_inits (n + 1) (set given a true) (started t a v) ls).answer < 2) → kind (read_lines n t (l ∷ ls)).answer < 2
-        → (let r : Reading = elim i [ init.Of a v ↦ read_inits (n + 1) (set given a true) (started t a v) ls | init.Nothing ↦ read_lines n t (l ∷ ls) ] in kind r.answer < 2)
-    go (init.Of a v) h k = h a v
-    go init.Nothing h k = k
+    go : (r : Option Init) → ((a v : ℕ) → kind (read_inits (n + 1) (set given a true) (started t a v) ls).answer < 2) → kind (read_lines n t (l ∷ ls)).answer < 2
+        → (let all : Reading = elim r [ Some i ↦ read_inits (n + 1) (set given i.addr true) (started t i.addr i.value) ls | None ↦ read_lines n t (l ∷ ls) ] in kind all.answer < 2)
+    go (Some i) h k = h i.addr i.value
+    go None h k = k
 
 text-not : (text : List ℕ) → kind (read_text text).answer < 2
 unfolding read_text

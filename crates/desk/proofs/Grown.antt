@@ -18,6 +18,7 @@ use lib.Dec.{eqb}
 use lib.ListN.{length, drop, drop_of_length-le, length-append}
 use lib.Seq.{take_at, length-take-le}
 use borrow.Author.Tests.{eq-eqb, ne_eqb, le-leb, lt-leb}
+use Rattle.std.specs.Prelude.{Option, Some, None}
 use Rattle.laws.specs.Lowest.{Lowest}
 use Rattle.laws.proofs.Tests.{eq?}
 use Rattle.text.specs.Room.{put_at}
@@ -34,8 +35,6 @@ use Rattle.trace.proofs.WellFormed.{form-iff}
 use Rattle.packed.specs.Layout.{RECORD, many, size_of, file_of}
 use Rattle.packed.specs.FileRead.{file_reason_number}
 use Rattle.packed.specs.declared.Reason.TheVariants.{NoEntry}
-use Rattle.packed.specs.declared.Entry.{Entry}
-use Rattle.packed.specs.declared.Entry.TheVariants.{Of, Nothing}
 use Rattle.packed.proofs.FileLaid.{file-long}
 use Rattle.rules.specs.Missing.{Missing}
 use Rattle.pairs.proofs.ValidOrders.{well-fits}
@@ -79,14 +78,14 @@ module _ (C : Closings) (b : List ℕ) where
   pub shorter-none : length b < RECORD → like C (shorter b) ≡ false
   shorter-none h = unlike-short C (shorter b) (omega (arith, length-take-le (length b - RECORD) b (omega arith)))
 
-  pub add-unlike : like C (shorter b) ≡ false → (x : Entry) → (reason_number Unlike ≡ add_answer C b x) × (b ≡ add_bytes C b x)
-  add-unlike n (Of o) =
+  pub add-unlike : like C (shorter b) ≡ false → (x : Option Op) → (reason_number Unlike ≡ add_answer C b x) × (b ≡ add_bytes C b x)
+  add-unlike n (Some o) =
       let e = answer-unlike C (shorter b) (adds o) n in
       (sym e, sym (ap (λ (k : ℕ). cond (eqb k 0) (put_at (bytes_in C (shorter b) (adds o)) b 0) b) e))
-  add-unlike n Nothing = (sym (ap (λ (x : Bool). cond x (file_reason_number NoEntry) (reason_number Unlike)) n), refl)
+  add-unlike n None = (sym (ap (λ (x : Bool). cond x (file_reason_number NoEntry) (reason_number Unlike)) n), refl)
 
   module _ (l : So (like C (shorter b))) where
-    pub add_none : (file_reason_number NoEntry ≡ add_answer C b Nothing) × (b ≡ add_bytes C b Nothing)
+    pub add_none : (file_reason_number NoEntry ≡ add_answer C b None) × (b ≡ add_bytes C b None)
     add_none = (sym (ap (λ (x : Bool). cond x (file_reason_number NoEntry) (reason_number Unlike)) l), refl)
 
     module _ (o : Op) where
@@ -104,10 +103,10 @@ module _ (C : Closings) (b : List ℕ) where
           ap (λ (t : Trace). session_head (add_of C here o).session ++ file_of t) (act-trace C here (named-intact C (shorter b)) (adds o) ∙ ap (λ (x : Bool). cond x (pushed here.trace o) here.trace) j)
           ∙ sym (bytes-like C (shorter b) (adds o) l ∙ ap (λ (x : Bool). session_head (add_of C here o).session ++ cond x (file_of (pushed here.trace o)) (drop SESSION-HEAD (shorter b))) j)
 
-      pub add-of : (s : Session) → s ≡ here → (n : ℕ) (last : List ℕ) → (n ≡ code_of (add_of C s o).answer) × (last ≡ left C s o b) → (n ≡ add_answer C b (Of o)) × (last ≡ add_bytes C b (Of o))
+      pub add-of : (s : Session) → s ≡ here → (n : ℕ) (last : List ℕ) → (n ≡ code_of (add_of C s o).answer) × (last ≡ left C s o b) → (n ≡ add_answer C b (Some o)) × (last ≡ add_bytes C b (Some o))
       add-of s e n last p = (p.0 ∙ ap (λ (x : Session). code_of (add_of C x o).answer) e ∙ sym answers, p.1 ∙ ap (λ (x : Session). left C x o b) e ∙ same)
         where
-          same : left C here o b ≡ add_bytes C b (Of o)
+          same : left C here o b ≡ add_bytes C b (Some o)
           same = elim (eq? (code_of (add_of C here o).answer) 0) [
             | inl z ↦
                 ap (λ (x : Bool). cond x (put_at (session_bytes (add_of C here o).session) b 0) b) (eq-eqb _ 0 z)
@@ -136,13 +135,13 @@ module _ (C : Closings) (s : Session) (i : Intact C s) (o : Op) (x : List ℕ) (
   shorter-own : shorter lent ≡ session_bytes s
   shorter-own = take_at (session_bytes s) x (length lent - RECORD) (omega (arith, length-append (session_bytes s) x))
 
-  pub grown-answer : add_answer C lent (Of o) ≡ code_of (add_of C s o).answer
+  pub grown-answer : add_answer C lent (Some o) ≡ code_of (add_of C s o).answer
   grown-answer = ap (λ (b : List ℕ). answer_in C b (adds o)) shorter-own ∙ answer-act C s i (adds o)
 
   bytes-long : (u : Session) → length (session_bytes u) ≡ SESSION-HEAD + length (file_of u.trace)
   bytes-long u = length-append (session_head u) (file_of u.trace) ∙ ap (λ (n : ℕ). n + length (file_of u.trace)) (head-long u)
 
-  pub grown-bytes : (add_of C s o).answer ≡ Done → add_bytes C lent (Of o) ≡ session_bytes (add_of C s o).session
+  pub grown-bytes : (add_of C s o).answer ≡ Done → add_bytes C lent (Some o) ≡ session_bytes (add_of C s o).session
   unfolding add_of joins
   grown-bytes d =
       let z : code_of (add_of C s o).answer ≡ 0 = ap code_of d in

@@ -12,6 +12,7 @@ use Prim.Native.Nat.{ℕ, ◌≤◌, ◌<◌}
 use native.Mathlib.Omega.{arith}
 use lib.Dec.{eqb}
 use lib.ListN.{length, drop}
+use Rattle.std.specs.Prelude.{Result}
 use Rattle.laws.specs.Relation.{Table}
 use Rattle.laws.specs.Lowest.{lowest}
 use Rattle.laws.proofs.Tests.{test, so-eq}
@@ -26,7 +27,7 @@ use Rattle.text.specs.Room.{put_at}
 use Rattle.text.proofs.Put.{put_front}
 use Rattle.rules.specs.Ready.{operations}
 use Rattle.judge.specs.Judged.{bad?, twice?, early?, out?, wrong?, pair_of, first_failing, judged_by, judged_of}
-use Rattle.judge.specs.declared.judging.Judgement.{Judgement}
+use Rattle.judge.specs.declared.judging.Broken.{Broken}
 use Rattle.pairs.proofs.ValidOrders.{well-fits}
 use Rattle.pairs.proofs.Found.{lowest-at}
 use Rattle.desk.specs.VerdictBytes.{wide}
@@ -34,7 +35,7 @@ use Rattle.desk.specs.JudgeCall.{JUDGEMENT, concerns, second, Judged}
 use Rattle.desk.proofs.Ranked.{ranked-one}
 
 -- both numbers of a judgement
-abbrev Small : Judgement → Type 0
+abbrev Small : Result Unit Broken → Type 0
 Small j = (concerns j < RECORDS) × (second j < RECORDS)
 
 -- a number that was found, if one was

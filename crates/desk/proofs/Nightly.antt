@@ -11,12 +11,13 @@ use Prim.Native.Nat.{ℕ, ◌+◌, ◌*◌, ◌<◌, ◌≤◌}
 use native.Mathlib.Omega.{arith}
 use lib.Dec.{ltb}
 use borrow.Author.Tests.{lt-ltb, le-ltb, ltb-true}
+use Rattle.std.specs.Prelude.{Result}
 use Rattle.laws.proofs.Tests.{eq?}
 use Rattle.trace.specs.Bounds.{RECORDS}
 use Rattle.trace.specs.declared.Trace.{Trace}
 use Rattle.reader.specs.Whole.{read_whole}
 use Rattle.night.specs.Night.{Nights}
-use Rattle.night.specs.declared.Answer.{Answer}
+use Rattle.night.specs.declared.Reason.{Reason}
 use Rattle.night.proofs.Unique.{nights-one}
 use Rattle.desk.specs.Text.{text_number}
 use Rattle.desk.specs.Signed.{with_place}
@@ -43,7 +44,7 @@ module _ (text : List ℕ) (m : ℕ) (ws before : List ℕ) where
   pub night-wrong : 0 < text_number text → (r : ℕ) → r ≡ text_number text → Nighted text m ws before before r
   night-wrong h r e = record { wrong = λ _. (e, refl); good = λ z. absurd (omega (arith, z)) }
 
-  pub night-good : text_number text ≡ 0 → (t : Trace) → t ≡ (read_whole text).trace → (after : List ℕ) (a : Answer) → Nights t m ws before after a → (r : ℕ) → r ≡ night_code a → Nighted text m ws before after r
+  pub night-good : text_number text ≡ 0 → (t : Trace) → t ≡ (read_whole text).trace → (after : List ℕ) (a : Result (Unit {0}) Reason) → Nights t m ws before after a → (r : ℕ) → r ≡ night_code a → Nighted text m ws before after r
   night-good z t e after a p r c = record { wrong = λ h. absurd (omega (arith, z)); good = λ _. (a, subst (λ (t : Trace). Nights t m ws before after a) e p, c) }
 
   pub nighted-one : (a b : List ℕ) (r s : ℕ) → Nighted text m ws before a r → Nighted text m ws before b s → (r ≡ s) × (a ≡ b)

@@ -12,25 +12,24 @@ use lib.Dec.{leb}
 use lib.ListN.{length, take, drop, take-append-drop, drop_of_length-le, length-append, length-drop}
 use lib.Seq.{drop-drop, drop_at, length-take-le}
 use borrow.Author.Tests.{le-leb, lt-leb}
+use Rattle.std.specs.Prelude.{Result, Ok, Err}
 use Rattle.laws.proofs.Tests.{so-le}
 use Rattle.text.specs.Room.{put_at}
 use Rattle.text.proofs.Put.{put_front, put-none}
 use Rattle.trace.specs.WellFormed.{well_formed}
 use Rattle.packed.specs.Layout.{file_of}
 use Rattle.packed.specs.Write.{wrote_of, left_of}
-use Rattle.packed.specs.declared.Wrote.{Wrote}
-use Rattle.packed.specs.declared.Wrote.TheVariants.{Length, NotWellFormed, NoRoom, Lost}
+use Rattle.packed.specs.declared.Unwritten.{Unwritten}
+use Rattle.packed.specs.declared.Unwritten.TheVariants.{NoRoom}
 use Rattle.session.specs.declared.Session.{Session}
 use Rattle.session.proofs.Openings.{openable-iff}
 use Rattle.desk.specs.SessionHead.{Fit, SESSION-HEAD, session_head, session_bytes}
 use Rattle.desk.proofs.HeadBytes.{head-long}
 use Rattle.desk.proofs.Keeping.{behind}
 
-abbrev pub found : Wrote → Bool
-found (Length n) = true
-found NotWellFormed = false
-found NoRoom = false
-found Lost = false
+abbrev pub found : Result ℕ Unwritten → Bool
+found (Ok n) = true
+found (Err why) = false
 
 module _ (s : Session) (f : Fit s) (b : List ℕ) where
   -- its file
@@ -68,11 +67,11 @@ module _ (s : Session) (f : Fit s) (b : List ℕ) where
     unfolding wrote_of
     found-room = rw well (go (leb (length file) (length lent)))
       where
-        go : (r : Bool) → found (cond r (Length (length file)) NoRoom) ≡ r
+        go : (r : Bool) → found (cond r (Ok (length file)) (Err NoRoom)) ≡ r
         go true = refl
         go false = refl
 
-    module _ (r : Wrote) (e : r ≡ wrote_of s.trace lent) (last : List ℕ) (q : last ≡ left_of s.trace lent) where
+    module _ (r : Result ℕ Unwritten) (e : r ≡ wrote_of s.trace lent) (last : List ℕ) (q : last ≡ left_of s.trace lent) where
       pub placed-none : found r ≡ false → (false ≡ leb (length (session_bytes s)) (length b)) × (whole last ≡ put_at (session_bytes s) b 0)
       unfolding left_of
       placed-none n =

@@ -12,8 +12,9 @@ use lib.ListN.{length, set, take, drop, drop_of_length-le, length-drop}
 use lib.Seq.{take_all, drop_at, length-take-le}
 use Rattle.trace.specs.declared.Trace.{Trace}
 use Rattle.reasons.specs.Writes.{Writes}
-use Rattle.reasons.specs.declared.listing.Listed.{Listed}
-use Rattle.reasons.specs.declared.listing.Listed.TheVariants.{NoModel, NotWellFormed, Nothing, TooLong, Shown}
+use Rattle.reasons.specs.declared.listing.Reason.{Reason}
+use Rattle.reasons.specs.declared.listing.Reason.TheVariants.{NoModel, NotWellFormed, TooLong}
+use Rattle.std.specs.Prelude.{Option, Some, None, Result, Ok, Err}
 use Rattle.desk.specs.AnswerNumbers.{SHOWN}
 use Rattle.reasons.proofs.Unique.{writes_one}
 use Rattle.reader.specs.Whole.{read_whole}
@@ -25,12 +26,12 @@ front-set (u ∷ v ∷ b) x y h = refl
 front-set (u ∷ []) x y h = absurd (omega (arith, h))
 front-set [] x y h = absurd (omega (arith, h))
 
-shown-number : (w : Listed) → list_shown? w ≡ true → SHOWN ≡ listed_number w
-shown-number NoModel e = absurd (false≢true e)
-shown-number NotWellFormed e = absurd (false≢true e)
-shown-number Nothing e = absurd (false≢true e)
-shown-number TooLong e = absurd (false≢true e)
-shown-number (Shown n) e = refl
+shown-number : (w : Result (Option ℕ) Reason) → list_shown? w ≡ true → SHOWN ≡ listed_number w
+shown-number (Err NoModel) e = absurd (false≢true e)
+shown-number (Err NotWellFormed) e = absurd (false≢true e)
+shown-number (Ok None) e = absurd (false≢true e)
+shown-number (Err TooLong) e = absurd (false≢true e)
+shown-number (Ok (Some n)) e = refl
 
 module _ (t : Trace) (m : ℕ) (b : List ℕ) (h : LIST ≤ length b) where
   -- what is lent to the writer, and what the numbers are after it
@@ -48,7 +49,7 @@ module _ (t : Trace) (m : ℕ) (b : List ℕ) (h : LIST ≤ length b) where
       ap (λ (x : List ℕ). take LIST b ++ (last ++ x)) (drop_of_length-le (drop LIST b) {i = length b - LIST} (omega (arith, length-drop LIST b)))
       ∙ ap (λ (x : List ℕ). take LIST b ++ x) (append-nil last)
 
-  module _ (u : Trace) (same : u ≡ t) (last : List ℕ) (w : Listed) (s : Writes u m lent last w) where
+  module _ (u : Trace) (same : u ≡ t) (last : List ℕ) (w : Result (Option ℕ) Reason) (s : Writes u m lent last w) where
     told : Writes t m (drop LIST b) last w
     told = subst (λ (u : Trace). Writes u m (drop LIST b) last w) same (subst (λ (x : List ℕ). Writes u m x last w) lent-all s)
 
@@ -73,4 +74,4 @@ asked-one text m b after after' r s = ranked-one text m LIST (PaperWritten (read
     one : (r s : ℕ) (after after' : List ℕ) → PaperWritten (read_whole text).trace m b r after → PaperWritten (read_whole text).trace m b s after' → (r ≡ s) × (after ≡ after')
     one r s after after' (w, list, p, q, e) (w', list', p', q', e') =
         let o = writes_one (read_whole text).trace m (drop LIST b) list list' w w' p p' in
-        (q ∙ ap listed_number o.0 ∙ sym q', e ∙ ap₂ (λ (w : Listed) (l : List ℕ). length_front w b ++ l) o.0 o.1 ∙ sym e')
+        (q ∙ ap listed_number o.0 ∙ sym q', e ∙ ap₂ (λ (w : Result (Option ℕ) Reason) (l : List ℕ). length_front w b ++ l) o.0 o.1 ∙ sym e')

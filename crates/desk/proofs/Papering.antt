@@ -3,6 +3,7 @@
 --   papered-one  == no second answer
 --   papered-none == a list is accepted only where the text's trace has no valid order
 use mathlib.Core.Path.{◌≡◌, sym, ap, ◌∙◌}
+use mathlib.Core.Bool.{Bool, true, false}
 use mathlib.Core.List.{List}
 use Prim.Native.Nat.{ℕ}
 use native.Mathlib.Decide.{dec_lt}
@@ -12,8 +13,9 @@ use Rattle.rules.specs.Order.{Valid}
 use Rattle.reader.specs.Whole.{read_whole}
 use Rattle.pairs.specs.Kept.{kept_of}
 use Rattle.papers.specs.Accepts.{Accepts}
-use Rattle.papers.specs.declared.reading.Acceptance.{Acceptance}
-use Rattle.papers.specs.declared.reading.Acceptance.TheVariants.{NoModel, NotWellFormed, Accepted, NotAccepted}
+use Rattle.papers.specs.declared.reading.Refusal.{Refusal}
+use Rattle.papers.specs.declared.reading.Refusal.TheVariants.{NoModel, NotWellFormed}
+use Rattle.std.specs.Prelude.{Result, Ok, Err}
 use Rattle.papers.proofs.Unique.{accepts-one, accepts-none}
 use Rattle.desk.specs.AnswerNumbers.{ACCEPTED}
 use Rattle.desk.specs.Text.{text_number}
@@ -33,9 +35,9 @@ module _ (text : List ℕ) (m : ℕ) (l : List ℕ) where
   pub papered-none : text_number text ≡ 0 → Papered text m l ACCEPTED → (xs : List ℕ) → Valid (frame_of (read_whole text).trace) (kept_of m (read_whole text).trace) xs → ⊥
   papered-none z p = let a = p.says z in go a.0 a.1 a.2
     where
-      go : (a : Acceptance) → Accepts (read_whole text).trace m l a → ACCEPTED ≡ acceptance_number a
+      go : (a : Result Bool Refusal) → Accepts (read_whole text).trace m l a → ACCEPTED ≡ acceptance_number a
           → (xs : List ℕ) → Valid (frame_of (read_whole text).trace) (kept_of m (read_whole text).trace) xs → ⊥
-      go NoModel h e = absurd (omega (arith, e))
-      go NotWellFormed h e = absurd (omega (arith, e))
-      go Accepted h e = accepts-none (read_whole text).trace m l h
-      go NotAccepted h e = absurd (omega (arith, e))
+      go (Err NoModel) h e = absurd (omega (arith, e))
+      go (Err NotWellFormed) h e = absurd (omega (arith, e))
+      go (Ok true) h e = accepts-none (read_whole text).trace m l h
+      go (Ok false) h e = absurd (omega (arith, e))

@@ -7,13 +7,12 @@
 --   record_in a            == the record that waits, 0 where none does
 --   waiting_answer C b out == what looking for a record that waits is answered: 12, then no room for the record's number, then waits, or 0 where none does
 --   waiting_bytes C b out  == what the lent room holds then: the record's number at its front; as it was beside 12 and no room
-use Rattle.std.specs.Prelude.{cond, ◌&&◌, List, [], ◌∷◌, ◌++◌, ℕ, ◌-◌, eqb, leb, length, take, drop}
+use Rattle.std.specs.Prelude.{Option, Some, None, cond, ◌&&◌, List, [], ◌∷◌, ◌++◌, ℕ, ◌-◌, eqb, leb, length, take, drop}
 use Rattle.text.specs.Room.{put_at}
+use Rattle.trace.specs.declared.Op.{Op}
 use Rattle.packed.specs.Layout.{RECORD}
 use Rattle.packed.specs.FileRead.{file_reason_number}
 use Rattle.packed.specs.declared.Reason.TheVariants.{NoEntry}
-use Rattle.packed.specs.declared.Entry.{Entry}
-use Rattle.packed.specs.declared.Entry.TheVariants.{Of, Nothing}
 use Rattle.session.specs.Closings.{Closings}
 use Rattle.session.specs.Entries.{waiting_of}
 use Rattle.session.specs.Numbers.{reason_number, adds, awaits}
@@ -29,13 +28,13 @@ use Rattle.desk.specs.SessionCalls.{answer_in, bytes_in}
 abbrev pub shorter : List ℕ → List ℕ
 shorter b = take (length b - RECORD) b
 
-abbrev pub add_answer : Closings → List ℕ → Entry → ℕ
-add_answer C b (Of o) = answer_in C (shorter b) (adds o)
-add_answer C b Nothing = cond (like C (shorter b)) (file_reason_number NoEntry) (reason_number Unlike)
+abbrev pub add_answer : Closings → List ℕ → Option Op → ℕ
+add_answer C b (Some o) = answer_in C (shorter b) (adds o)
+add_answer C b None = cond (like C (shorter b)) (file_reason_number NoEntry) (reason_number Unlike)
 
-abbrev pub add_bytes : Closings → List ℕ → Entry → List ℕ
-add_bytes C b (Of o) = cond (eqb (answer_in C (shorter b) (adds o)) 0) (put_at (bytes_in C (shorter b) (adds o)) b 0) b
-add_bytes C b Nothing = b
+abbrev pub add_bytes : Closings → List ℕ → Option Op → List ℕ
+add_bytes C b (Some o) = cond (eqb (answer_in C (shorter b) (adds o)) 0) (put_at (bytes_in C (shorter b) (adds o)) b 0) b
+add_bytes C b None = b
 
 abbrev pub record_in : Answer → ℕ
 record_in Done = 0

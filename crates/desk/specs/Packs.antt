@@ -13,7 +13,7 @@
 --   whole_line b      == the line of a file
 --   text_packed words == the packed file of a text's trace
 --   file_unpacked b   == the text of a file's trace
-use Rattle.std.specs.Prelude.{◌≡◌, cond, List, [], ◌∷◌, ◌++◌, ℕ, ◌≤◌, eqb, leb, length, take}
+use Rattle.std.specs.Prelude.{Result, Ok, Err, ◌≡◌, cond, List, [], ◌∷◌, ◌++◌, ℕ, ◌≤◌, eqb, leb, length, take}
 use Rattle.trace.specs.Bounds.{RECORDS, ADDRESSES}
 use Rattle.trace.specs.declared.Trace.{Trace}
 use Rattle.text.specs.Room.{put_at}
@@ -23,8 +23,7 @@ use Rattle.packed.specs.Layout.{size_of, file_of}
 use Rattle.packed.specs.WholeFile as file
 use Rattle.packed.specs.declared.Answer.{Answer}
 use Rattle.packed.specs.declared.Answer.TheVariants.{Good, Refused}
-use Rattle.packed.specs.declared.Wrote.{Wrote}
-use Rattle.packed.specs.declared.Wrote.TheVariants.{Length, NotWellFormed, NoRoom, Lost}
+use Rattle.packed.specs.declared.Unwritten.{Unwritten}
 use Rattle.desk.specs.AnswerNumbers.{NO-ROOM}
 use Rattle.desk.specs.File.{file_number_in}
 use Rattle.desk.specs.VerdictBytes.{wide}
@@ -44,11 +43,9 @@ pub record LaidBytes (bs : List ℕ) (most : ℕ) (after : List ℕ) (n : ℕ) :
   pub within : n ≤ length after
   pub front : take n after ≡ bs
 
-abbrev pub length_in : Wrote → ℕ
-length_in (Length n) = n
-length_in NotWellFormed = 0
-length_in NoRoom = 0
-length_in Lost = 0
+abbrev pub length_in : Result ℕ Unwritten → ℕ
+length_in (Ok n) = n
+length_in (Err why) = 0
 
 unfoldable pub answer_for : ℕ → List ℕ → List ℕ → ℕ
 answer_for n bs b = cond (eqb n 0) (cond (leb (length (with_count bs)) (length b)) 0 NO-ROOM) n

@@ -9,48 +9,48 @@
 --   PaperWritten t m before r after  == what the writer says of a trace, told by r, and the numbers after it: the list behind its length, the rest as it was
 --   PaperAsked text m before after r == what `wheelotter_paper` promises: what is wrong with the text, no such model, no room for a length, all as it was; and
 --                                       else what the writer says of the text's trace
-use Rattle.std.specs.Prelude.{◌≡◌, Bool, true, false, cond, List, [], ◌∷◌, ◌++◌, ℕ, ◌/◌, ◌%◌, take, drop}
+use Rattle.std.specs.Prelude.{◌≡◌, Bool, true, false, cond, List, [], ◌∷◌, ◌++◌, ℕ, ◌/◌, ◌%◌, take, drop, Option, Some, None, Result, Ok, Err}
 use Rattle.trace.specs.declared.Trace.{Trace}
 use Rattle.reader.specs.Whole.{read_whole}
 use Rattle.reasons.specs.Writes.{Writes}
-use Rattle.reasons.specs.declared.listing.Listed.{Listed}
-use Rattle.reasons.specs.declared.listing.Listed.TheVariants.{NoModel, NotWellFormed, Nothing, TooLong, Shown}
+use Rattle.reasons.specs.declared.listing.Reason.{Reason}
+use Rattle.reasons.specs.declared.listing.Reason.TheVariants.{NoModel, NotWellFormed, TooLong}
 use Rattle.desk.specs.AnswerNumbers.{NO-ROOM, NO-MODEL, NOT-WELL-FORMED, NOTHING-TO-SHOW, SHOWN}
 use Rattle.desk.specs.Ranked.{Ranked}
 
 abbrev pub LIST : ℕ
 LIST = 2
 
-abbrev pub listed_number : Listed → ℕ
-listed_number NoModel = NO-MODEL
-listed_number NotWellFormed = NOT-WELL-FORMED
-listed_number Nothing = NOTHING-TO-SHOW
-listed_number TooLong = NO-ROOM
-listed_number (Shown n) = SHOWN
+abbrev pub listed_number : Result (Option ℕ) Reason → ℕ
+listed_number (Err NoModel) = NO-MODEL
+listed_number (Err NotWellFormed) = NOT-WELL-FORMED
+listed_number (Ok None) = NOTHING-TO-SHOW
+listed_number (Err TooLong) = NO-ROOM
+listed_number (Ok (Some n)) = SHOWN
 
-abbrev pub list_shown? : Listed → Bool
-list_shown? NoModel = false
-list_shown? NotWellFormed = false
-list_shown? Nothing = false
-list_shown? TooLong = false
-list_shown? (Shown n) = true
+abbrev pub list_shown? : Result (Option ℕ) Reason → Bool
+list_shown? (Err NoModel) = false
+list_shown? (Err NotWellFormed) = false
+list_shown? (Ok None) = false
+list_shown? (Err TooLong) = false
+list_shown? (Ok (Some n)) = true
 
-abbrev pub length_of : Listed → ℕ
-length_of NoModel = 0
-length_of NotWellFormed = 0
-length_of Nothing = 0
-length_of TooLong = 0
-length_of (Shown n) = n
+abbrev pub length_of : Result (Option ℕ) Reason → ℕ
+length_of (Err NoModel) = 0
+length_of (Err NotWellFormed) = 0
+length_of (Ok None) = 0
+length_of (Err TooLong) = 0
+length_of (Ok (Some n)) = n
 
 abbrev pub halves : ℕ → List ℕ
 halves n = n % 65536 ∷ n / 65536 % 65536 ∷ []
 
-abbrev pub length_front : Listed → List ℕ → List ℕ
+abbrev pub length_front : Result (Option ℕ) Reason → List ℕ → List ℕ
 length_front w before = cond (list_shown? w) (halves (length_of w)) (take LIST before)
 
 abbrev pub PaperWritten : Trace → ℕ → List ℕ → ℕ → List ℕ → Type 0
 PaperWritten t m before r after =
-    (w : Listed) × (list : List ℕ) × Writes t m (drop LIST before) list w × (r ≡ listed_number w) × (after ≡ length_front w before ++ list)
+    (w : Result (Option ℕ) Reason) × (list : List ℕ) × Writes t m (drop LIST before) list w × (r ≡ listed_number w) × (after ≡ length_front w before ++ list)
 
 abbrev pub PaperAsked : List ℕ → ℕ → List ℕ → List ℕ → ℕ → Type 0
 PaperAsked text m before after r = Ranked text m LIST (PaperWritten (read_whole text).trace m before) before after r

@@ -10,12 +10,11 @@
 --                                        front of the buffer and all behind as it was
 --   Replayed text m xs before after r == what `wheelotter_steps` promises: after what is wrong, the steps of the order for the text's trace, at the
 --                                        front of the buffer and all behind as it was
-use Rattle.std.specs.Prelude.{◌≡◌, Bool, true, false, cond, List, [], ◌∷◌, ◌++◌, ℕ, ◌+◌, drop}
+use Rattle.std.specs.Prelude.{◌≡◌, Result, Ok, Err, Bool, true, false, cond, List, [], ◌∷◌, ◌++◌, ℕ, ◌+◌, drop}
 use Rattle.reader.specs.Whole.{read_whole}
 use Rattle.machine.specs.Machine.{machined, answer, machine_number, stuck_at}
 use Rattle.machine.specs.Replay.{STEPS, steps_of}
-use Rattle.machine.specs.declared.Ran.{Ran}
-use Rattle.machine.specs.declared.Ran.TheVariants as ran
+use Rattle.machine.specs.declared.Refusal.{Refusal}
 use Rattle.machine.specs.declared.Given.{Given}
 use Rattle.machine.specs.declared.Given.TheVariants as given
 use Rattle.machine.specs.declared.Steps.{Steps}
@@ -33,11 +32,9 @@ abbrev pub through_number : Bool → ℕ
 through_number true = THROUGH
 through_number false = NOT-THROUGH
 
-abbrev pub ran_number : Ran → ℕ
-ran_number ran.NoModel = machine_number ran.NoModel
-ran_number ran.NotWellFormed = machine_number ran.NotWellFormed
-ran_number (ran.Stuck i) = machine_number (ran.Stuck i)
-ran_number (ran.Through b) = through_number b
+abbrev pub ran_number : Result Bool Refusal → ℕ
+ran_number (Err reason) = machine_number (Err reason)
+ran_number (Ok b) = through_number b
 
 abbrev pub given_number : Given → ℕ
 given_number given.NoModel = NO-MODEL

@@ -6,24 +6,24 @@
 --   pack_code text n    == the answer to packing the text's reads into n words: what is wrong with the text, or what packing answers
 --   pack_after text before == and what the words hold then
 --   unpack_code, unpack_after == the same of unpacking words
-use Rattle.std.specs.Prelude.{cond, List, ℕ, ◌+◌, ◌*◌, eqb, ltb}
+use Rattle.std.specs.Prelude.{Result, Ok, Err, cond, List, ℕ, ◌+◌, ◌*◌, eqb, ltb}
 use Rattle.trace.specs.Bounds.{RECORDS}
 use Rattle.reader.specs.Whole.{read_whole}
 use Rattle.signature.specs.SignatureAnswers as answers
 use Rattle.signature.specs.SignatureAnswers.{words_in, loads_in, pack_of, pack_left, unpack_of, unpack_left}
-use Rattle.signature.specs.declared.Answer.{Answer}
-use Rattle.signature.specs.declared.Answer.TheVariants.{Done, NotWellFormed, WrongLength, NotListed, TooLarge}
+use Rattle.signature.specs.declared.Reason.{Reason}
+use Rattle.signature.specs.declared.Reason.TheVariants.{NotWellFormed, WrongLength, NotListed, TooLarge}
 use Rattle.desk.specs.Text.{text_number}
 
 unfoldable pub with_place : ℕ → ℕ → ℕ
 with_place n k = cond (ltb k RECORDS) (n + 256 * k) n
 
-abbrev pub signed_code : Answer → ℕ
-signed_code Done = answers.signature_number Done
-signed_code NotWellFormed = answers.signature_number NotWellFormed
-signed_code WrongLength = answers.signature_number WrongLength
-signed_code (NotListed L) = with_place (answers.signature_number (NotListed L)) L
-signed_code (TooLarge k) = with_place (answers.signature_number (TooLarge k)) k
+abbrev pub signed_code : Result (Unit {0}) Reason → ℕ
+signed_code (Ok done) = answers.signature_number (Ok done)
+signed_code (Err NotWellFormed) = answers.signature_number (Err NotWellFormed)
+signed_code (Err WrongLength) = answers.signature_number (Err WrongLength)
+signed_code (Err (NotListed L)) = with_place (answers.signature_number (Err (NotListed L))) L
+signed_code (Err (TooLarge k)) = with_place (answers.signature_number (Err (TooLarge k))) k
 
 abbrev pub words_told : List ℕ → ℕ
 words_told text = words_in (read_whole text).trace

@@ -17,6 +17,7 @@ use native.Mathlib.Omega.{arith}
 use borrow.Author.Tests.{ltb-false, ne_eqb}
 use lib.Dec.{eqb, ltb}
 use lib.ListN.{length, get_or}
+use Rattle.std.specs.Prelude.{Result, Ok, Err}
 use Rattle.laws.specs.Places.{pos, count}
 use Rattle.laws.specs.Relation.{Table}
 use Rattle.laws.specs.Lowest.{Lowest, lowest}
@@ -39,8 +40,8 @@ use Rattle.rules.specs.Seen.{seen}
 use Rattle.pairs.specs.Accepted.{Accepted}
 use Rattle.judge.specs.Judged.{bad?, twice?, out?, early?, wrong?, pair_of, first_failing, turns_by, judged_by, judged_of}
 use Rattle.judge.specs.Judges.{Bad, Twice, Out, Early, WrongRead, Judges}
-use Rattle.judge.specs.declared.judging.Judgement.{Judgement}
-use Rattle.judge.specs.declared.judging.Judgement.TheVariants.{Yes, NoModel, NotWellFormed, WrongLength, BadNumber, Repeat, OutOfTurn, WrongValue}
+use Rattle.judge.specs.declared.judging.Broken.{Broken}
+use Rattle.judge.specs.declared.judging.Broken.TheVariants.{NoModel, NotWellFormed, WrongLength, BadNumber, Repeat, OutOfTurn, WrongValue}
 use Rattle.pairs.proofs.ValidOrders.{well-kept}
 use Rattle.rules.proofs.Seen.{at_most_one, operation-there, sees-one, seen-sees}
 use Rattle.judge.proofs.JudgeAnswers.{length-told, number-told, repeat-told, turns-told, nine-told, ten-told, judged-told}
@@ -178,23 +179,23 @@ module _ (f : Frame) (g : Good f) (K : Table) (rows : InRecords f K) (xs : List 
   misread : Once f xs → (v : Option ℕ) → Lowest (WrongRead f xs) v → lowest (wrong? f xs) f.records 0 ≡ v
   misread o v l = lowest-one (WrongRead f xs) _ v (wrongs o) l
 
-  pub judges-judged : (j : Judgement) → Judges f K xs j → judged_by f K xs ≡ j
+  pub judges-judged : (j : Result Unit Broken) → Judges f K xs j → judged_by f K xs ≡ j
   unfolding turns_by
-  judges-judged Yes v = sym (turns v.all) ∙ rw (kept v.kept, misread v.all none (λ L p. p.1 (v.value L p.0))) refl
-  judges-judged NoModel p = absurd p
-  judges-judged NotWellFormed p = absurd p
-  judges-judged WrongLength d = sym (length-told f K xs (ne_eqb _ _ d))
-  judges-judged (BadNumber i) (e, l) = sym (number-told f K xs (so-eq.1 e) i (lowest-one (Bad f xs) _ (some i) bads l))
-  judges-judged (Repeat x) (e, b, l) =
+  judges-judged (Ok tt) v = sym (turns v.all) ∙ rw (kept v.kept, misread v.all none (λ L p. p.1 (v.value L p.0))) refl
+  judges-judged (Err NoModel) p = absurd p
+  judges-judged (Err NotWellFormed) p = absurd p
+  judges-judged (Err WrongLength) d = sym (length-told f K xs (ne_eqb _ _ d))
+  judges-judged (Err (BadNumber i)) (e, l) = sym (number-told f K xs (so-eq.1 e) i (lowest-one (Bad f xs) _ (some i) bads l))
+  judges-judged (Err (Repeat x)) (e, b, l) =
       sym (repeat-told f K xs (so-eq.1 e) (lowest-one (Bad f xs) _ none bads b) x (lowest-one (Twice xs) _ (some x) (twices b) l))
-  judges-judged (OutOfTurn x y) (o, e, l) = sym (turns o) ∙ rw (begun x e) (ap (pair_of x) (paired x y l))
-  judges-judged (WrongValue L) (o, k, l) = sym (turns o) ∙ rw (kept k, misread o (some L) l) refl
+  judges-judged (Err (OutOfTurn x y)) (o, e, l) = sym (turns o) ∙ rw (begun x e) (ap (pair_of x) (paired x y l))
+  judges-judged (Err (WrongValue L)) (o, k, l) = sym (turns o) ∙ rw (kept k, misread o (some L) l) refl
 
-  pub judged-iff : (j : Judgement) → (judged_by f K xs ≡ j) ↔ Judges f K xs j
+  pub judged-iff : (j : Result Unit Broken) → (judged_by f K xs ≡ j) ↔ Judges f K xs j
   judged-iff j = (λ e. subst (Judges f K xs) e judged-judges, judges-judged j)
 
-  pub judged-yes : (judged_by f K xs ≡ Yes) ↔ Valid f K xs
-  judged-yes = judged-iff Yes
+  pub judged-yes : (judged_by f K xs ≡ Ok tt) ↔ Valid f K xs
+  judged-yes = judged-iff (Ok tt)
 
 module _ (t : Trace) (m : ℕ) (xs : List ℕ) where
   -- the answer where there is something to judge
@@ -202,13 +203,13 @@ module _ (t : Trace) (m : ℕ) (xs : List ℕ) where
   asked k w = sym (judged-told t m xs k w)
 
   -- which is none of the first two
-  judging : (j : Judgement) → (Judges (frame_of t) (kept_of m t) xs j → ⊥) → So (modelled m) → So (well_formed t) → judged_of t m xs ≡ j → ⊥
+  judging : (j : Result Unit Broken) → (Judges (frame_of t) (kept_of m t) xs j → ⊥) → So (modelled m) → So (well_formed t) → judged_of t m xs ≡ j → ⊥
   judging j n k w e = n ((judged-iff (frame_of t) (good t w) (kept_of m t) (well-kept t w m) xs j).0 (sym (asked k w) ∙ e))
 
-  pub accepted-yes : (judged_of t m xs ≡ Yes) ↔ Accepted t m xs
+  pub accepted-yes : (judged_of t m xs ≡ Ok tt) ↔ Accepted t m xs
   accepted-yes = (there, back)
     where
-      there : judged_of t m xs ≡ Yes → Accepted t m xs
+      there : judged_of t m xs ≡ Ok tt → Accepted t m xs
       there e = elim (test (modelled m)) [
         | inr k ↦ let z : ◌≡◌ {A = ℕ} 0 1 = cc (nine-told t m xs k) in absurd (omega arith)
         | inl k ↦ elim (test (well_formed t)) [
@@ -217,26 +218,26 @@ module _ (t : Trace) (m : ℕ) (xs : List ℕ) where
         ]
       ]
 
-      back : Accepted t m xs → judged_of t m xs ≡ Yes
+      back : Accepted t m xs → judged_of t m xs ≡ Ok tt
       back a = asked a.model a.well ∙ (judged-yes (frame_of t) (good t a.well) (kept_of m t) (well-kept t a.well m) xs).1 a.valid
 
-  pub judged-nine : (judged_of t m xs ≡ NoModel) ↔ (modelled m ≡ false)
+  pub judged-nine : (judged_of t m xs ≡ Err NoModel) ↔ (modelled m ≡ false)
   judged-nine = (there, λ k. sym (nine-told t m xs k))
     where
-      there : judged_of t m xs ≡ NoModel → modelled m ≡ false
+      there : judged_of t m xs ≡ Err NoModel → modelled m ≡ false
       there e = elim (test (modelled m)) [
         | inr k ↦ k
         | inl k ↦ elim (test (well_formed t)) [
           | inr w ↦ let z : ◌≡◌ {A = ℕ} 0 1 = cc (ten-told t m xs k w) in absurd (omega arith)
-          | inl w ↦ absurd (judging NoModel (λ n. n) k w e)
+          | inl w ↦ absurd (judging (Err NoModel) (λ n. n) k w e)
         ]
       ]
 
-  pub judged-ten : (judged_of t m xs ≡ NotWellFormed) ↔ (So (modelled m) × (well_formed t ≡ false))
+  pub judged-ten : (judged_of t m xs ≡ Err NotWellFormed) ↔ (So (modelled m) × (well_formed t ≡ false))
   judged-ten = (there, λ p. sym (ten-told t m xs p.0 p.1))
     where
-      there : judged_of t m xs ≡ NotWellFormed → So (modelled m) × (well_formed t ≡ false)
+      there : judged_of t m xs ≡ Err NotWellFormed → So (modelled m) × (well_formed t ≡ false)
       there e = elim (test (modelled m)) [
         | inr k ↦ let z : ◌≡◌ {A = ℕ} 0 1 = cc (nine-told t m xs k) in absurd (omega arith)
-        | inl k ↦ elim (test (well_formed t)) [ inr w ↦ (k, w) | inl w ↦ absurd (judging NotWellFormed (λ n. n) k w e) ]
+        | inl k ↦ elim (test (well_formed t)) [ inr w ↦ (k, w) | inl w ↦ absurd (judging (Err NotWellFormed) (λ n. n) k w e) ]
       ]

@@ -1,7 +1,7 @@
 -- What the loops of the judge learn, a turn at a time.
 --
 --   operations-more                == one record more, where operations are counted
---   counted-here, counted-later    == one place more to the front, where a number is counted
+--   counted                        == as many places pass the test of a number as it stands in
 --   none-earlier, not-fenced       == x makes no kept pair with an earlier record; no fence stands between x and itself
 --   kept_at                        == the table of kept pairs, as a loop reads it off two records
 --   out-here, out-idle, out-right  == a pair is out of turn; it is not kept; it is in turn
@@ -9,19 +9,19 @@
 use mathlib.Core.Path.{◌≡◌, refl, sym, ap, ap₂, ◌∙◌}
 use mathlib.Core.Logic.{◌≢◌}
 use mathlib.Core.Bool.{Bool, true, false, not, cond, So, ◌&&◌}
-use mathlib.Core.List.{List, ◌∷◌}
-use Prim.Native.Nat.{ℕ, suc, ◌+◌, ◌-◌, ◌<◌, ◌≤◌}
+use mathlib.Core.List.{List, [], ◌∷◌}
+use Prim.Native.Nat.{ℕ, suc, ◌+◌, ◌<◌, ◌≤◌}
 use native.Mathlib.Numerals.{add-one}
 use native.Mathlib.Omega.{arith}
 use borrow.Author.Tests.{lt-ltb, le-ltb, eq-eqb, ne_eqb}
 use lib.Dec.{eqb, ltb}
-use lib.ListN.{length, get_or, drop}
-use lib.Seq.{drop-cons}
+use lib.ListN.{length, get_or}
 use Rattle.laws.specs.Places.{count}
 use Rattle.laws.specs.Relation.{Table}
 use Rattle.laws.specs.Sums.{sum}
 use Rattle.laws.proofs.Tests.{off}
-use Rattle.laws.proofs.Places.{count-here, count-later}
+use Rattle.std.specs.Prelude.{filter, count_by}
+use Rattle.std.proofs.lemmas.List.Sums.{length-filter}
 use Rattle.laws.proofs.LowestLoops.{NoneBelow}
 use Rattle.rules.specs.Frame.{Frame}
 use Rattle.trace.specs.Trace.{at}
@@ -53,16 +53,18 @@ pub operations-more : (t : Trace) (x : ℕ) (b : Bool) → (frame_of t).operatio
 unfolding sum
 operations-more t x b e = rw add-one (ap (λ (o : Bool). cond o 1 0 + sum x (λ y. cond ((frame_of t).operation y) 1 0)) e)
 
-module _ (xs : List ℕ) (x i : ℕ) (p : 0 < i) (b : i ≤ length xs) where
-  -- the places from i - 1 on
-  places : drop (i - 1) xs ≡ get_or xs (i - 1) 0 ∷ drop i xs
-  places = let q : suc (i - 1) ≡ i = omega arith in drop-cons xs (i - 1) 0 (omega arith) ∙ ap (λ (j : ℕ). get_or xs (i - 1) 0 ∷ drop j xs) q
+-- the length of what passes a test, a place at a time
+one-more : (b : Bool) (y : ℕ) (ys : List ℕ) → length (cond b (y ∷ ys) ys) ≡ cond b (suc (length ys)) (length ys)
+one-more true y ys = refl
+one-more false y ys = refl
 
-  pub counted-here : x ≡ get_or xs (i - 1) 0 → count x (drop (i - 1) xs) ≡ count x (drop i xs) + 1
-  counted-here e = rw places (omega (arith, count-here x (get_or xs (i - 1) 0) (drop i xs) e))
+passed : (x : ℕ) (xs : List ℕ) → length (filter (λ y. eqb x y) xs) ≡ count x xs
+unfolding count
+passed x [] = refl
+passed x (y ∷ ys) = one-more (eqb x y) y (filter (λ z. eqb x z) ys) ∙ ap (λ (n : ℕ). cond (eqb x y) (suc n) n) (passed x ys)
 
-  pub counted-later : x ≢ get_or xs (i - 1) 0 → count x (drop (i - 1) xs) ≡ count x (drop i xs)
-  counted-later d = rw places (count-later x (get_or xs (i - 1) 0) (drop i xs) d)
+pub counted : (x : ℕ) (xs : List ℕ) → count_by (λ y. eqb x y) xs ≡ count x xs
+counted x xs = sym (length-filter (λ y. eqb x y) xs) ∙ passed x xs
 
 pub none-earlier : (m : ℕ) (t : Trace) (s : List ℕ) (x : ℕ) → NoneBelow (out_at (kept_of m t) s x) x
 unfolding out_at

@@ -6,7 +6,7 @@
 --   Early K xs x    == x begins such a pair
 --   WrongRead f xs L == L reads, and another value than it must read in xs
 --   Judges f K xs j == j is the answer, where the trace is the frame f and its kept pairs are K
-use Rattle.std.specs.Prelude.{◌≡◌, ◌≢◌, List, ℕ, ◌<◌, length, get_or}
+use Rattle.std.specs.Prelude.{◌≡◌, ◌≢◌, Result, Ok, Err, List, ℕ, ◌<◌, length, get_or}
 use Rattle.std.proofs.Math.Bool.{So}
 use Rattle.std.proofs.Math.Option.{none, some}
 use Rattle.laws.specs.Places.{count, Before}
@@ -15,8 +15,8 @@ use Rattle.laws.specs.Lowest.{Lowest}
 use Rattle.rules.specs.Frame.{Frame}
 use Rattle.rules.specs.Order.{Sees, Keeps, Once, Valid}
 use Rattle.rules.specs.Ready.{operations}
-use Rattle.judge.specs.declared.judging.Judgement.{Judgement}
-use Rattle.judge.specs.declared.judging.Judgement.TheVariants.{Yes, NoModel, NotWellFormed, WrongLength, BadNumber, Repeat, OutOfTurn, WrongValue}
+use Rattle.judge.specs.declared.judging.Broken.{Broken}
+use Rattle.judge.specs.declared.judging.Broken.TheVariants.{NoModel, NotWellFormed, WrongLength, BadNumber, Repeat, OutOfTurn, WrongValue}
 
 abbrev pub Bad : Frame → List ℕ → ℕ → Type 0
 Bad f xs i = (i < length xs) × (So (f.operation (get_or xs i 0)) → ⊥)
@@ -33,12 +33,12 @@ Early K xs x = (y : ℕ) × Out K xs x y
 abbrev pub WrongRead : Frame → List ℕ → ℕ → Type 0
 WrongRead f xs L = So (f.reads L) × (Sees f xs L (f.read L) → ⊥)
 
-abbrev pub Judges : Frame → Table → List ℕ → Judgement → Type 0
-Judges f K xs Yes = Valid f K xs
-Judges f K xs NoModel = ⊥
-Judges f K xs NotWellFormed = ⊥
-Judges f K xs WrongLength = length xs ≢ operations f
-Judges f K xs (BadNumber i) = (length xs ≡ operations f) × Lowest (Bad f xs) (some i)
-Judges f K xs (Repeat x) = (length xs ≡ operations f) × Lowest (Bad f xs) none × Lowest (Twice xs) (some x)
-Judges f K xs (OutOfTurn x y) = Once f xs × Lowest (Early K xs) (some x) × Lowest (Out K xs x) (some y)
-Judges f K xs (WrongValue L) = Once f xs × Keeps K xs × Lowest (WrongRead f xs) (some L)
+abbrev pub Judges : Frame → Table → List ℕ → Result Unit Broken → Type 0
+Judges f K xs (Ok u) = Valid f K xs
+Judges f K xs (Err NoModel) = ⊥
+Judges f K xs (Err NotWellFormed) = ⊥
+Judges f K xs (Err WrongLength) = length xs ≢ operations f
+Judges f K xs (Err (BadNumber i)) = (length xs ≡ operations f) × Lowest (Bad f xs) (some i)
+Judges f K xs (Err (Repeat x)) = (length xs ≡ operations f) × Lowest (Bad f xs) none × Lowest (Twice xs) (some x)
+Judges f K xs (Err (OutOfTurn x y)) = Once f xs × Lowest (Early K xs) (some x) × Lowest (Out K xs x) (some y)
+Judges f K xs (Err (WrongValue L)) = Once f xs × Keeps K xs × Lowest (WrongRead f xs) (some L)

@@ -32,8 +32,8 @@ use Rattle.circle.specs.declared.show.Circle as ring
 use Rattle.rules.specs.Verdict.{Verdict, no_source, circle, order, none_left, Says}
 use Rattle.rules.specs.Ready.{operations}
 use Rattle.pairs.specs.MissingOf.{record?, missing_of}
-use Rattle.pairs.specs.declared.sources.Found.{Found}
-use Rattle.pairs.specs.declared.sources.Found.TheVariants.{At}
+use Rattle.pairs.specs.Found.{Found}
+use Rattle.std.specs.Prelude.{Some}
 use Rattle.pairs.proofs.MissingOf.{missing-lowest}
 use Rattle.pairs.proofs.ValidOrders.{well-fits, valid-short}
 use Rattle.verdict.specs.VerdictOf as full
@@ -87,7 +87,7 @@ module _ (t : Trace) (m l : ℕ) where
           let (u, s, e) = p.says w in
           told-says (decided u 0) (s, sym (free u (ap (λ (v : held.Verdict). v.outcome) e)), omega arith) (of v 0) (ap (λ (v : held.Verdict). of v 0) e) p.fits
 
-      pub told-source : (x : ℕ) → At x ≡ missing_of t → ToldLimited t m l (of (full.bare (NoSource x)) 0)
+      pub told-source : (x : ℕ) → Some x ≡ missing_of t → ToldLimited t m l (of (full.bare (NoSource x)) 0)
       told-source x e = told-full (full.bare (NoSource x)) (verdict.told-source t (kept_of m t) w x e) free
         where
           free : (u : Verdict) → NoSource x ≡ (full.laid u).outcome → counted (frame_of t) (kept_of m t) u ≡ 0

@@ -14,6 +14,7 @@ pub enum Limited {
 }
 
 // The outcome with its operations and rules, as the full verdict has them, and the count. Unused places are 0.
+// An array and its length: the project has no heap, and its memory is fixed.
 #[derive(Clone, Copy)]
 pub struct Limit {
     pub outcome: Limited,

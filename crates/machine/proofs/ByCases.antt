@@ -38,16 +38,15 @@ use Rattle.trace.proofs.Meaning.{operation-iff}
 use Rattle.laws.proofs.Places.{count_at}
 use Rattle.pairs.specs.MissingOf.{as_found}
 use Rattle.judge.specs.Judged.{judged_of}
-use Rattle.judge.specs.declared.judging.Judgement.{Judgement}
-use Rattle.judge.specs.declared.judging.Judgement.TheVariants as judgement
+use Rattle.judge.specs.declared.judging.Broken.{Broken}
 use Rattle.judge.proofs.Judged.{accepted-yes}
 use Rattle.rules.proofs.Seen.{operation-there}
-use Rattle.pairs.specs.declared.sources.Found.{Found}
-use Rattle.pairs.specs.declared.sources.Found.TheVariants.{At, Nothing}
+use Rattle.pairs.specs.Found.{Found}
+use Rattle.std.specs.Prelude as std
+use Rattle.std.specs.Prelude.{Some, None, Result, Ok, Err}
 use Rattle.machine.specs.declared.Machine.{Machine}
-use Rattle.machine.specs.declared.Stepped.{Stepped}
-use Rattle.machine.specs.declared.Ran.{Ran}
-use Rattle.machine.specs.declared.Ran.TheVariants.{NoModel, NotWellFormed, Stuck, Through}
+use Rattle.machine.specs.declared.Refusal.{Refusal}
+use Rattle.machine.specs.declared.Refusal.TheVariants.{NoModel, NotWellFormed, Stuck}
 use Rattle.machine.specs.Machine.{lands, alone, due, waiting, got, may, ran_as, emptied, runs, empties, step, stepped, finished, run, answer, machined, machine_start}
 use Rattle.machine.specs.declared.Built.{Built}
 use Rattle.machine.specs.declared.Steps.{Steps}
@@ -90,16 +89,16 @@ pub may-parts : (t : Trace) (M : Machine) (x : ℕ) → may t M x ≡ ((not (alo
 unfolding may
 may-parts t M x = ap₂ (λ (a b : Bool). a && b) (imp_or (alone (at t x)) _) (imp_or (reads (at t x)) _)
 
-pub found_some : (o : Option ℕ) (f : Found) (x : ℕ) → f ≡ as_found o → f ≡ At x → o ≡ some x
+pub found_some : (o : Option ℕ) (f : Found) (x : ℕ) → f ≡ as_found o → f ≡ Some x → o ≡ some x
 found_some none f x e q = let z : ◌≡◌ {A = ℕ} 0 1 = cc in absurd (omega arith)
 found_some (some y) f x e q = cc
 
-pub found_none : (o : Option ℕ) (f : Found) → f ≡ as_found o → f ≡ Nothing → o ≡ none
+pub found_none : (o : Option ℕ) (f : Found) → f ≡ as_found o → f ≡ None → o ≡ none
 found_none none f e q = refl
 found_none (some y) f e q = let z : ◌≡◌ {A = ℕ} 0 1 = cc in absurd (omega arith)
 
 -- what a search over the records of a well formed trace finds has its place, and an address
-pub found-fits : (t : Trace) → So (well_formed t) → (p : ℕ → Bool) (f : Found) (x : ℕ) → f ≡ as_found (lowest p t.len 0) → f ≡ At x → (x < RECORDS) × (address (at t x) < ADDRESSES)
+pub found-fits : (t : Trace) → So (well_formed t) → (p : ℕ → Bool) (f : Found) (x : ℕ) → f ≡ as_found (lowest p t.len 0) → f ≡ Some x → (x < RECORDS) × (address (at t x) < ADDRESSES)
 found-fits t w p f x e q =
     let form = (form-iff t).0 w in
     let h = (lowest-is p t.len x (found_some (lowest p t.len 0) f x e q)).0.0 in
@@ -114,28 +113,28 @@ module _ (t : Trace) (m : ℕ) (M : Machine) (s : ℕ) where
   unfolding step
   above h = ap (λ b. cond b (runs t m M (lowest (due t M s) t.len 0)) (empties t M (lowest (waiting t M (s - THREADS)) t.len 0))) (le-ltb s THREADS h)
 
-  pub step-runs : s < THREADS → (f : Found) (x : ℕ) → f ≡ as_found (lowest (due t M s) t.len 0) → f ≡ At x → So (may t M x) → step t m M s ≡ some (ran_as t m M x)
+  pub step-runs : s < THREADS → (f : Found) (x : ℕ) → f ≡ as_found (lowest (due t M s) t.len 0) → f ≡ Some x → So (may t M x) → step t m M s ≡ some (ran_as t m M x)
   step-runs h f x e q u = below h ∙ ap (runs t m M) (found_some (lowest (due t M s) t.len 0) f x e q) ∙ ap (λ b. cond b (some (ran_as t m M x)) none) u
 
-  pub step-blocked : s < THREADS → (f : Found) (x : ℕ) → f ≡ as_found (lowest (due t M s) t.len 0) → f ≡ At x → may t M x ≡ false → step t m M s ≡ none
+  pub step-blocked : s < THREADS → (f : Found) (x : ℕ) → f ≡ as_found (lowest (due t M s) t.len 0) → f ≡ Some x → may t M x ≡ false → step t m M s ≡ none
   step-blocked h f x e q u = below h ∙ ap (runs t m M) (found_some (lowest (due t M s) t.len 0) f x e q) ∙ ap (λ b. cond b (some (ran_as t m M x)) none) u
 
-  pub step-idle : s < THREADS → (f : Found) → f ≡ as_found (lowest (due t M s) t.len 0) → f ≡ Nothing → step t m M s ≡ none
+  pub step-idle : s < THREADS → (f : Found) → f ≡ as_found (lowest (due t M s) t.len 0) → f ≡ None → step t m M s ≡ none
   step-idle h f e q = below h ∙ ap (runs t m M) (found_none (lowest (due t M s) t.len 0) f e q)
 
-  pub step-empties : THREADS ≤ s → (f : Found) (x : ℕ) → f ≡ as_found (lowest (waiting t M (s - THREADS)) t.len 0) → f ≡ At x → step t m M s ≡ some (emptied t M x)
+  pub step-empties : THREADS ≤ s → (f : Found) (x : ℕ) → f ≡ as_found (lowest (waiting t M (s - THREADS)) t.len 0) → f ≡ Some x → step t m M s ≡ some (emptied t M x)
   step-empties h f x e q = above h ∙ ap (empties t M) (found_some (lowest (waiting t M (s - THREADS)) t.len 0) f x e q)
 
-  pub step-dry : THREADS ≤ s → (f : Found) → f ≡ as_found (lowest (waiting t M (s - THREADS)) t.len 0) → f ≡ Nothing → step t m M s ≡ none
+  pub step-dry : THREADS ≤ s → (f : Found) → f ≡ as_found (lowest (waiting t M (s - THREADS)) t.len 0) → f ≡ None → step t m M s ≡ none
   step-dry h f e q = above h ∙ ap (empties t M) (found_none (lowest (waiting t M (s - THREADS)) t.len 0) f e q)
 
-pub stepped-no : (M : Machine) (o : Option Machine) (s : Stepped) → s ≡ stepped M o → s.possible ≡ false → o ≡ none
-stepped-no M none s e q = refl
-stepped-no M (some N) s e q = absurd (false≢true (sym q ∙ ap (λ (s : Stepped). s.possible) e))
+pub stepped-no : (o : Option Machine) (s : std.Option Machine) → s ≡ stepped o → s ≡ None → o ≡ none
+stepped-no none s e q = refl
+stepped-no (some N) s e q = let z : ◌≡◌ {A = ℕ} 0 1 = cc in absurd (omega arith)
 
-pub stepped-yes : (M : Machine) (o : Option Machine) (s : Stepped) → s ≡ stepped M o → So s.possible → o ≡ some s.machine
-stepped-yes M none s e q = absurd (false≢true (ap (λ (s : Stepped). s.possible) (sym e) ∙ q))
-stepped-yes M (some N) s e q = ap some (ap (λ (s : Stepped). s.machine) (sym e))
+pub stepped-yes : (o : Option Machine) (s : std.Option Machine) (N : Machine) → s ≡ stepped o → s ≡ Some N → o ≡ some N
+stepped-yes none s N e q = let z : ◌≡◌ {A = ℕ} 0 1 = cc in absurd (omega arith)
+stepped-yes (some N') s N e q = cc
 
 -- nothing is left past the end
 gone : (ss : List ℕ) (i : ℕ) → length ss ≤ i → drop i ss ≡ []
@@ -148,37 +147,37 @@ module _ (t : Trace) (m : ℕ) (M : Machine) (ss : List ℕ) (i : ℕ) where
   one_more : i < length ss → run t m M (drop i ss) i ≡ run t m M (get_or ss i 0 ∷ drop (suc i) ss) i
   one_more h = ap (λ (l : List ℕ). run t m M l i) (drop-cons ss i 0 h)
 
-  pub run-stuck : i < length ss → step t m M (get_or ss i 0) ≡ none → run t m M (drop i ss) i ≡ Stuck i
+  pub run-stuck : i < length ss → step t m M (get_or ss i 0) ≡ none → run t m M (drop i ss) i ≡ Err (Stuck i)
   unfolding run
-  run-stuck h e = one_more h ∙ ap (λ (o : Option Machine). elim o [ none ↦ Stuck i | some N ↦ run t m N (drop (suc i) ss) (suc i) ]) e
+  run-stuck h e = one_more h ∙ ap (λ (o : Option Machine). elim o [ none ↦ Err (Stuck i) | some N ↦ run t m N (drop (suc i) ss) (suc i) ]) e
 
   pub run_more : (N : Machine) → i < length ss → step t m M (get_or ss i 0) ≡ some N → run t m M (drop i ss) i ≡ run t m N (drop (i + 1) ss) (i + 1)
   unfolding run
   run_more N h e =
-      one_more h ∙ ap (λ (o : Option Machine). elim o [ none ↦ Stuck i | some N ↦ run t m N (drop (suc i) ss) (suc i) ]) e
+      one_more h ∙ ap (λ (o : Option Machine). elim o [ none ↦ Err (Stuck i) | some N ↦ run t m N (drop (suc i) ss) (suc i) ]) e
       ∙ ap (λ (k : ℕ). run t m N (drop k ss) k) (sym (add-one i))
 
-  pub run_end : length ss ≤ i → run t m M (drop i ss) i ≡ Through (finished t M)
+  pub run_end : length ss ≤ i → run t m M (drop i ss) i ≡ Ok (finished t M)
   unfolding run
   run_end h = ap (λ (l : List ℕ). run t m M l i) (gone ss i h)
 
-pub answer-model : (t : Trace) (m : ℕ) (ss : List ℕ) → machined m ≡ false → NoModel ≡ answer t m ss
+pub answer-model : (t : Trace) (m : ℕ) (ss : List ℕ) → machined m ≡ false → Err NoModel ≡ answer t m ss
 unfolding answer
-answer-model t m ss e = sym (ap (λ b. cond b (cond (well_formed t) (run t m (machine_start t) ss 0) NotWellFormed) NoModel) e)
+answer-model t m ss e = sym (ap (λ b. cond b (cond (well_formed t) (run t m (machine_start t) ss 0) (Err NotWellFormed)) (Err NoModel)) e)
 
-pub answer-form : (t : Trace) (m : ℕ) (ss : List ℕ) → So (machined m) → well_formed t ≡ false → NotWellFormed ≡ answer t m ss
+pub answer-form : (t : Trace) (m : ℕ) (ss : List ℕ) → So (machined m) → well_formed t ≡ false → Err NotWellFormed ≡ answer t m ss
 unfolding answer
-answer-form t m ss k e = sym (ap (λ b. cond b (cond (well_formed t) (run t m (machine_start t) ss 0) NotWellFormed) NoModel) k ∙ ap (λ b. cond b (run t m (machine_start t) ss 0) NotWellFormed) e)
+answer-form t m ss k e = sym (ap (λ b. cond b (cond (well_formed t) (run t m (machine_start t) ss 0) (Err NotWellFormed)) (Err NoModel)) k ∙ ap (λ b. cond b (run t m (machine_start t) ss 0) (Err NotWellFormed)) e)
 
-pub answer-runs : (t : Trace) (m : ℕ) (ss : List ℕ) → So (machined m) → So (well_formed t) → (r : Ran) → run t m (machine_start t) ss 0 ≡ r → r ≡ answer t m ss
+pub answer-runs : (t : Trace) (m : ℕ) (ss : List ℕ) → So (machined m) → So (well_formed t) → (r : Result Bool Refusal) → run t m (machine_start t) ss 0 ≡ r → r ≡ answer t m ss
 unfolding answer
-answer-runs t m ss k w r e = sym e ∙ sym (ap (λ b. cond b (cond (well_formed t) (run t m (machine_start t) ss 0) NotWellFormed) NoModel) k ∙ ap (λ b. cond b (run t m (machine_start t) ss 0) NotWellFormed) w)
+answer-runs t m ss k w r e = sym e ∙ sym (ap (λ b. cond b (cond (well_formed t) (run t m (machine_start t) ss 0) (Err NotWellFormed)) (Err NoModel)) k ∙ ap (λ b. cond b (run t m (machine_start t) ss 0) (Err NotWellFormed)) w)
 
-pub yes-step : (M N N' : Machine) (o : Option Machine) → N ≡ N' → o ≡ some N' → ◌≡◌ {A = Stepped} (record { possible = true; machine = N }) (stepped M o)
-yes-step M N N' o e q = ap (λ (N : Machine). stepped M (some N)) e ∙ ap (stepped M) (sym q)
+pub yes-step : (N N' : Machine) (o : Option Machine) → N ≡ N' → o ≡ some N' → Some N ≡ stepped o
+yes-step N N' o e q = ap (λ (N : Machine). Some N) e ∙ ap stepped (sym q)
 
-pub no_step : (M : Machine) (o : Option Machine) → o ≡ none → ◌≡◌ {A = Stepped} (record { possible = false; machine = M }) (stepped M o)
-no_step M o q = ap (stepped M) (sym q)
+pub no_step : (o : Option Machine) → o ≡ none → None ≡ stepped o
+no_step o q = ap stepped (sym q)
 
 -- one step more, where there is room
 abbrev pub longer : Built → ℕ → Built
@@ -251,15 +250,9 @@ module _ (t : Trace) (m : ℕ) (b : Built) (xs : List ℕ) (i : ℕ) where
   placing-end h = ap (placing t m b) (gone xs i h)
 
 -- the judge's yes
-pub yes-is : (j : Judgement) → So (yes? j) → j ≡ judgement.Yes
-yes-is judgement.Yes s = refl
-yes-is judgement.NoModel s = absurd (false≢true s)
-yes-is judgement.NotWellFormed s = absurd (false≢true s)
-yes-is judgement.WrongLength s = absurd (false≢true s)
-yes-is (judgement.BadNumber i) s = absurd (false≢true s)
-yes-is (judgement.Repeat x) s = absurd (false≢true s)
-yes-is (judgement.OutOfTurn x y) s = absurd (false≢true s)
-yes-is (judgement.WrongValue x) s = absurd (false≢true s)
+pub yes-is : (j : Result Unit Broken) → So (yes? j) → j ≡ Ok tt
+yes-is (Ok tt) s = refl
+yes-is (Err b) s = absurd (false≢true s)
 
 -- what the judge says yes to are records
 pub order_below : (t : Trace) (m : ℕ) (xs : List ℕ) → So (yes? (judged_of t m xs)) → (i : ℕ) → i < length xs → get_or xs i 0 < t.len

@@ -32,14 +32,15 @@ use Rattle.trace.proofs.Good.{form-good}
 use Rattle.pairs.specs.Kept.{kept_of}
 use Rattle.judge.specs.Judged.{judged_of}
 use Rattle.pairs.specs.Accepted.{Accepted}
-use Rattle.judge.specs.declared.judging.Judgement.{Judgement}
+use Rattle.judge.specs.declared.judging.Broken.{Broken}
 use Rattle.judge.proofs.Judged.{accepted-yes}
 use Rattle.machine.specs.declared.Steps.{Steps}
 use Rattle.machine.specs.declared.Given.TheVariants as goal
 use Rattle.machine.specs.Replay.{STEPS, told, built_of, yes?, no_steps, listed, steps_of}
 use Rattle.machine.specs.declared.Machine.{Machine}
-use Rattle.machine.specs.declared.Ran.{Ran}
-use Rattle.machine.specs.declared.Ran.TheVariants.{NoModel, NotWellFormed, Stuck, Through}
+use Rattle.machine.specs.declared.Refusal.{Refusal}
+use Rattle.machine.specs.declared.Refusal.TheVariants.{NoModel, NotWellFormed, Stuck}
+use Rattle.std.specs.Prelude.{Result, Ok, Err}
 use Rattle.machine.specs.Machine.{machined, machine_start, step, finished, run, answer, stuck_at}
 use Rattle.machine.proofs.CoresOf.{cores_of}
 use Rattle.machine.proofs.History.{Go, through, enters, empties, Goes, done, more, Ended, Laws}
@@ -77,14 +78,14 @@ module _ (t : Trace) (form : Form t) (m : ℕ) (l : Laws (cores_of m t) (kept_of
       part : (x : ℕ) → So (get_or M.ran x false && not (get_or M.waits x false)) → So (get_or M.ran x false) × So (not (get_or M.waits x false))
       part x = (both x).0
 
-  run-goes : (ss : List ℕ) (i : ℕ) (b : Bool) {M : Machine} {r p : List ℕ} → Tells t m M r p → Sound (cores_of m t) (kept_of m t) r p → run t m M ss i ≡ Through b
+  run-goes : (ss : List ℕ) (i : ℕ) (b : Bool) {M : Machine} {r p : List ℕ} → Tells t m M r p → Sound (cores_of m t) (kept_of m t) r p → run t m M ss i ≡ Ok b
       → (r' : List ℕ) × (p' : List ℕ) × Goes (cores_of m t) r p ss r' p' × (So b → Ended (cores_of m t) r' p')
   unfolding run
   run-goes [] i b {M} {r} {p} T S e = (r, p, done, λ s. let f : finished t M ≡ b = cc in (finished-iff T S).0 (f ∙ s))
   run-goes (s ∷ ss) i b {M} {r} {p} T S e = go (step t m M s) refl e (λ N r p. run-goes ss (suc i) b {M = N} {r = r} {p = p})
     where
-      go : (o : Option Machine) → step t m M s ≡ o → elim o [ none ↦ Stuck i | some N ↦ run t m N ss (suc i) ] ≡ Through b
-          → ((N : Machine) (r p : List ℕ) → Tells t m N r p → Sound (cores_of m t) (kept_of m t) r p → run t m N ss (suc i) ≡ Through b → (r' : List ℕ) × (p' : List ℕ) × Goes (cores_of m t) r p ss r' p' × (So b → Ended (cores_of m t) r' p'))
+      go : (o : Option Machine) → step t m M s ≡ o → ◌≡◌ {A = Result Bool Refusal} (elim o [ none ↦ Err (Stuck i) | some N ↦ run t m N ss (suc i) ]) (Ok b)
+          → ((N : Machine) (r p : List ℕ) → Tells t m N r p → Sound (cores_of m t) (kept_of m t) r p → run t m N ss (suc i) ≡ Ok b → (r' : List ℕ) × (p' : List ℕ) × Goes (cores_of m t) r p ss r' p' × (So b → Ended (cores_of m t) r' p'))
           → (r' : List ℕ) × (p' : List ℕ) × Goes (cores_of m t) r p (s ∷ ss) r' p' × (So b → Ended (cores_of m t) r' p')
       go none f e rec = let z : ◌≡◌ {A = ℕ} 0 1 = cc in absurd (omega arith)
       go (some N) f e rec =
@@ -93,14 +94,14 @@ module _ (t : Trace) (form : Form t) (m : ℕ) (l : Laws (cores_of m t) (kept_of
           (r', p', more g h, n)
 
   -- a run that is stuck was possible up to there
-  stuck-goes : (ss : List ℕ) (i j : ℕ) {M : Machine} {r p : List ℕ} → Tells t m M r p → Sound (cores_of m t) (kept_of m t) r p → run t m M ss i ≡ Stuck j
+  stuck-goes : (ss : List ℕ) (i j : ℕ) {M : Machine} {r p : List ℕ} → Tells t m M r p → Sound (cores_of m t) (kept_of m t) r p → run t m M ss i ≡ Err (Stuck j)
       → (us : List ℕ) × (r' : List ℕ) × (p' : List ℕ) × Goes (cores_of m t) r p us r' p' × (j ≡ i + length us)
   unfolding run
   stuck-goes [] i j T S e = let z : ◌≡◌ {A = ℕ} 0 1 = cc in absurd (omega arith)
   stuck-goes (s ∷ ss) i j {M} {r} {p} T S e = go (step t m M s) refl e (λ N r p. stuck-goes ss (suc i) j {M = N} {r = r} {p = p})
     where
-      go : (o : Option Machine) → step t m M s ≡ o → elim o [ none ↦ Stuck i | some N ↦ run t m N ss (suc i) ] ≡ Stuck j
-          → ((N : Machine) (r p : List ℕ) → Tells t m N r p → Sound (cores_of m t) (kept_of m t) r p → run t m N ss (suc i) ≡ Stuck j → (us : List ℕ) × (r' : List ℕ) × (p' : List ℕ) × Goes (cores_of m t) r p us r' p' × (j ≡ suc i + length us))
+      go : (o : Option Machine) → step t m M s ≡ o → ◌≡◌ {A = Result Bool Refusal} (elim o [ none ↦ Err (Stuck i) | some N ↦ run t m N ss (suc i) ]) (Err (Stuck j))
+          → ((N : Machine) (r p : List ℕ) → Tells t m N r p → Sound (cores_of m t) (kept_of m t) r p → run t m N ss (suc i) ≡ Err (Stuck j) → (us : List ℕ) × (r' : List ℕ) × (p' : List ℕ) × Goes (cores_of m t) r p us r' p' × (j ≡ suc i + length us))
           → (us : List ℕ) × (r' : List ℕ) × (p' : List ℕ) × Goes (cores_of m t) r p us r' p' × (j ≡ i + length us)
       go none f e rec = let q : j ≡ i = cc in ([], r, p, done, omega arith)
       go (some N) f e rec =
@@ -108,12 +109,12 @@ module _ (t : Trace) (form : Form t) (m : ℕ) (l : Laws (cores_of m t) (kept_of
           let (us, r', p', h, q) = rec N r₁ p₁ T₁ (go-sound (cores_of m t) (kept_of m t) l g S) e in
           (s ∷ us, r', p', more g h, omega arith)
 
-  goes-run : {ss r p r' p' : List ℕ} → Goes (cores_of m t) r p ss r' p' → (i : ℕ) {M : Machine} → Tells t m M r p → Sound (cores_of m t) (kept_of m t) r p → Ended (cores_of m t) r' p' → run t m M ss i ≡ Through true
+  goes-run : {ss r p r' p' : List ℕ} → Goes (cores_of m t) r p ss r' p' → (i : ℕ) {M : Machine} → Tells t m M r p → Sound (cores_of m t) (kept_of m t) r p → Ended (cores_of m t) r' p' → run t m M ss i ≡ Ok true
   unfolding run
-  goes-run done i {M} T S n = ap Through ((finished-iff T S).1 n)
+  goes-run done i {M} T S n = ap Ok ((finished-iff T S).1 n)
   goes-run (more {ss} {s} g h) i {M} T S n =
       let (N, e, T₁) = go_step t form m l T S g in
-      ap (λ (o : Option Machine). elim o [ none ↦ Stuck i | some N ↦ run t m N ss (suc i) ]) e ∙ goes-run h (suc i) T₁ (go-sound (cores_of m t) (kept_of m t) l g S) n
+      ap (λ (o : Option Machine). elim o [ none ↦ Err (Stuck i) | some N ↦ run t m N ss (suc i) ]) e ∙ goes-run h (suc i) T₁ (go-sound (cores_of m t) (kept_of m t) l g S) n
 
   go-small : {s : ℕ} {r p r' p' : List ℕ} → Go (cores_of m t) r p s r' p' → Sound (cores_of m t) (kept_of m t) r p → s < 2 * THREADS
   unfolding frame_of
@@ -134,10 +135,10 @@ pub record Short (t : Trace) (ss : List ℕ) : Type 0 where
 module _ (t : Trace) (w : So (well_formed t)) (m : ℕ) (k : So (machined m)) where
   answer-is : (ss : List ℕ) → answer t m ss ≡ run t m (machine_start t) ss 0
   unfolding answer
-  answer-is ss = ap (λ b. cond b (cond (well_formed t) (run t m (machine_start t) ss 0) NotWellFormed) NoModel) k ∙ ap (λ b. cond b (run t m (machine_start t) ss 0) NotWellFormed) w
+  answer-is ss = ap (λ b. cond b (cond (well_formed t) (run t m (machine_start t) ss 0) (Err NotWellFormed)) (Err NoModel)) k ∙ ap (λ b. cond b (run t m (machine_start t) ss 0) (Err NotWellFormed)) w
 
   -- whatever steps run all records and end with empty buffers, there is a valid order
-  pub through-valid : (ss : List ℕ) → answer t m ss ≡ Through true → (xs : List ℕ) × Valid (frame_of t) (kept_of m t) xs
+  pub through-valid : (ss : List ℕ) → answer t m ss ≡ Ok true → (xs : List ℕ) × Valid (frame_of t) (kept_of m t) xs
   through-valid ss e =
       let form = (form-iff t).0 w in
       let l = model-laws m t k in
@@ -145,7 +146,7 @@ module _ (t : Trace) (w : So (well_formed t)) (m : ℕ) (k : So (machined m)) wh
       (p, run-valid (cores_of m t) (form-good t form) (kept_of m t) l g (n refl))
 
   -- possible steps are at most twice as many as the records
-  pub possible-short : (ss : List ℕ) (b : Bool) → answer t m ss ≡ Through b → length ss ≤ 2 * t.len
+  pub possible-short : (ss : List ℕ) (b : Bool) → answer t m ss ≡ Ok b → length ss ≤ 2 * t.len
   unfolding frame_of
   possible-short ss b e =
       let form = (form-iff t).0 w in
@@ -154,7 +155,7 @@ module _ (t : Trace) (w : So (well_formed t)) (m : ℕ) (k : So (machined m)) wh
       goes-bound (cores_of m t) (form-good t form) (kept_of m t) l g
 
   -- and so is the place of the first impossible one
-  pub stuck-short : (ss : List ℕ) (j : ℕ) → answer t m ss ≡ Stuck j → j ≤ 2 * t.len
+  pub stuck-short : (ss : List ℕ) (j : ℕ) → answer t m ss ≡ Err (Stuck j) → j ≤ 2 * t.len
   unfolding frame_of
   stuck-short ss j e =
       let form = (form-iff t).0 w in
@@ -163,7 +164,7 @@ module _ (t : Trace) (w : So (well_formed t)) (m : ℕ) (k : So (machined m)) wh
       omega (arith, q, goes-bound (cores_of m t) (form-good t form) (kept_of m t) l g)
 
   -- the steps that are built for a valid order run it through, and are few and small
-  pub built-through : (xs : List ℕ) → Valid (frame_of t) (kept_of m t) xs → (answer t m (told (built_of t m xs)) ≡ Through true) × Short t (told (built_of t m xs))
+  pub built-through : (xs : List ℕ) → Valid (frame_of t) (kept_of m t) xs → (answer t m (told (built_of t m xs)) ≡ Ok true) × Short t (told (built_of t m xs))
   unfolding frame_of
   built-through xs v =
       let form = (form-iff t).0 w in
@@ -174,18 +175,18 @@ module _ (t : Trace) (w : So (well_formed t)) (m : ℕ) (k : So (machined m)) wh
         record { few = goes-bound (cores_of m t) (form-good t form) (kept_of m t) l d.goes; small = goes_small t form m l d.goes S },
       )
 
-  pub machine-exactly : ((xs : List ℕ) × Valid (frame_of t) (kept_of m t) xs) ↔ ((ss : List ℕ) × (answer t m ss ≡ Through true))
+  pub machine-exactly : ((xs : List ℕ) × Valid (frame_of t) (kept_of m t) xs) ↔ ((ss : List ℕ) × (answer t m ss ≡ Ok true))
   machine-exactly = (λ x. (told (built_of t m x.0), (built-through x.0 x.1).0), λ y. through-valid y.0 y.1)
 
 -- what comes with an answer is small
 pub place-below : (t : Trace) (m : ℕ) (ss : List ℕ) → stuck_at (answer t m ss) ≤ STEPS
 place-below t m ss = of (answer t m ss) refl
   where
-    of : (r : Ran) → answer t m ss ≡ r → stuck_at r ≤ STEPS
-    of NoModel e = omega arith
-    of NotWellFormed e = omega arith
-    of (Through b) e = omega arith
-    of (Stuck j) e = elim (test (machined m)) [
+    of : (r : Result Bool Refusal) → answer t m ss ≡ r → stuck_at r ≤ STEPS
+    of (Err NoModel) e = omega arith
+    of (Err NotWellFormed) e = omega arith
+    of (Ok b) e = omega arith
+    of (Err (Stuck j)) e = elim (test (machined m)) [
       | inr k ↦ let z : ◌≡◌ {A = ℕ} 0 1 = cc (answer-model t m ss k) in absurd (omega arith)
       | inl k ↦ elim (test (well_formed t)) [
         | inr w ↦ let z : ◌≡◌ {A = ℕ} 0 1 = cc (answer-form t m ss k w) in absurd (omega arith)
@@ -208,13 +209,13 @@ steps-exactly t m xs = (there (machined m) refl (well_formed t) refl (yes? (judg
     there false e b f c g q = let z : ◌≡◌ {A = ℕ} 0 1 = cc in absurd (omega arith)
 
     back : So (machined m) × Accepted t m xs → (Answered (machined m) (well_formed t) (yes? (judged_of t m xs))).given ≡ goal.List
-    back (k, a) = ap (λ (a : Bool). (Answered a (well_formed t) (yes? (judged_of t m xs))).given) k ∙ ap (λ (b : Bool). (Answered true b (yes? (judged_of t m xs))).given) a.well ∙ ap (λ (j : Judgement). (Answered true true (yes? j)).given) ((accepted-yes t m xs).1 a)
+    back (k, a) = ap (λ (a : Bool). (Answered a (well_formed t) (yes? (judged_of t m xs))).given) k ∙ ap (λ (b : Bool). (Answered true b (yes? (judged_of t m xs))).given) a.well ∙ ap (λ (j : Result Unit Broken). (Answered true true (yes? j)).given) ((accepted-yes t m xs).1 a)
 
-pub replay-through : (t : Trace) (m : ℕ) (xs : List ℕ) → (steps_of t m xs).given ≡ goal.List → answer t m (take (steps_of t m xs).len (steps_of t m xs).steps) ≡ Through true
+pub replay-through : (t : Trace) (m : ℕ) (xs : List ℕ) → (steps_of t m xs).given ≡ goal.List → answer t m (take (steps_of t m xs).len (steps_of t m xs).steps) ≡ Ok true
 unfolding steps_of
 replay-through t m xs e =
     let (k, a) = (steps-exactly t m xs).0 e in
     let q : steps_of t m xs ≡ listed (built_of t m xs) = ap (λ (a : Bool). cond a (cond (well_formed t) (cond (yes? (judged_of t m xs)) (listed (built_of t m xs)) (no_steps goal.NoOrder)) (no_steps goal.NotWellFormed)) (no_steps goal.NoModel)) k
     ∙ ap (λ (b : Bool). cond b (cond (yes? (judged_of t m xs)) (listed (built_of t m xs)) (no_steps goal.NoOrder)) (no_steps goal.NotWellFormed)) a.well
-    ∙ ap (λ (j : Judgement). cond (yes? j) (listed (built_of t m xs)) (no_steps goal.NoOrder)) ((accepted-yes t m xs).1 a) in
-    subst (λ (s : Steps). answer t m (take s.len s.steps) ≡ Through true) (sym q) (built-through t a.well m k xs a.valid).0
+    ∙ ap (λ (j : Result Unit Broken). cond (yes? j) (listed (built_of t m xs)) (no_steps goal.NoOrder)) ((accepted-yes t m xs).1 a) in
+    subst (λ (s : Steps). answer t m (take s.len s.steps) ≡ Ok true) (sym q) (built-through t a.well m k xs a.valid).0

@@ -14,15 +14,14 @@
 --   no_steps why             == no steps
 --   listed b                == the steps, handed back
 --   steps_of t m xs          == the answer: 9 before 10, then no for what is no valid order
-use Rattle.std.specs.Prelude.{Bool, true, false, cond, not, ◌&&◌, ◌||◌, List, [], ◌∷◌, ℕ, zero, suc, ◌+◌, ◌*◌, eqb, ltb, get_or, set, take, replicate}
+use Rattle.std.specs.Prelude.{Result, Ok, Err, Bool, true, false, cond, not, ◌&&◌, ◌||◌, List, [], ◌∷◌, ℕ, zero, suc, ◌+◌, ◌*◌, eqb, ltb, get_or, set, take, replicate}
 use Rattle.trace.specs.Bounds.{RECORDS, THREADS}
 use Rattle.trace.specs.Op.{thread}
 use Rattle.trace.specs.Trace.{at}
 use Rattle.trace.specs.WellFormed.{well_formed}
 use Rattle.trace.specs.declared.Trace.{Trace}
 use Rattle.judge.specs.Judged.{judged_of}
-use Rattle.judge.specs.declared.judging.Judgement.{Judgement}
-use Rattle.judge.specs.declared.judging.Judgement.TheVariants as judgement
+use Rattle.judge.specs.declared.judging.Broken.{Broken}
 use Rattle.machine.specs.Machine.{machined, lands}
 use Rattle.machine.specs.declared.Built.{Built}
 use Rattle.machine.specs.declared.Steps.{Steps}
@@ -63,15 +62,9 @@ none_built = record { ran = replicate RECORDS false; steps = replicate STEPS 0; 
 unfoldable pub built_of : Trace → ℕ → List ℕ → Built
 built_of t m xs = swept t true 0 (placing t m none_built xs) t.len
 
-abbrev pub yes? : Judgement → Bool
-yes? judgement.Yes = true
-yes? judgement.NoModel = false
-yes? judgement.NotWellFormed = false
-yes? judgement.WrongLength = false
-yes? (judgement.BadNumber i) = false
-yes? (judgement.Repeat x) = false
-yes? (judgement.OutOfTurn x y) = false
-yes? (judgement.WrongValue x) = false
+abbrev pub yes? : Result Unit Broken → Bool
+yes? (Ok u) = true
+yes? (Err b) = false
 
 abbrev pub no_steps : Given → Steps
 no_steps why = record { given = why; len = 0; steps = replicate STEPS 0 }

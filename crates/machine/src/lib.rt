@@ -22,21 +22,12 @@ struct Machine {
     memory: [u16; ADDRESSED],
 }
 
-// Whether a step is possible, and the machine after it; where it is not, the machine as it was.
+// Why a run does not end with all steps done: a model without a machine, a trace that is not well formed, or an impossible step and its place.
 #[derive(Clone, Copy)]
-struct Stepped {
-    possible: bool,
-    machine: Machine,
-}
-
-// How a run ends: no such model, a trace that is not well formed, an impossible step and its place, or all steps done, and whether all records ran
-// and the buffers are empty.
-#[derive(Clone, Copy)]
-pub enum Ran {
+pub enum Refusal {
     NoModel,
     NotWellFormed,
     Stuck(usize),
-    Through(bool),
 }
 
 // Steps on their way: which records ran, and the first len places of the list.
@@ -47,7 +38,8 @@ struct Built {
     len: usize,
 }
 
-// What comes of an order: no such model, a trace that is not well formed, a list that is no valid order, or steps.
+// What comes of an order: no such model, a trace that is not well formed, a list that is no valid order, or steps. It stands beside the steps, and no
+// Result has them under Ok: a refusal tells a length and a list too, none and all 0, and who lays them into a buffer does so whatever comes of the order.
 #[derive(Clone, Copy)]
 pub enum Given {
     NoModel,
@@ -57,6 +49,7 @@ pub enum Given {
 }
 
 // Steps from an order: the first len places of the list; unused places 0.
+// An array and its length: the project has no heap, and its memory is fixed.
 #[derive(Clone, Copy)]
 pub struct Steps {
     pub given: Given,

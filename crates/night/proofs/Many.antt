@@ -26,6 +26,7 @@ use borrow.Author.Tests.{eq-eqb, ne_eqb, ltb-false}
 use lib.Dec.{eqb, ltb}
 use lib.ListN.{length, get_or, take, drop, length-append, length-take, length-drop, take-append-drop, get_or-eq_default}
 use lib.Seq.{length-take-le, get_or-take, get_or-drop, take_at, drop_at, drop-drop, take-take, take-add, ext_get_or}
+use Rattle.std.specs.Prelude.{Some, None, Result, Ok, Err}
 use Rattle.laws.specs.Lowest.{Lowest, lowest}
 use Rattle.laws.proofs.Tests.{off, eq?, so-lt}
 use Rattle.trace.specs.Bounds.{RECORDS, VALUES}
@@ -43,8 +44,8 @@ use Rattle.signature.specs.Unpack.{reads_of}
 use Rattle.signature.specs.SignatureAnswers.{loads_in, words_in, unpack_next, unpack_of}
 use Rattle.signature.specs.SignatureCases as cases
 use Rattle.signature.specs.ManyRuns.{words_at, read_runs, large_in_runs, all_reads, unpack_runs_of, unpack_runs_left}
-use Rattle.signature.specs.declared.Answer as unpacking
-use Rattle.signature.specs.declared.Answer.TheVariants as words
+use Rattle.signature.specs.declared.Reason as unpacking
+use Rattle.signature.specs.declared.Reason.TheVariants as words
 use Rattle.signature.proofs.Lists.{append-parts}
 use Rattle.signature.proofs.SignatureCases.{lowest-case, unpack-told}
 use Rattle.signature.proofs.ManyRuns.{some_words, run_fits, words_long, all-long, reads_at}
@@ -53,9 +54,8 @@ use Rattle.signature.proofs.Signature.{top-chosen}
 use Rattle.night.specs.Block.{BLOCK, told_in, block_in}
 use Rattle.night.specs.Night.{block_at, runs_in, fitting, large, large_from, large_told, night_of, all_done, Nights}
 use Rattle.night.specs.inner.RunsJudged.{JudgedAs, JudgedReads, ReadsLaid, BlockPut, AllJudged}
-use Rattle.night.specs.declared.Large.TheVariants.{At, Nothing}
-use Rattle.night.specs.declared.Answer.{Answer}
-use Rattle.night.specs.declared.Answer.TheVariants.{Done, NotWellFormed, NoModel, WrongLength, TooLarge}
+use Rattle.night.specs.declared.Reason.{Reason}
+use Rattle.night.specs.declared.Reason.TheVariants.{NotWellFormed, NoModel, WrongLength, TooLarge}
 use Rattle.night.proofs.Block.{spelled-laid}
 
 module _ (t : Trace) (w : So (well_formed t)) where
@@ -75,43 +75,43 @@ module _ (t : Trace) (w : So (well_formed t)) where
   tops-few = omega (arith, words-few t (λ L. range_of t L - 1) (top-chosen t), ((form-iff t).0 w).fits)
 
 -- an answer to words of the right numbers tells of the lowest word that is too large
-pub told-large : (o : Option ℕ) (k : ℕ) → words.TooLarge k ≡ unpack_next o → o ≡ some k
+pub told-large : (o : Option ℕ) (k : ℕ) → Err (words.TooLarge k) ≡ unpack_next o → o ≡ some k
 told-large (some j) k e = let q : j ≡ k = cc in ap some q
 told-large none k e = let z : ◌≡◌ {A = ℕ} 0 1 = cc in absurd (omega arith)
 
-pub told-done : (o : Option ℕ) → words.Done ≡ unpack_next o → o ≡ none
+pub told-done : (o : Option ℕ) → Ok tt ≡ unpack_next o → o ≡ none
 told-done (some j) e = let z : ◌≡◌ {A = ℕ} 0 1 = cc in absurd (omega arith)
 told-done none e = refl
 
 -- and is no other refusal
-abbrev pub refuses : unpacking.Answer → Bool
-refuses words.Done = false
-refuses words.NotWellFormed = true
-refuses words.WrongLength = true
-refuses (words.NotListed L) = true
-refuses (words.TooLarge k) = false
+abbrev pub refuses : Result (Unit {0}) unpacking.Reason → Bool
+refuses (Ok done) = false
+refuses (Err words.NotWellFormed) = true
+refuses (Err words.WrongLength) = true
+refuses (Err (words.NotListed L)) = true
+refuses (Err (words.TooLarge k)) = false
 
-pub told-else : (o : Option ℕ) (a : unpacking.Answer) → a ≡ unpack_next o → refuses a ≡ true → ⊥
+pub told-else : (o : Option ℕ) (a : Result (Unit {0}) unpacking.Reason) → a ≡ unpack_next o → refuses a ≡ true → ⊥
 told-else (some j) a e r = false≢true (sym (ap refuses e) ∙ r)
 told-else none a e r = false≢true (sym (ap refuses e) ∙ r)
 
 -- what unpacking leaves
-pub left-done : (t : Trace) (ws b : List ℕ) → unpack_runs_of t ws (length b) ≡ words.Done → unpack_runs_left t ws b ≡ all_reads t ws (read_runs t (length b))
+pub left-done : (t : Trace) (ws b : List ℕ) → unpack_runs_of t ws (length b) ≡ Ok tt → unpack_runs_left t ws b ≡ all_reads t ws (read_runs t (length b))
 unfolding unpack_runs_left
 left-done t ws b e = rw e refl
 
-pub left-large : (t : Trace) (ws b : List ℕ) (k : ℕ) → unpack_runs_of t ws (length b) ≡ words.TooLarge k → unpack_runs_left t ws b ≡ b
+pub left-large : (t : Trace) (ws b : List ℕ) (k : ℕ) → unpack_runs_of t ws (length b) ≡ Err (words.TooLarge k) → unpack_runs_left t ws b ≡ b
 unfolding unpack_runs_left
 left-large t ws b k e = rw e refl
 
 -- the reads laid into the front, or all as it was
 module _ (t : Trace) (ws out b : List ℕ) (m runs : ℕ) (room : runs * m ≤ length out) where
-  pub laid-large : (i k : ℕ) → b ≡ take (runs * m) out → At i k ≡ large_from t ws 0 runs → ReadsLaid t ws m runs out (b ++ drop (runs * m) out) (At i k)
+  pub laid-large : (i k : ℕ) → b ≡ take (runs * m) out → Some (i, k) ≡ large_from t ws 0 runs → ReadsLaid t ws m runs out (b ++ drop (runs * m) out) (Some (i, k))
   laid-large i k e f =
       let same : b ++ drop (runs * m) out ≡ out = ap (λ (l : List ℕ). l ++ drop (runs * m) out) e ∙ take-append-drop (runs * m) out in
       record { answer = f; long = ap length same; stays = λ x y z. same; front = λ z. let y : ◌≡◌ {A = ℕ} 0 1 = cc in absurd (omega arith) }
 
-  pub laid_done : b ≡ all_reads t ws runs → m ≡ length (loads t) → Nothing ≡ large_from t ws 0 runs → ReadsLaid t ws m runs out (b ++ drop (runs * m) out) Nothing
+  pub laid_done : b ≡ all_reads t ws runs → m ≡ length (loads t) → None ≡ large_from t ws 0 runs → ReadsLaid t ws m runs out (b ++ drop (runs * m) out) None
   laid_done e q f =
       let l : length b ≡ runs * m = ap length e ∙ all-long t ws runs ∙ ap (λ (k : ℕ). runs * k) (sym q) in
       record {
@@ -126,7 +126,7 @@ module _ (t : Trace) (w : So (well_formed t)) (ws : List ℕ) (runs : ℕ) (l : 
   n = length (tops t)
 
   -- what unpacking answers to the words of a run
-  abbrev answer_to : ℕ → unpacking.Answer
+  abbrev answer_to : ℕ → Result (Unit {0}) unpacking.Reason
   answer_to i = unpack_of t (words_at t ws i) (length (loads t))
 
   long : (i : ℕ) → i < runs → length (words_at t ws i) ≡ n
@@ -147,18 +147,18 @@ module _ (t : Trace) (w : So (well_formed t)) (ws : List ℕ) (runs : ℕ) (l : 
   small i j h e = ltb-false (get_or (tops t) j 0) (get_or (words_at t ws i) j 0) (sym (large-word i j h) ∙ e)
 
   -- a run none of whose words is too large, and one whose lowest is
-  takes : (i : ℕ) → i < runs → ((j : ℕ) → j < n → large_in_runs t ws (i * n + j) ≡ false) → answer_to i ≡ words.Done
-  takes i h f = unpack-told t (words_at t ws i) (loads t) words.Done (cases.done ((form-iff t).0 w) (long i h) refl (λ j b. small i j (omega (arith, long i h)) (f j (omega (arith, long i h)))))
+  takes : (i : ℕ) → i < runs → ((j : ℕ) → j < n → large_in_runs t ws (i * n + j) ≡ false) → answer_to i ≡ Ok tt
+  takes i h f = unpack-told t (words_at t ws i) (loads t) (Ok tt) (cases.done ((form-iff t).0 w) (long i h) refl (λ j b. small i j (omega (arith, long i h)) (f j (omega (arith, long i h)))))
 
-  turns : (i j : ℕ) → i < runs → j < n → So (large_in_runs t ws (i * n + j)) → ((k : ℕ) → k < j → large_in_runs t ws (i * n + k) ≡ false) → answer_to i ≡ words.TooLarge j
-  turns i j h b s f = unpack-told t (words_at t ws i) (loads t) (words.TooLarge j)
+  turns : (i j : ℕ) → i < runs → j < n → So (large_in_runs t ws (i * n + j)) → ((k : ℕ) → k < j → large_in_runs t ws (i * n + k) ≡ false) → answer_to i ≡ Err (words.TooLarge j)
+  turns i j h b s f = unpack-told t (words_at t ws i) (loads t) (Err (words.TooLarge j))
       (cases.large j ((form-iff t).0 w) (long i h) refl (omega (arith, long i h)) (so-lt.0 (sym (large-word i j b) ∙ s)) (λ k d. small i k (omega arith) (f k d)))
 
-  pub large-none : ((k : ℕ) → k < length ws → large_in_runs t ws k ≡ false) → (d i : ℕ) → i + d ≡ runs → large_from t ws i d ≡ Nothing
+  pub large-none : ((k : ℕ) → k < length ws → large_in_runs t ws k ≡ false) → (d i : ℕ) → i + d ≡ runs → large_from t ws i d ≡ None
   unfolding large_from
   large-none f zero i e = refl
   large-none f (suc d) i e =
-      ap (λ (a : unpacking.Answer). large a i (large_from t ws (suc i) d)) (takes i (omega arith) (λ j b. f (i * n + j) (omega (arith, run_fits t ws n runs l i (omega arith)))))
+      ap (λ (a : Result (Unit {0}) unpacking.Reason). large a i (large_from t ws (suc i) d)) (takes i (omega arith) (λ j b. f (i * n + j) (omega (arith, run_fits t ws n runs l i (omega arith)))))
       ∙ large-none f d (suc i) (omega arith)
 
   module _ (k : ℕ) (b : k < length ws) (s : So (large_in_runs t ws k)) (f : (j : ℕ) → j < k → large_in_runs t ws j ≡ false) where
@@ -178,22 +178,22 @@ module _ (t : Trace) (w : So (well_formed t)) (ws : List ℕ) (runs : ℕ) (l : 
     before-it : (i : ℕ) → i < k / n → (j : ℕ) → j < n → i * n + j < k
     before-it i h j c = omega (arith, whole, mul-le-mul_right {m = suc i} {n = k / n} n h, suc-mul i n)
 
-    pub large-some : (d i : ℕ) → i + d ≡ runs → i ≤ k / n → large_from t ws i d ≡ At (k / n) (k % n)
+    pub large-some : (d i : ℕ) → i + d ≡ runs → i ≤ k / n → large_from t ws i d ≡ Some (k / n, k % n)
     unfolding large_from
     large-some zero i e h = absurd (omega (arith, run_of))
     large-some (suc d) i e h = elim (eq? i (k / n)) [
-      | inl q ↦ ap (λ (a : unpacking.Answer). large a i (large_from t ws (suc i) d)) (ap answer_to q ∙ turns (k / n) (k % n) run_of in-run (subst (λ (x : ℕ). So (large_in_runs t ws x)) (sym whole) s) (λ j c. f (k / n * n + j) (omega (arith, whole)))) ∙ ap (λ (x : ℕ). At x (k % n)) q
-      | inr q ↦ ap (λ (a : unpacking.Answer). large a i (large_from t ws (suc i) d)) (takes i (omega arith) (λ j c. f (i * n + j) (before-it i (omega arith) j c))) ∙ large-some d (suc i) (omega arith) (omega arith)
+      | inl q ↦ ap (λ (a : Result (Unit {0}) unpacking.Reason). large a i (large_from t ws (suc i) d)) (ap answer_to q ∙ turns (k / n) (k % n) run_of in-run (subst (λ (x : ℕ). So (large_in_runs t ws x)) (sym whole) s) (λ j c. f (k / n * n + j) (omega (arith, whole)))) ∙ ap (λ (x : ℕ). Some (x, k % n)) q
+      | inr q ↦ ap (λ (a : Result (Unit {0}) unpacking.Reason). large a i (large_from t ws (suc i) d)) (takes i (omega arith) (λ j c. f (i * n + j) (before-it i (omega arith) j c))) ∙ large-some d (suc i) (omega arith) (omega arith)
     ]
 
   -- so the lowest word too large, if any, tells which run is the first that has one
-  pub large-told : (k : ℕ) → lowest (large_in_runs t ws) (length ws) 0 ≡ some k → (At (k / n) (k % n) ≡ large_from t ws 0 runs) × (0 < n)
+  pub large-told : (k : ℕ) → lowest (large_in_runs t ws) (length ws) 0 ≡ some k → (Some (k / n, k % n) ≡ large_from t ws 0 runs) × (0 < n)
   large-told k e =
       let c = subst (λ (o : Option ℕ). Lowest (λ k. (k < length ws) × So (large_in_runs t ws k)) o) e (lowest-case (large_in_runs t ws) (length ws)) in
       let low : (j : ℕ) → j < k → large_in_runs t ws j ≡ false = λ j h. off (λ u. omega (arith, c.1 j (omega (arith, c.0.0), u))) in
       (sym (large-some k c.0.0 c.0.1 low runs 0 (omega arith) (omega arith)), has k c.0.0 c.0.1 low)
 
-  pub nothing-told : lowest (large_in_runs t ws) (length ws) 0 ≡ none → Nothing ≡ large_from t ws 0 runs
+  pub nothing-told : lowest (large_in_runs t ws) (length ws) 0 ≡ none → None ≡ large_from t ws 0 runs
   nothing-told e =
       let c = subst (λ (o : Option ℕ). Lowest (λ k. (k < length ws) × So (large_in_runs t ws k)) o) e (lowest-case (large_in_runs t ws) (length ws)) in
       sym (large-none (λ k h. off (λ u. c k (h, u))) runs 0 (omega arith))
@@ -343,44 +343,44 @@ all-judged t m n ws before after runs e long room f (l, j) = (l ∙ long, λ i h
 
 module _ (t : Trace) (m : ℕ) (ws before : List ℕ) where
   -- a refusal leaves all as it was
-  turned : (a : Answer) → a ≡ night_of t m ws (length before) → a ≢ Done → Nights t m ws before before a
+  turned : (a : Result (Unit {0}) Reason) → a ≡ night_of t m ws (length before) → a ≢ Ok tt → Nights t m ws before before a
   turned a e n = record { answer = e; stays = λ _. refl; judged = λ d. absurd (n d) }
 
-  pub ten : well_formed t ≡ false → Nights t m ws before before NotWellFormed
+  pub ten : well_formed t ≡ false → Nights t m ws before before (Err NotWellFormed)
   unfolding night_of
-  ten e = turned NotWellFormed (ap (λ (b : Bool). cond b (cond (modelled m) (cond (fitting t ws (length before)) (large_told (large_from t ws 0 (runs_in (length before)))) WrongLength) NoModel) NotWellFormed) (sym e)) (λ d. let z : ◌≡◌ {A = ℕ} 0 1 = cc in omega arith)
+  ten e = turned (Err NotWellFormed) (ap (λ (b : Bool). cond b (cond (modelled m) (cond (fitting t ws (length before)) (large_told (large_from t ws 0 (runs_in (length before)))) (Err WrongLength)) (Err NoModel)) (Err NotWellFormed)) (sym e)) (λ d. let z : ◌≡◌ {A = ℕ} 0 1 = cc in omega arith)
 
   module _ (w : So (well_formed t)) where
-    within : cond (modelled m) (cond (fitting t ws (length before)) (large_told (large_from t ws 0 (runs_in (length before)))) WrongLength) NoModel ≡ night_of t m ws (length before)
+    within : cond (modelled m) (cond (fitting t ws (length before)) (large_told (large_from t ws 0 (runs_in (length before)))) (Err WrongLength)) (Err NoModel) ≡ night_of t m ws (length before)
     unfolding night_of
-    within = ap (λ (b : Bool). cond b (cond (modelled m) (cond (fitting t ws (length before)) (large_told (large_from t ws 0 (runs_in (length before)))) WrongLength) NoModel) NotWellFormed) (sym w)
+    within = ap (λ (b : Bool). cond b (cond (modelled m) (cond (fitting t ws (length before)) (large_told (large_from t ws 0 (runs_in (length before)))) (Err WrongLength)) (Err NoModel)) (Err NotWellFormed)) (sym w)
 
-    pub nine : modelled m ≡ false → Nights t m ws before before NoModel
-    nine e = turned NoModel (ap (λ (b : Bool). cond b (cond (fitting t ws (length before)) (large_told (large_from t ws 0 (runs_in (length before)))) WrongLength) NoModel) (sym e) ∙ within) (λ d. let z : ◌≡◌ {A = ℕ} 0 1 = cc in omega arith)
+    pub nine : modelled m ≡ false → Nights t m ws before before (Err NoModel)
+    nine e = turned (Err NoModel) (ap (λ (b : Bool). cond b (cond (fitting t ws (length before)) (large_told (large_from t ws 0 (runs_in (length before)))) (Err WrongLength)) (Err NoModel)) (sym e) ∙ within) (λ d. let z : ◌≡◌ {A = ℕ} 0 1 = cc in omega arith)
 
     module _ (k : So (modelled m)) where
-      asked : cond (fitting t ws (length before)) (large_told (large_from t ws 0 (runs_in (length before)))) WrongLength ≡ night_of t m ws (length before)
-      asked = ap (λ (b : Bool). cond b (cond (fitting t ws (length before)) (large_told (large_from t ws 0 (runs_in (length before)))) WrongLength) NoModel) (sym k) ∙ within
+      asked : cond (fitting t ws (length before)) (large_told (large_from t ws 0 (runs_in (length before)))) (Err WrongLength) ≡ night_of t m ws (length before)
+      asked = ap (λ (b : Bool). cond b (cond (fitting t ws (length before)) (large_told (large_from t ws 0 (runs_in (length before)))) (Err WrongLength)) (Err NoModel)) (sym k) ∙ within
 
-      wrong : fitting t ws (length before) ≡ false → Nights t m ws before before WrongLength
-      wrong e = turned WrongLength (ap (λ (b : Bool). cond b (large_told (large_from t ws 0 (runs_in (length before)))) WrongLength) (sym e) ∙ asked) (λ d. let z : ◌≡◌ {A = ℕ} 0 1 = cc in omega arith)
+      wrong : fitting t ws (length before) ≡ false → Nights t m ws before before (Err WrongLength)
+      wrong e = turned (Err WrongLength) (ap (λ (b : Bool). cond b (large_told (large_from t ws 0 (runs_in (length before)))) (Err WrongLength)) (sym e) ∙ asked) (λ d. let z : ◌≡◌ {A = ℕ} 0 1 = cc in omega arith)
 
-      pub wrong-room : length before ≢ runs_in (length before) * BLOCK → Nights t m ws before before WrongLength
+      pub wrong-room : length before ≢ runs_in (length before) * BLOCK → Nights t m ws before before (Err WrongLength)
       wrong-room n = wrong (ap (λ (b : Bool). b && eqb (length ws) (runs_in (length before) * length (tops t))) (ne_eqb (length before) (runs_in (length before) * BLOCK) n))
 
       module _ (r : length before ≡ runs_in (length before) * BLOCK) where
         room : eqb (length before) (runs_in (length before) * BLOCK) ≡ true
         room = eq-eqb (length before) (runs_in (length before) * BLOCK) r
 
-        pub wrong-words : length ws ≢ runs_in (length before) * length (tops t) → Nights t m ws before before WrongLength
+        pub wrong-words : length ws ≢ runs_in (length before) * length (tops t) → Nights t m ws before before (Err WrongLength)
         wrong-words n = wrong (ap₂ (λ (a b : Bool). a && b) room (ne_eqb (length ws) (runs_in (length before) * length (tops t)) n))
 
         module _ (l : length ws ≡ runs_in (length before) * length (tops t)) where
           told : large_told (large_from t ws 0 (runs_in (length before))) ≡ night_of t m ws (length before)
-          told = ap₂ (λ (a b : Bool). cond (a && b) (large_told (large_from t ws 0 (runs_in (length before)))) WrongLength) (sym room) (sym (eq-eqb (length ws) (runs_in (length before) * length (tops t)) l)) ∙ asked
+          told = ap₂ (λ (a b : Bool). cond (a && b) (large_told (large_from t ws 0 (runs_in (length before)))) (Err WrongLength)) (sym room) (sym (eq-eqb (length ws) (runs_in (length before) * length (tops t)) l)) ∙ asked
 
-          pub too_large : (i k : ℕ) → At i k ≡ large_from t ws 0 (runs_in (length before)) → Nights t m ws before before (TooLarge i k)
-          too_large i k e = turned (TooLarge i k) (ap large_told e ∙ told) (λ d. let z : ◌≡◌ {A = ℕ} 0 1 = cc in omega arith)
+          pub too_large : (i k : ℕ) → Some (i, k) ≡ large_from t ws 0 (runs_in (length before)) → Nights t m ws before before (Err (TooLarge i k))
+          too_large i k e = turned (Err (TooLarge i k)) (ap large_told e ∙ told) (λ d. let z : ◌≡◌ {A = ℕ} 0 1 = cc in omega arith)
 
-          pub all_told : Nothing ≡ large_from t ws 0 (runs_in (length before)) → (after : List ℕ) → all_done t m ws (runs_in (length before)) after → Nights t m ws before after Done
+          pub all_told : None ≡ large_from t ws 0 (runs_in (length before)) → (after : List ℕ) → all_done t m ws (runs_in (length before)) after → Nights t m ws before after (Ok tt)
           all_told e after a = record { answer = ap large_told e ∙ told; stays = λ n. absurd (n refl); judged = λ _. a }

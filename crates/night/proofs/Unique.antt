@@ -12,6 +12,7 @@ use native.Mathlib.Nat.{div-add-mod', mod-lt, div-lt_iff_lt-mul}
 use native.Mathlib.Omega.{arith}
 use lib.ListN.{length, get_or, drop}
 use lib.Seq.{ext_get_or, get_or-take, get_or-drop}
+use Rattle.std.specs.Prelude.{Result, Ok, Err}
 use Rattle.laws.specs.Settles.{Settles, Leaves}
 use Rattle.trace.specs.Meaning.{frame_of}
 use Rattle.trace.specs.declared.Trace.{Trace}
@@ -22,8 +23,7 @@ use Rattle.night.specs.FilledReads.{filled_reads}
 use Rattle.night.specs.Block.{BLOCK, block_of}
 use Rattle.signature.specs.ManyRuns.{words_at}
 use Rattle.night.specs.Night.{block_at, runs_in, JudgedRun, all_done, Nights}
-use Rattle.night.specs.declared.Answer.{Answer}
-use Rattle.night.specs.declared.Answer.TheVariants.{Done, NotWellFormed, NoModel, WrongLength, TooLarge}
+use Rattle.night.specs.declared.Reason.{Reason}
 use Rattle.night.proofs.seeing.seen.Reads as sees
 use Rattle.night.proofs.seeing.seen.Kinds as seen-kinds
 use Rattle.night.proofs.runs.night.Reads as nights
@@ -50,14 +50,11 @@ done-one t m ws k a b p q = ext_get_or 0 a b (p.0 ∙ sym q.0) at
         ∙ ap (λ (y : ℕ). get_or b y 0) d
 
 -- an answer is done or a refusal
-done? : (a : Answer) → (a ≡ Done) ⊎ (a ≢ Done)
-done? Done = inl refl
-done? NotWellFormed = inr (λ d. let z : ◌≡◌ {A = ℕ} 0 1 = cc in omega arith)
-done? NoModel = inr (λ d. let z : ◌≡◌ {A = ℕ} 0 1 = cc in omega arith)
-done? WrongLength = inr (λ d. let z : ◌≡◌ {A = ℕ} 0 1 = cc in omega arith)
-done? (TooLarge i k) = inr (λ d. let z : ◌≡◌ {A = ℕ} 0 1 = cc in omega arith)
+done? : (a : Result (Unit {0}) Reason) → (a ≡ Ok tt) ⊎ (a ≢ Ok tt)
+done? (Ok done) = inl refl
+done? (Err why) = inr (λ d. let z : ◌≡◌ {A = ℕ} 0 1 = cc in omega arith)
 
-pub nights-one : (t : Trace) (m : ℕ) (ws before a b : List ℕ) (x y : Answer) → Nights t m ws before a x → Nights t m ws before b y → (x ≡ y) × (a ≡ b)
+pub nights-one : (t : Trace) (m : ℕ) (ws before a b : List ℕ) (x y : Result (Unit {0}) Reason) → Nights t m ws before a x → Nights t m ws before b y → (x ≡ y) × (a ≡ b)
 nights-one t m ws before a b x y p q =
     let same : x ≡ y = p.answer ∙ sym q.answer in (
       same,

@@ -10,19 +10,11 @@ pub mod seeing;
 // How many numbers a run's verdict has: its kind, how many operations it tells, the operations' places and those of the rules.
 pub const BLOCK: usize = 2 + 2 * RECORDS;
 
-// What a night's worth of runs is answered: a word that is too large is told with its run and its place among the words of the run.
+// Why a night's worth of runs is refused: a word that is too large is told with its run and its place among the words of the run.
 #[derive(Clone, Copy)]
-pub enum Answer {
-    Done,
+pub enum Reason {
     NotWellFormed,
     NoModel,
     WrongLength,
     TooLarge(usize, usize),
-}
-
-// The first run with a word that is too large, and the lowest such word of it, if there is one.
-#[derive(Clone, Copy)]
-enum Large {
-    At(usize, usize),
-    Nothing,
 }

@@ -14,13 +14,13 @@ use native.Mathlib.Omega.{arith}
 use lib.Dec.{eqb}
 use lib.ListN.{length, get_or, drop}
 use lib.Seq.{get_or-drop}
+use Rattle.std.specs.Prelude.{Some, None}
 use Rattle.laws.proofs.Tests.{and-iff, so-eq}
 use Rattle.trace.specs.Op.{thread, address, read, written}
 use Rattle.trace.specs.declared.Op.{Op}
 use Rattle.trace.specs.declared.Op.TheVariants.{Load, Store, Swap, Fence}
 use Rattle.packed.specs.Layout.{BYTE, RECORD, two_in, kind_byte, record_of}
 use Rattle.packed.specs.Entry.{op_in, entry_in}
-use Rattle.packed.specs.declared.Entry.TheVariants.{Of, Nothing}
 
 -- past the end stands 0, which is one too
 abbrev pub Bytes : List ℕ → Type 0
@@ -74,37 +74,37 @@ eight (a ∷ b ∷ c ∷ d ∷ e ∷ f ∷ g ∷ i ∷ bs) h = refl
 
 -- ---- the record of six fields, with the tests that lead to it
 module _ (k t a z r w : ℕ) where
-  pub op-load : (eqb k 0 && eqb z 0 && eqb w 0) ≡ true → Of (Load t a r) ≡ op_in k t a z r w
+  pub op-load : (eqb k 0 && eqb z 0 && eqb w 0) ≡ true → Some (Load t a r) ≡ op_in k t a z r w
   unfolding op_in
   op-load e = rw e refl
 
   module _ (x : (eqb k 0 && eqb z 0 && eqb w 0) ≡ false) where
-    pub op-store : (eqb k 1 && eqb z 0 && eqb r 0) ≡ true → Of (Store t a w) ≡ op_in k t a z r w
+    pub op-store : (eqb k 1 && eqb z 0 && eqb r 0) ≡ true → Some (Store t a w) ≡ op_in k t a z r w
     unfolding op_in
     op-store e = rw (x, e) refl
 
     module _ (y : (eqb k 1 && eqb z 0 && eqb r 0) ≡ false) where
-      pub op-swap : (eqb k 2 && eqb z 0) ≡ true → Of (Swap t a r w) ≡ op_in k t a z r w
+      pub op-swap : (eqb k 2 && eqb z 0) ≡ true → Some (Swap t a r w) ≡ op_in k t a z r w
       unfolding op_in
       op-swap e = rw (x, y, e) refl
 
       module _ (v : (eqb k 2 && eqb z 0) ≡ false) where
-        pub op-fence : (eqb k 3 && eqb a 0 && eqb z 0 && eqb r 0 && eqb w 0) ≡ true → Of (Fence t) ≡ op_in k t a z r w
+        pub op-fence : (eqb k 3 && eqb a 0 && eqb z 0 && eqb r 0 && eqb w 0) ≡ true → Some (Fence t) ≡ op_in k t a z r w
         unfolding op_in
         op-fence e = rw (x, y, v, e) refl
 
-        pub op-none : (eqb k 3 && eqb a 0 && eqb z 0 && eqb r 0 && eqb w 0) ≡ false → Nothing ≡ op_in k t a z r w
+        pub op-none : (eqb k 3 && eqb a 0 && eqb z 0 && eqb r 0 && eqb w 0) ≡ false → None ≡ op_in k t a z r w
         unfolding op_in
         op-none e = rw (x, y, v, e) refl
 
-in-fields : (o : Op) → op_in (kind_byte o) (thread o) (address o) 0 (read o) (written o) ≡ Of o
+in-fields : (o : Op) → op_in (kind_byte o) (thread o) (address o) 0 (read o) (written o) ≡ Some o
 unfolding op_in
 in-fields (Load t a r) = refl
 in-fields (Store t a w) = refl
 in-fields (Swap t a r w) = refl
 in-fields (Fence t) = refl
 
-pub in-record : (o : Op) (rest : List ℕ) → entry_in (record_of o ++ rest) ≡ Of o
+pub in-record : (o : Op) (rest : List ℕ) → entry_in (record_of o ++ rest) ≡ Some o
 in-record o rest = ap₂ (λ (r w : ℕ). op_in (kind_byte o) (thread o) (address o) 0 r w) (two_back (read o)) (two_back (written o)) ∙ in-fields o
 
 -- a record's fields, one by one
@@ -116,16 +116,16 @@ record Fields (o : Op) (k t a z r w : ℕ) : Type 0 where
   is_read : r ≡ read o
   is-written : w ≡ written o
 
-inj : {x y : Op} → Of x ≡ Of y → x ≡ y
+inj : {x y : Op} → Some x ≡ Some y → x ≡ y
 inj e = cc
 
-fields : (k t a z r w : ℕ) (o : Op) → op_in k t a z r w ≡ Of o → Fields o k t a z r w
+fields : (k t a z r w : ℕ) (o : Op) → op_in k t a z r w ≡ Some o → Fields o k t a z r w
 unfolding op_in
 fields k t a z r w o =
     go (eqb k 0 && eqb z 0 && eqb w 0) (eqb k 1 && eqb z 0 && eqb r 0) (eqb k 2 && eqb z 0) (eqb k 3 && eqb a 0 && eqb z 0 && eqb r 0 && eqb w 0) refl refl refl refl
   where
     go : (l s x f : Bool) → (eqb k 0 && eqb z 0 && eqb w 0) ≡ l → (eqb k 1 && eqb z 0 && eqb r 0) ≡ s → (eqb k 2 && eqb z 0) ≡ x → (eqb k 3 && eqb a 0 && eqb z 0 && eqb r 0 && eqb w 0) ≡ f
-        → cond l (Of (Load t a r)) (cond s (Of (Store t a w)) (cond x (Of (Swap t a r w)) (cond f (Of (Fence t)) Nothing))) ≡ Of o
+        → cond l (Some (Load t a r)) (cond s (Some (Store t a w)) (cond x (Some (Swap t a r w)) (cond f (Some (Fence t)) None))) ≡ Some o
         → Fields o k t a z r w
     go true s x f el es ex ef q =
         let p = (and-iff (and-iff so-eq so-eq) so-eq).0 el in
@@ -141,7 +141,7 @@ fields k t a z r w o =
         subst (λ (o : Op). Fields o k t a z r w) (inj q) (record { is-kind = p.0.0.0.0; is-thread = refl; is_address = p.0.0.0.1; is_zero = p.0.0.1; is_read = p.0.1; is-written = p.1 })
     go false false false false el es ex ef q = let z : ◌≡◌ {A = ℕ} 0 1 = cc in absurd (omega arith)
 
-pub record-in : (b : List ℕ) (o : Op) → Bytes b → RECORD ≤ length b → entry_in b ≡ Of o → b ≡ record_of o ++ drop RECORD b
+pub record-in : (b : List ℕ) (o : Op) → Bytes b → RECORD ≤ length b → entry_in b ≡ Some o → b ≡ record_of o ++ drop RECORD b
 record-in b o h long e =
     let f = fields (get_or b 0 0) (get_or b 1 0) (get_or b 2 0) (get_or b 3 0) (two_in b 4) (two_in b 6) o e in
     let e0 = f.is-kind in

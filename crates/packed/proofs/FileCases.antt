@@ -13,6 +13,7 @@ use native.Mathlib.Decide.{dec_lt}
 use native.Mathlib.Omega.{arith}
 use lib.Dec.{eqb, ltb}
 use lib.ListN.{length, get_or, drop, replicate}
+use Rattle.std.specs.Prelude.{Option, Some, None, Err}
 use Rattle.laws.proofs.Tests.{test, off, eq?, last?, and-iff, or-iff, so-le, so-eq, so-lt}
 use Rattle.trace.specs.Bounds.{RECORDS, ADDRESSES}
 use Rattle.trace.specs.Trace.{pushed}
@@ -26,11 +27,8 @@ use Rattle.trace.proofs.Places.{pushed-len}
 use Rattle.packed.specs.Layout.{VERSION, HEAD, FIRST, RECORD, two_in, size_of}
 use Rattle.packed.specs.FileRead.{entry_turn, turned_entry, turned_bytes, begun_file, good, back, read_firsts, read_records, then_records, read_entries, marked, read_file}
 use Rattle.packed.specs.FileCases.{Marked, firsts_in, records_in, Framed, address_at, value_at, low_at, NoFirst, GoodFirst, values_at, entry_at, TookFile, BackFile, none, next, unmarked, version, size, many, no_first, past_first, no_record, bad_record}
-use Rattle.packed.specs.declared.Entry.{Entry}
-use Rattle.packed.specs.declared.Entry.TheVariants.{Of, Nothing}
 use Rattle.packed.specs.declared.Reason.{Reason}
 use Rattle.packed.specs.declared.Reason.TheVariants.{PastBound, FirstValue, TooMany, Twice, NoFile, OtherVersion, NoEntry}
-use Rattle.packed.specs.declared.Turn.TheVariants.{Refused}
 use Rattle.packed.specs.declared.Answer.{Answer}
 use Rattle.packed.specs.declared.Answer.TheVariants as answer
 use Rattle.packed.specs.declared.Reading.{Reading}
@@ -90,33 +88,33 @@ module _ (b : List ℕ) where
 
   took-len : {k : ℕ} {t : Trace} → TookFile b k t → t.len ≡ k
   took-len (none g) = refl
-  took-len (next {k} {t} o w e f) = let r = ((fault-none t o).0 ((fault-exactly t o fault.Nothing).1 f)).0 in omega (arith, pushed-len t o r, took-len w)
+  took-len (next {k} {t} o w e f) = let r = ((fault-none t o).0 ((fault-exactly t o None).1 f)).0 in omega (arith, pushed-len t o r, took-len w)
 
   -- those that were taken are behind the first values
   stroll : {k : ℕ} {t : Trace} → TookFile b k t → k ≤ n → read_records t (drop (from + RECORD * k) b) (n - k) ≡ read_records (begun_file (values_at b c)) (drop from b) n
   stroll (none g) h = let z : from + RECORD * 0 ≡ from = omega arith in let y : n - 0 ≡ n = omega arith in ap₂ (λ (i k : ℕ). read_records (begun_file (values_at b c)) (drop i b) k) z y
   stroll (next {k} {t} o w e f) h =
       ap₂ (λ (x y : ℕ). read_records (pushed t o) (drop (from + RECORD * x) b) (n - y)) (sym (add-one k)) (sym (add-one k))
-      ∙ sym (record-taken t b from n k (omega arith) o (taken-turned t (drop (from + RECORD * k) b) o e ((fault-exactly t o fault.Nothing).1 f)))
+      ∙ sym (record-taken t b from n k (omega arith) o (taken-turned t (drop (from + RECORD * k) b) o e ((fault-exactly t o None).1 f)))
       ∙ stroll w (omega arith)
 
   -- what is wrong with record k behind the trace t
   abbrev Bad : ℕ → Trace → Type 0
-  Bad k t = (entry_at b k ≡ Nothing) ⊎ ((o : Op) × (f : Fault) × (reason : Reason) × (entry_at b k ≡ Of o) × Earns f t o × (entry_turn o f ≡ Refused reason))
+  Bad k t = (entry_at b k ≡ None) ⊎ ((o : Op) × (f : Option Fault) × (reason : Reason) × (entry_at b k ≡ Some o) × Earns f t o × (entry_turn o f ≡ Err reason))
 
   record-told : (k : ℕ) (t : Trace) → TookFile b k t → ((u : Trace) × TookFile b (suc k) u) ⊎ Bad k t
   record-told k t w = go (entry_at b k) refl
     where
-      by-fault : (o : Op) → entry_at b k ≡ Of o → (f : Fault) → fault_of t o ≡ f → ((u : Trace) × TookFile b (suc k) u) ⊎ Bad k t
-      by-fault o e fault.Nothing f = inl (pushed t o, next o w e ((fault-exactly t o fault.Nothing).0 f))
-      by-fault o e fault.PastBound f = inr (inr (o, fault.PastBound, PastBound, e, (fault-exactly t o fault.PastBound).0 f, refl))
-      by-fault o e fault.FirstValue f = inr (inr (o, fault.FirstValue, FirstValue, e, (fault-exactly t o fault.FirstValue).0 f, refl))
-      by-fault o e fault.TooMany f = inr (inr (o, fault.TooMany, TooMany, e, (fault-exactly t o fault.TooMany).0 f, refl))
-      by-fault o e fault.Twice f = inr (inr (o, fault.Twice, Twice, e, (fault-exactly t o fault.Twice).0 f, refl))
+      by-fault : (o : Op) → entry_at b k ≡ Some o → (f : Option Fault) → fault_of t o ≡ f → ((u : Trace) × TookFile b (suc k) u) ⊎ Bad k t
+      by-fault o e None f = inl (pushed t o, next o w e ((fault-exactly t o None).0 f))
+      by-fault o e (Some fault.PastBound) f = inr (inr (o, (Some fault.PastBound), PastBound, e, (fault-exactly t o (Some fault.PastBound)).0 f, refl))
+      by-fault o e (Some fault.FirstValue) f = inr (inr (o, (Some fault.FirstValue), FirstValue, e, (fault-exactly t o (Some fault.FirstValue)).0 f, refl))
+      by-fault o e (Some fault.TooMany) f = inr (inr (o, (Some fault.TooMany), TooMany, e, (fault-exactly t o (Some fault.TooMany)).0 f, refl))
+      by-fault o e (Some fault.Twice) f = inr (inr (o, (Some fault.Twice), Twice, e, (fault-exactly t o (Some fault.Twice)).0 f, refl))
 
-      go : (x : Entry) → entry_at b k ≡ x → ((u : Trace) × TookFile b (suc k) u) ⊎ Bad k t
-      go (Of o) e = by-fault o e (fault_of t o) refl
-      go Nothing e = inr (inl e)
+      go : (x : Option Op) → entry_at b k ≡ x → ((u : Trace) × TookFile b (suc k) u) ⊎ Bad k t
+      go (Some o) e = by-fault o e (fault_of t o) refl
+      go None e = inr (inl e)
 
   records-told : ((i : ℕ) → i < c → GoodFirst b i) → (k : ℕ) → ((t : Trace) × TookFile b k t) ⊎ ((i : ℕ) × (t : Trace) × (i < k) × TookFile b i t × Bad i t)
   records-told g zero = inl (begun_file (values_at b c), none g)
@@ -143,7 +141,7 @@ module _ (b : List ℕ) where
     takes : (t : Trace) → TookFile b n t → read_file b ≡ good t
     takes t w = goes_on (took-firsts w) ∙ sym (stroll w (omega arith)) ∙ record-over t b from n n (omega arith)
 
-    turns : (k : ℕ) (t : Trace) (reason : Reason) → k < n → TookFile b k t → turned_bytes t (drop (from + RECORD * k) b) ≡ Refused reason → read_file b ≡ back reason (k + 1)
+    turns : (k : ℕ) (t : Trace) (reason : Reason) → k < n → TookFile b k t → turned_bytes t (drop (from + RECORD * k) b) ≡ Err reason → read_file b ≡ back reason (k + 1)
     turns k t reason h w q =
         goes_on (took-firsts w) ∙ sym (stroll w (omega arith)) ∙ record-back t b from n k h reason q ∙ ap (λ (l : ℕ). back reason (l + 1)) (took-len w)
 

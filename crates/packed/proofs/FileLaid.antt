@@ -23,6 +23,7 @@ use lib.Dec.{eqb}
 use borrow.Author.Tests.{eq-eqb, ne_eqb, le-leb, lt-leb}
 use lib.ListN.{length, get_or, take, drop, length-append, take-append-drop}
 use lib.Seq.{take-suc, length-take-le, paste-zero}
+use Rattle.std.specs.Prelude.{Ok, Err}
 use Rattle.text.specs.Room.{put_at, behind}
 use Rattle.text.proofs.Put.{put-paste, put_front, put_then, length-put, behind-room}
 use Rattle.trace.specs.Bounds.{RECORDS, ADDRESSES}
@@ -32,7 +33,7 @@ use Rattle.trace.specs.declared.Trace.{Trace}
 use Rattle.trace.specs.WellFormed.{well_formed}
 use Rattle.trace.proofs.WellFormed.{form-iff}
 use Rattle.packed.specs.Write.{wrote_of, left_of}
-use Rattle.packed.specs.declared.Wrote.TheVariants.{Length, NotWellFormed, NoRoom}
+use Rattle.packed.specs.declared.Unwritten.TheVariants.{NotWellFormed, NoRoom}
 use Rattle.packed.specs.Layout.{HEAD, FIRST, RECORD, two, record_of, first_entry, firsts_of, many, record_bytes, size_of, file_head, file_of}
 
 module _ (a v : ℕ) where
@@ -229,7 +230,7 @@ module _ (t : Trace) (w : So (well_formed t)) where
 
 -- ---- what the writer answers
 module _ (t : Trace) (b : List ℕ) where
-  pub wrote-ten : well_formed t ≡ false → (NotWellFormed ≡ wrote_of t b) × (b ≡ left_of t b)
+  pub wrote-ten : well_formed t ≡ false → (Err NotWellFormed ≡ wrote_of t b) × (b ≡ left_of t b)
   unfolding wrote_of left_of
   wrote-ten n = ((rw n refl), (rw n refl))
 
@@ -237,10 +238,10 @@ module _ (t : Trace) (b : List ℕ) where
     whole : size ≡ length (file_of t)
     whole = e ∙ sym (file-long t (places t w))
 
-    pub wrote-short : length b < size → (NoRoom ≡ wrote_of t b) × (b ≡ left_of t b)
+    pub wrote-short : length b < size → (Err NoRoom ≡ wrote_of t b) × (b ≡ left_of t b)
     unfolding wrote_of left_of
     wrote-short h = let n = lt-leb (length (file_of t)) (length b) (omega (arith, whole)) in ((rw (w, n) refl), (rw (w, n) refl))
 
-    pub wrote-done : size ≤ length b → (now : List ℕ) → now ≡ file_of t ++ drop (length (file_of t)) b → (Length size ≡ wrote_of t b) × (now ≡ left_of t b)
+    pub wrote-done : size ≤ length b → (now : List ℕ) → now ≡ file_of t ++ drop (length (file_of t)) b → (Ok size ≡ wrote_of t b) × (now ≡ left_of t b)
     unfolding wrote_of left_of
-    wrote-done h now q = let y = le-leb (length (file_of t)) (length b) (omega (arith, whole)) in ((rw (w, y) (ap Length whole)), (rw (w, y) q))
+    wrote-done h now q = let y = le-leb (length (file_of t)) (length b) (omega (arith, whole)) in ((rw (w, y) (ap Ok whole)), (rw (w, y) q))

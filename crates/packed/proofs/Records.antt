@@ -11,6 +11,7 @@ use native.Mathlib.Numerals.{add-one}
 use native.Mathlib.Omega.{arith}
 use lib.ListN.{length, take, drop, set, length-drop}
 use lib.Seq.{drop-cons, take-suc-set}
+use Rattle.std.specs.Prelude.{Option, Some, None, Result, Ok, Err}
 use Rattle.trace.specs.Bounds.{RECORDS}
 use Rattle.trace.specs.Trace.{at, pushed, up_to}
 use Rattle.trace.specs.Fault.{fault_of}
@@ -28,46 +29,43 @@ use Rattle.trace.proofs.Growth.{pushed-well, up_to-all, up_to-len, up_to-more, u
 use Rattle.packed.specs.Layout.{RECORD, record_of, record_bytes}
 use Rattle.packed.specs.Entry.{entry_in}
 use Rattle.packed.specs.FileRead.{entry_turn, turned_entry, turned_bytes, good, back, read_records}
-use Rattle.packed.specs.declared.Entry.{Entry}
-use Rattle.packed.specs.declared.Entry.TheVariants.{Of, Nothing}
-use Rattle.packed.specs.declared.Turn.{Turn}
-use Rattle.packed.specs.declared.Turn.TheVariants.{Taken, Refused}
+use Rattle.packed.specs.declared.Reason.{Reason}
 use Rattle.packed.specs.declared.Reading.{Reading}
 use Rattle.packed.proofs.Codec.{Bytes, bytes_drop, in-record, record-in}
 use Rattle.packed.proofs.FileLaid.{records-snoc}
 use Rattle.packed.proofs.Firsts.{never}
 
-pub taken-turned : (t : Trace) (b : List ℕ) (o : Op) → entry_in b ≡ Of o → fault_of t o ≡ fault.Nothing → turned_bytes t b ≡ Taken o
+pub taken-turned : (t : Trace) (b : List ℕ) (o : Op) → entry_in b ≡ Some o → fault_of t o ≡ None → turned_bytes t b ≡ Ok o
 unfolding turned_bytes
 taken-turned t b o e f = ap (turned_entry t) e ∙ ap (entry_turn o) f
 
-pub turned_taken : (t : Trace) (b : List ℕ) (o : Op) → turned_bytes t b ≡ Taken o → (entry_in b ≡ Of o) × (fault_of t o ≡ fault.Nothing)
+pub turned_taken : (t : Trace) (b : List ℕ) (o : Op) → turned_bytes t b ≡ Ok o → (entry_in b ≡ Some o) × (fault_of t o ≡ None)
 unfolding turned_bytes
 turned_taken t b o = go (entry_in b) refl
   where
-    by-fault : (p : Op) (f : Fault) → fault_of t p ≡ f → entry_in b ≡ Of p → entry_turn p f ≡ Taken o → (entry_in b ≡ Of o) × (fault_of t o ≡ fault.Nothing)
-    by-fault p fault.Nothing f e q = let s : p ≡ o = cc in (e ∙ ap Of s, ap (fault_of t) (sym s) ∙ f)
-    by-fault p fault.PastBound f e q = let z : ◌≡◌ {A = ℕ} 0 1 = cc in absurd (omega arith)
-    by-fault p fault.FirstValue f e q = let z : ◌≡◌ {A = ℕ} 0 1 = cc in absurd (omega arith)
-    by-fault p fault.TooMany f e q = let z : ◌≡◌ {A = ℕ} 0 1 = cc in absurd (omega arith)
-    by-fault p fault.Twice f e q = let z : ◌≡◌ {A = ℕ} 0 1 = cc in absurd (omega arith)
+    by-fault : (p : Op) (f : Option Fault) → fault_of t p ≡ f → entry_in b ≡ Some p → entry_turn p f ≡ Ok o → (entry_in b ≡ Some o) × (fault_of t o ≡ None)
+    by-fault p None f e q = let s : p ≡ o = cc in (e ∙ ap Some s, ap (fault_of t) (sym s) ∙ f)
+    by-fault p (Some fault.PastBound) f e q = let z : ◌≡◌ {A = ℕ} 0 1 = cc in absurd (omega arith)
+    by-fault p (Some fault.FirstValue) f e q = let z : ◌≡◌ {A = ℕ} 0 1 = cc in absurd (omega arith)
+    by-fault p (Some fault.TooMany) f e q = let z : ◌≡◌ {A = ℕ} 0 1 = cc in absurd (omega arith)
+    by-fault p (Some fault.Twice) f e q = let z : ◌≡◌ {A = ℕ} 0 1 = cc in absurd (omega arith)
 
-    go : (x : Entry) → entry_in b ≡ x → turned_entry t x ≡ Taken o → (entry_in b ≡ Of o) × (fault_of t o ≡ fault.Nothing)
-    go (Of p) e q = by-fault p (fault_of t p) refl e q
-    go Nothing e q = let z : ◌≡◌ {A = ℕ} 0 1 = cc in absurd (omega arith)
+    go : (x : Option Op) → entry_in b ≡ x → turned_entry t x ≡ Ok o → (entry_in b ≡ Some o) × (fault_of t o ≡ None)
+    go (Some p) e q = by-fault p (fault_of t p) refl e q
+    go None e q = let z : ◌≡◌ {A = ℕ} 0 1 = cc in absurd (omega arith)
 
 -- what a turn comes to
-abbrev next : Trace → List ℕ → ℕ → Turn → Reading
-next t b k (Taken o) = read_records (pushed t o) (drop RECORD b) k
-next t b k (Refused reason) = back reason (t.len + 1)
+abbrev next : Trace → List ℕ → ℕ → Result Op Reason → Reading
+next t b k (Ok o) = read_records (pushed t o) (drop RECORD b) k
+next t b k (Err reason) = back reason (t.len + 1)
 
 step : (t : Trace) (b : List ℕ) (k : ℕ) → read_records t b (suc k) ≡ next t b k (turned_bytes t b)
 unfolding read_records
 step t b k = go (turned_bytes t b)
   where
-    go : (u : Turn) → elim u [ Taken o ↦ read_records (pushed t o) (drop RECORD b) k | Refused reason ↦ back reason (t.len + 1) ] ≡ next t b k u
-    go (Taken o) = refl
-    go (Refused reason) = refl
+    go : (u : Result Op Reason) → elim u [ Ok o ↦ read_records (pushed t o) (drop RECORD b) k | Err reason ↦ back reason (t.len + 1) ] ≡ next t b k u
+    go (Ok o) = refl
+    go (Err reason) = refl
 
 module _ (t : Trace) (w : So (well_formed t)) where
   pub read-records : (k i : ℕ) → i + k ≡ t.len → read_records (up_to t i) (record_bytes (take k (drop i t.records))) k ≡ good t
@@ -80,7 +78,7 @@ module _ (t : Trace) (w : So (well_formed t)) where
       let rest = record_bytes (take k (drop (suc i) t.records)) in
       let n = up_to-len t i in
       let here : record_bytes (take (suc k) (drop i t.records)) ≡ record_of o ++ rest = ap (λ (rs : List Record). record_bytes (take (suc k) rs)) (drop-cons t.records i (record { op = Load 0 0 0 }) (omega (arith, form.places, form.fits))) in
-      let f : fault_of (up_to t i) o ≡ fault.Nothing = (fault-none (up_to t i) o).1 (omega (arith, n, form.fits), subst (λ (m : ℕ). So (follows (up_to t i) m o)) (sym n) (up_to-follows t w i h)) in
+      let f : fault_of (up_to t i) o ≡ None = (fault-none (up_to t i) o).1 (omega (arith, n, form.fits), subst (λ (m : ℕ). So (follows (up_to t i) m o)) (sym n) (up_to-follows t w i h)) in
       ap (λ (b : List ℕ). read_records (up_to t i) b (suc k)) here
       ∙ step (up_to t i) (record_of o ++ rest) k
       ∙ ap (next (up_to t i) (record_of o ++ rest) k) (taken-turned (up_to t i) (record_of o ++ rest) o (in-record o rest) f)
@@ -110,10 +108,10 @@ records-only zero t [] u w h l q =
 records-only zero t (x ∷ b) u w h l q = absurd (omega (arith, l))
 records-only (suc k) t b u w h l q = go (turned_bytes t b) refl (sym (step t b k) ∙ q) (λ o. records-only k (pushed t o) (drop RECORD b) u)
   where
-    go : (x : Turn) → turned_bytes t b ≡ x → next t b k (turned_bytes t b) ≡ good u
+    go : (x : Result Op Reason) → turned_bytes t b ≡ x → next t b k (turned_bytes t b) ≡ good u
         → ((o : Op) → So (well_formed (pushed t o)) → Bytes (drop RECORD b) → length (drop RECORD b) ≡ RECORD * k → read_records (pushed t o) (drop RECORD b) k ≡ good u → Behind (pushed t o) (drop RECORD b) k u) → Behind t b (suc k) u
-    go (Refused reason) e q rec = absurd (never (ap (next t b k) (sym e) ∙ q))
-    go (Taken o) e q rec =
+    go (Err reason) e q rec = absurd (never (ap (next t b k) (sym e) ∙ q))
+    go (Ok o) e q rec =
         let p = turned_taken t b o e in
         let f = (fault-none t o).0 p.1 in
         let r = rec o (pushed-well t o f.0 w f.1) (bytes_drop RECORD b h) (omega (arith, length-drop RECORD b, l)) (ap (next t b k) (sym e) ∙ q) in

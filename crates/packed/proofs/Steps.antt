@@ -11,6 +11,7 @@ use lib.Dec.{eqb, ltb, leb}
 use lib.ListN.{get_or, set, drop}
 use lib.Seq.{drop-drop, get_or-drop}
 use borrow.Author.Tests.{le-leb, lt-leb}
+use Rattle.std.specs.Prelude.{Result, Ok, Err}
 use Rattle.trace.specs.Bounds.{ADDRESSES}
 use Rattle.trace.specs.Trace.{pushed}
 use Rattle.trace.specs.declared.Op.{Op}
@@ -19,8 +20,6 @@ use Rattle.packed.specs.Layout.{HEAD, FIRST, RECORD, two_in}
 use Rattle.packed.specs.FileRead.{turned_bytes, begun_file, good, back, read_firsts, read_records}
 use Rattle.packed.specs.declared.Reason.{Reason}
 use Rattle.packed.specs.declared.Reason.TheVariants.{PastBound, NoEntry}
-use Rattle.packed.specs.declared.Turn.{Turn}
-use Rattle.packed.specs.declared.Turn.TheVariants.{Taken, Refused}
 use Rattle.packed.specs.declared.Reading.{Reading}
 use Rattle.packed.proofs.Codec.{two-drop}
 
@@ -77,21 +76,21 @@ module _ (t : Trace) (b : List ℕ) (from n i : ℕ) where
     one : read_records t (drop (from + RECORD * i) b) (n - i) ≡ read_records t (drop (from + RECORD * i) b) (suc (n - (i + 1)))
     one = ap (read_records t (drop (from + RECORD * i) b)) (left n i h)
 
-    pub record-taken : (o : Op) → turned_bytes t (drop (from + RECORD * i) b) ≡ Taken o
+    pub record-taken : (o : Op) → turned_bytes t (drop (from + RECORD * i) b) ≡ Ok o
         → read_records t (drop (from + RECORD * i) b) (n - i) ≡ read_records (pushed t o) (drop (from + RECORD * (i + 1)) b) (n - (i + 1))
     unfolding read_records
     record-taken o q =
         let x = drop (from + RECORD * i) b in
         let on : from + RECORD * i + RECORD ≡ from + RECORD * (i + 1) = omega arith in
         one
-        ∙ ap (λ (u : Turn). elim u [ Taken o ↦ read_records (pushed t o) (drop RECORD x) (n - (i + 1)) | Refused reason ↦ back reason (t.len + 1) ]) q
+        ∙ ap (λ (u : Result Op Reason). elim u [ Ok o ↦ read_records (pushed t o) (drop RECORD x) (n - (i + 1)) | Err reason ↦ back reason (t.len + 1) ]) q
         ∙ ap (λ (y : List ℕ). read_records (pushed t o) y (n - (i + 1))) (drop-drop RECORD (from + RECORD * i) b ∙ ap (λ (k : ℕ). drop k b) on)
 
-    pub record-back : (reason : Reason) → turned_bytes t (drop (from + RECORD * i) b) ≡ Refused reason → read_records t (drop (from + RECORD * i) b) (n - i) ≡ back reason (t.len + 1)
+    pub record-back : (reason : Reason) → turned_bytes t (drop (from + RECORD * i) b) ≡ Err reason → read_records t (drop (from + RECORD * i) b) (n - i) ≡ back reason (t.len + 1)
     unfolding read_records
     record-back reason q =
         let x = drop (from + RECORD * i) b in
-        one ∙ ap (λ (u : Turn). elim u [ Taken o ↦ read_records (pushed t o) (drop RECORD x) (n - (i + 1)) | Refused reason ↦ back reason (t.len + 1) ]) q
+        one ∙ ap (λ (u : Result Op Reason). elim u [ Ok o ↦ read_records (pushed t o) (drop RECORD x) (n - (i + 1)) | Err reason ↦ back reason (t.len + 1) ]) q
 
   pub record-over : n ≤ i → read_records t (drop (from + RECORD * i) b) (n - i) ≡ good t
   unfolding read_records

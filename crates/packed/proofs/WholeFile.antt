@@ -19,6 +19,7 @@ use Prim.Native.Nat.{ℕ}
 use native.Mathlib.Omega.{arith}
 use lib.ListN.{take, drop}
 use lib.Seq.{take_at}
+use Rattle.std.specs.Prelude.{Result, Ok, Err, Option, Some, None}
 use Rattle.laws.proofs.Tests.{test}
 use Rattle.trace.specs.WellFormed.{well_formed}
 use Rattle.trace.specs.Cores.{lost, Whole}
@@ -35,13 +36,11 @@ use Rattle.packed.specs.WholeFile.{whole_file_as, read_whole_file, wrote_whole, 
 use Rattle.packed.specs.FileCases.{BackFile, BackWhole, unmarked, version, size, many, no_first, past_first, no_record, bad_record, before, skipped}
 use Rattle.packed.specs.declared.Reason.{Reason}
 use Rattle.packed.specs.declared.Reason.TheVariants as reason
-use Rattle.packed.specs.declared.Turn.{Turn}
-use Rattle.packed.specs.declared.Turn.TheVariants as turn
 use Rattle.packed.specs.declared.Answer.{Answer}
 use Rattle.packed.specs.declared.Answer.TheVariants.{Good, Refused}
 use Rattle.packed.specs.declared.Reading.{Reading}
-use Rattle.packed.specs.declared.Wrote.{Wrote}
-use Rattle.packed.specs.declared.Wrote.TheVariants.{Length, NotWellFormed, NoRoom, Lost}
+use Rattle.packed.specs.declared.Unwritten.{Unwritten}
+use Rattle.packed.specs.declared.Unwritten.TheVariants.{NotWellFormed, NoRoom, Lost}
 use Rattle.packed.proofs.Codec.{Bytes}
 use Rattle.packed.proofs.FileCases.{back-told, back-exactly}
 use Rattle.packed.proofs.RoundTrip.{read-file, file-exactly, files-one}
@@ -79,16 +78,16 @@ lost-not t w = (
 )
 
 -- no entry earns 22
-abbrev number_in : Turn → ℕ
-number_in (turn.Taken o) = 0
-number_in (turn.Refused reason) = file_reason_number reason
+abbrev number_in : Result Op Reason → ℕ
+number_in (Ok o) = 0
+number_in (Err reason) = file_reason_number reason
 
-turn-not : (o : Op) (f : Fault) → number_in (entry_turn o f) ≢ 22
-turn-not o fault.Nothing e = absurd (omega (arith, e))
-turn-not o fault.PastBound e = absurd (omega (arith, e))
-turn-not o fault.FirstValue e = absurd (omega (arith, e))
-turn-not o fault.TooMany e = absurd (omega (arith, e))
-turn-not o fault.Twice e = absurd (omega (arith, e))
+turn-not : (o : Op) (f : Option Fault) → number_in (entry_turn o f) ≢ 22
+turn-not o None e = absurd (omega (arith, e))
+turn-not o (Some fault.PastBound) e = absurd (omega (arith, e))
+turn-not o (Some fault.FirstValue) e = absurd (omega (arith, e))
+turn-not o (Some fault.TooMany) e = absurd (omega (arith, e))
+turn-not o (Some fault.Twice) e = absurd (omega (arith, e))
 
 pub back-not : {b : List ℕ} (reason : Reason) (line : ℕ) → BackFile b reason line → file_reason_number reason ≢ 22
 back-not reason line (unmarked d) e = absurd (omega (arith, e))
@@ -160,18 +159,16 @@ module _ (b : List ℕ) (h : Bytes b) where
 
 -- ---- the writer
 -- whether a length is told
-abbrev done? : Wrote → ℕ
-done? (Length n) = 0
-done? NotWellFormed = 1
-done? NoRoom = 1
-done? Lost = 1
+abbrev done? : Result ℕ Unwritten → ℕ
+done? (Ok n) = 0
+done? (Err why) = 1
 
 module _ (t : Trace) (b : List ℕ) where
-  pub written-lost : So (well_formed t) → So (lost t) → (Lost ≡ wrote_whole t b) × (b ≡ left_whole t b)
+  pub written-lost : So (well_formed t) → So (lost t) → (Err Lost ≡ wrote_whole t b) × (b ≡ left_whole t b)
   unfolding wrote_whole left_whole
   written-lost w l = ((rw (w, l) refl), (rw (w, l) refl))
 
-  pub written-ten : well_formed t ≡ false → (NotWellFormed ≡ wrote_whole t b) × (b ≡ left_whole t b)
+  pub written-ten : well_formed t ≡ false → (Err NotWellFormed ≡ wrote_whole t b) × (b ≡ left_whole t b)
   unfolding wrote_whole left_whole
   written-ten n = ((rw n refl), (rw n refl))
 
@@ -180,19 +177,19 @@ module _ (t : Trace) (b : List ℕ) where
   written_on n = elim (test (well_formed t)) [ inl w ↦ ((rw (w, n) refl), (rw (w, n) refl)) | inr w ↦ ((rw w refl), (rw w refl)) ]
 
   -- where a length comes back, the trace is well formed and whole, and there was room
-  pub done-whole : (n : ℕ) → wrote_whole t b ≡ Length n → So (well_formed t) × (lost t ≡ false) × (n ≡ long_of t) × (left_whole t b ≡ file_of t ++ drop (long_of t) b)
+  pub done-whole : (n : ℕ) → wrote_whole t b ≡ Ok n → So (well_formed t) × (lost t ≡ false) × (n ≡ long_of t) × (left_whole t b ≡ file_of t ++ drop (long_of t) b)
   unfolding wrote_whole left_whole wrote_of left_of
   done-whole n = go (well_formed t) refl (lost t) refl (file_room t b) refl
     where
       go : (x : Bool) → well_formed t ≡ x → (y : Bool) → lost t ≡ y → (z : Bool) → file_room t b ≡ z
-          → cond x (cond y Lost (cond x (cond z (Length (long_of t)) NoRoom) NotWellFormed)) NotWellFormed ≡ Length n
+          → cond x (cond y (Err Lost) (cond x (cond z (Ok (long_of t)) (Err NoRoom)) (Err NotWellFormed))) (Err NotWellFormed) ≡ Ok n
           → So (well_formed t) × (lost t ≡ false) × (n ≡ long_of t) × (cond x (cond y b (cond x (cond z (file_of t ++ drop (long_of t) b) b) b)) b ≡ file_of t ++ drop (long_of t) b)
       go true w false l true r e = let k : long_of t ≡ n = cc in (w, l, sym k, refl)
       go true w false l false r e = let k = ap done? e in absurd (omega arith)
       go true w true l z r e = let k = ap done? e in absurd (omega arith)
       go false w y l z r e = let k = ap done? e in absurd (omega arith)
 
-module _ (t : Trace) (b : List ℕ) (n : ℕ) (e : wrote_whole t b ≡ Length n) where
+module _ (t : Trace) (b : List ℕ) (n : ℕ) (e : wrote_whole t b ≡ Ok n) where
   -- what was written is the file
   front : take n (left_whole t b) ≡ file_of t
   front =
@@ -202,7 +199,7 @@ module _ (t : Trace) (b : List ℕ) (n : ℕ) (e : wrote_whole t b ≡ Length n)
   pub written_read : read_whole_file (take n (left_whole t b)) ≡ good t
   written_read = let d = done-whole t b n e in ap read_whole_file front ∙ sym (whole-good (file_of t) (good t) (sym (read-file t d.0)) refl d.1)
 
-pub written_one : (t u : Trace) (b c : List ℕ) (m n : ℕ) → wrote_whole t b ≡ Length m → wrote_whole u c ≡ Length n → (t ≡ u) ↔ (take m (left_whole t b) ≡ take n (left_whole u c))
+pub written_one : (t u : Trace) (b c : List ℕ) (m n : ℕ) → wrote_whole t b ≡ Ok m → wrote_whole u c ≡ Ok n → (t ≡ u) ↔ (take m (left_whole t b) ≡ take n (left_whole u c))
 written_one t u b c m n p q = (
   λ e. front t b m p ∙ ap file_of e ∙ sym (front u c n q),
   λ e. (files-one t u (done-whole t b m p).0 (done-whole u c n q).0).1 (sym (front t b m p) ∙ e ∙ front u c n q),

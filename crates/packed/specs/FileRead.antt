@@ -12,7 +12,7 @@
 --   read_entries b c n == first values and records in turn
 --   marked b         == b has the mark, and is long enough for mark and version
 --   read_file b      == what `read` answers
-use Rattle.std.specs.Prelude.{Bool, cond, ◌&&◌, ◌||◌, List, ℕ, zero, suc, ◌+◌, ◌*◌, eqb, ltb, leb, length, get_or, set, drop, replicate}
+use Rattle.std.specs.Prelude.{Option, Some, None, Result, Ok, Err, Bool, cond, ◌&&◌, ◌||◌, List, ℕ, zero, suc, ◌+◌, ◌*◌, eqb, ltb, leb, length, get_or, set, drop, replicate}
 use Rattle.trace.specs.Bounds.{RECORDS, ADDRESSES}
 use Rattle.trace.specs.Trace.{empty, pushed}
 use Rattle.trace.specs.Fault.{fault_of}
@@ -22,12 +22,8 @@ use Rattle.trace.specs.declared.Fault.{Fault}
 use Rattle.trace.specs.declared.Fault.TheVariants as fault
 use Rattle.packed.specs.Layout.{VERSION, HEAD, FIRST, RECORD, two_in, size_of}
 use Rattle.packed.specs.Entry.{entry_in}
-use Rattle.packed.specs.declared.Entry.{Entry}
-use Rattle.packed.specs.declared.Entry.TheVariants.{Of, Nothing}
 use Rattle.packed.specs.declared.Reason.{Reason}
 use Rattle.packed.specs.declared.Reason.TheVariants.{PastBound, FirstValue, TooMany, Twice, NoFile, OtherVersion, NoEntry, Lost}
-use Rattle.packed.specs.declared.Turn.{Turn}
-use Rattle.packed.specs.declared.Turn.TheVariants as turn
 use Rattle.packed.specs.declared.Answer.{Answer}
 use Rattle.packed.specs.declared.Answer.TheVariants.{Good, Refused}
 use Rattle.packed.specs.declared.Reading.{Reading}
@@ -42,18 +38,18 @@ file_reason_number OtherVersion = 19
 file_reason_number NoEntry = 20
 file_reason_number Lost = 22
 
-abbrev pub entry_turn : Op → Fault → Turn
-entry_turn o fault.Nothing = turn.Taken o
-entry_turn o fault.PastBound = turn.Refused PastBound
-entry_turn o fault.FirstValue = turn.Refused FirstValue
-entry_turn o fault.TooMany = turn.Refused TooMany
-entry_turn o fault.Twice = turn.Refused Twice
+abbrev pub entry_turn : Op → Option Fault → Result Op Reason
+entry_turn o None = Ok o
+entry_turn o (Some fault.PastBound) = Err PastBound
+entry_turn o (Some fault.FirstValue) = Err FirstValue
+entry_turn o (Some fault.TooMany) = Err TooMany
+entry_turn o (Some fault.Twice) = Err Twice
 
-abbrev pub turned_entry : Trace → Entry → Turn
-turned_entry t (Of o) = entry_turn o (fault_of t o)
-turned_entry t Nothing = turn.Refused NoEntry
+abbrev pub turned_entry : Trace → Option Op → Result Op Reason
+turned_entry t (Some o) = entry_turn o (fault_of t o)
+turned_entry t None = Err NoEntry
 
-unfoldable pub turned_bytes : Trace → List ℕ → Turn
+unfoldable pub turned_bytes : Trace → List ℕ → Result Op Reason
 turned_bytes t b = turned_entry t (entry_in b)
 
 abbrev pub begun_file : List ℕ → Trace
@@ -74,7 +70,7 @@ read_firsts (suc c) low vs b =
 
 unfoldable pub read_records : Trace → List ℕ → ℕ → Reading
 read_records t b zero = good t
-read_records t b (suc k) = elim (turned_bytes t b) [ turn.Taken o ↦ read_records (pushed t o) (drop RECORD b) k | turn.Refused reason ↦ back reason (t.len + 1) ]
+read_records t b (suc k) = elim (turned_bytes t b) [ Ok o ↦ read_records (pushed t o) (drop RECORD b) k | Err reason ↦ back reason (t.len + 1) ]
 
 abbrev pub then_records : Answer → Reading → List ℕ → ℕ → Reading
 then_records Good r b k = read_records r.trace b k

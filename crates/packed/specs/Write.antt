@@ -4,12 +4,12 @@
 --   file_room t b == the lent bytes have room for it
 --   wrote_of t b == 10 before 21; else the length
 --   left_of t b  == the file, and all behind it as it was; beside a refusal all as it was
-use Rattle.std.specs.Prelude.{Bool, cond, List, ◌++◌, ℕ, leb, length, drop}
+use Rattle.std.specs.Prelude.{Result, Ok, Err, Bool, cond, List, ◌++◌, ℕ, leb, length, drop}
 use Rattle.trace.specs.WellFormed.{well_formed}
 use Rattle.trace.specs.declared.Trace.{Trace}
 use Rattle.packed.specs.Layout.{file_of}
-use Rattle.packed.specs.declared.Wrote.{Wrote}
-use Rattle.packed.specs.declared.Wrote.TheVariants.{Length, NotWellFormed, NoRoom}
+use Rattle.packed.specs.declared.Unwritten.{Unwritten}
+use Rattle.packed.specs.declared.Unwritten.TheVariants.{NotWellFormed, NoRoom}
 
 abbrev pub long_of : Trace → ℕ
 long_of t = length (file_of t)
@@ -17,8 +17,8 @@ long_of t = length (file_of t)
 abbrev pub file_room : Trace → List ℕ → Bool
 file_room t b = leb (long_of t) (length b)
 
-unfoldable pub wrote_of : Trace → List ℕ → Wrote
-wrote_of t b = cond (well_formed t) (cond (file_room t b) (Length (long_of t)) NoRoom) NotWellFormed
+unfoldable pub wrote_of : Trace → List ℕ → Result ℕ Unwritten
+wrote_of t b = cond (well_formed t) (cond (file_room t b) (Ok (long_of t)) (Err NoRoom)) (Err NotWellFormed)
 
 unfoldable pub left_of : Trace → List ℕ → List ℕ
 left_of t b = cond (well_formed t) (cond (file_room t b) (file_of t ++ drop (long_of t) b) b) b

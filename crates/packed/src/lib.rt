@@ -4,7 +4,7 @@
 ghost use Rattle.std.specs.Prelude.{◌≡◌};
 ghost use Rattle.packed.specs.FileRead.{file_reason_number};
 
-use trace::{FIRSTS, Op, RECORDS, Trace};
+use trace::{FIRSTS, RECORDS, Trace};
 
 pub mod entries;
 pub mod packing;
@@ -23,13 +23,6 @@ pub const FILE: usize = HEAD + FIRST * FIRSTS + RECORD * RECORDS;
 // The version of the layout.
 pub const VERSION: u16 = 1;
 
-// What the fields of a record are: a record, or none.
-#[derive(Clone, Copy)]
-pub enum Entry {
-    Of(Op),
-    Nothing,
-}
-
 // Why a file is turned back. The first four are a text's too, and so is the last, which only `read_whole` gives: a core is lost.
 #[derive(Clone, Copy)]
 pub enum Reason {
@@ -43,14 +36,8 @@ pub enum Reason {
     Lost,
 }
 
-// What one record gets.
-#[derive(Clone, Copy)]
-enum Turn {
-    Taken(Op),
-    Refused(Reason),
-}
-
-// What a file gets: the line is a record's number plus 1, and 0 outside a record.
+// What a file gets: the line is a record's number plus 1, and 0 outside a record. Not a `Result` of a trace: document 02 lays down the trace beside a refusal
+// too, the empty one, and who reads a file takes answer and trace apart.
 #[derive(Clone, Copy)]
 pub enum Answer {
     Good,
@@ -64,10 +51,9 @@ pub struct Reading {
     pub trace: Trace,
 }
 
-// What the writer says: how many bytes it wrote, or why none. Only `write_whole` says that a core is lost.
+// Why the writer wrote nothing. Only `write_whole` says that a core is lost.
 #[derive(Clone, Copy)]
-pub enum Wrote {
-    Length(usize),
+pub enum Unwritten {
     NotWellFormed,
     NoRoom,
     Lost,

@@ -16,8 +16,8 @@ use Rattle.laws.proofs.Tests.{off, so-any}
 use Rattle.laws.proofs.Lowest.{lowest-iff}
 use Rattle.laws.proofs.LowestLoops.{NoneBelow, lowest-found, lowest-nothing}
 use Rattle.pairs.specs.MissingOf.{as_found, record?}
-use Rattle.pairs.specs.declared.sources.Found.{Found}
-use Rattle.pairs.specs.declared.sources.Found.TheVariants.{At, Nothing}
+use Rattle.pairs.specs.Found.{Found}
+use Rattle.std.specs.Prelude.{Some, None}
 
 -- an answer says what was found
 back : (o : Option ℕ) → record? (as_found o) ≡ o
@@ -25,16 +25,16 @@ back (some x) = refl
 back none = refl
 
 module _ (t : ℕ → Bool) (n : ℕ) where
-  pub at-lowest : (i : ℕ) → NoneBelow t i → i < n → So (t i) → At i ≡ as_found (lowest t n 0)
+  pub at-lowest : (i : ℕ) → NoneBelow t i → i < n → So (t i) → Some i ≡ as_found (lowest t n 0)
   at-lowest i h l u = sym (ap as_found (lowest-found t n i h l u))
 
-  pub nothing-lowest : (i : ℕ) → NoneBelow t i → n ≤ i → Nothing ≡ as_found (lowest t n 0)
+  pub nothing-lowest : (i : ℕ) → NoneBelow t i → n ≤ i → None ≡ as_found (lowest t n 0)
   nothing-lowest i h l = sym (ap as_found (lowest-nothing t n i h l))
 
-  pub some-lowest : {a : Found} {i : ℕ} → a ≡ as_found (lowest t n 0) → a ≡ At i → lowest t n 0 ≡ some i
+  pub some-lowest : {a : Found} {i : ℕ} → a ≡ as_found (lowest t n 0) → a ≡ Some i → lowest t n 0 ≡ some i
   some-lowest e q = sym (back (lowest t n 0)) ∙ ap record? (sym e ∙ q)
 
-  pub none-lowest : {a : Found} → a ≡ as_found (lowest t n 0) → a ≡ Nothing → lowest t n 0 ≡ none
+  pub none-lowest : {a : Found} → a ≡ as_found (lowest t n 0) → a ≡ None → lowest t n 0 ≡ none
   none-lowest e q = sym (back (lowest t n 0)) ∙ ap record? (sym e ∙ q)
 
   pub lowest-is : Lowest (λ k. (k < n) × So (t k)) (lowest t n 0)

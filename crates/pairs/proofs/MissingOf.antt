@@ -32,8 +32,8 @@ use Rattle.rules.proofs.RuleTests.{source-iff}
 use Rattle.pairs.proofs.SourceOf.{source-of-is, source-of-has}
 use Rattle.rules.proofs.Missing.{missing-iff}
 use Rattle.pairs.specs.MissingOf.{as_found, record?, missing_of}
-use Rattle.pairs.specs.declared.sources.Found.{Found}
-use Rattle.pairs.specs.declared.sources.Found.TheVariants.{At, Nothing}
+use Rattle.pairs.specs.Found.{Found}
+use Rattle.std.specs.Prelude.{Some, None}
 use Rattle.pairs.proofs.ValidOrders.{well-fits}
 
 pub source-past : (f : Frame) → Good f → f.records ≤ RECORDS → (L : ℕ) → leb RECORDS (source_of f L) ≡ not (any f.records (λ S. source? f S L))
@@ -58,20 +58,20 @@ lacks-parts t w L =
     ap (λ b. ltb L t.len && reads (at t L) && not (eqb (read (at t L)) (first t (address (at t L)))) && b) (source-past (frame_of t) (good t w) (well-fits t w) L)
 
 module _ (t : Trace) where
-  pub unformed : well_formed t ≡ false → Nothing ≡ missing_of t
+  pub unformed : well_formed t ≡ false → None ≡ missing_of t
   unfolding missing_of
-  unformed e = sym (ap (λ b. cond b (as_found (lowest (missing? (frame_of t)) t.len 0)) Nothing) e)
+  unformed e = sym (ap (λ b. cond b (as_found (lowest (missing? (frame_of t)) t.len 0)) None) e)
 
   module _ (w : So (well_formed t)) where
     -- the answer of a well formed trace
     sought : as_found (lowest (missing? (frame_of t)) t.len 0) ≡ missing_of t
     unfolding missing_of
-    sought = sym (ap (λ b. cond b (as_found (lowest (missing? (frame_of t)) t.len 0)) Nothing) w)
+    sought = sym (ap (λ b. cond b (as_found (lowest (missing? (frame_of t)) t.len 0)) None) w)
 
-    pub found_at : (i : ℕ) → NoneBelow (missing? (frame_of t)) i → i < t.len → So (missing? (frame_of t) i) → At i ≡ missing_of t
+    pub found_at : (i : ℕ) → NoneBelow (missing? (frame_of t)) i → i < t.len → So (missing? (frame_of t) i) → Some i ≡ missing_of t
     found_at i h l u = sym (ap as_found (lowest-found (missing? (frame_of t)) t.len i h l u)) ∙ sought
 
-    pub found_none : (i : ℕ) → NoneBelow (missing? (frame_of t)) i → t.len ≤ i → Nothing ≡ missing_of t
+    pub found_none : (i : ℕ) → NoneBelow (missing? (frame_of t)) i → t.len ≤ i → None ≡ missing_of t
     found_none i h l = sym (ap as_found (lowest-nothing (missing? (frame_of t)) t.len i h l)) ∙ sought
 
 pub missing-lowest : (t : Trace) → So (well_formed t) → Lowest (Missing (frame_of t)) (record? (missing_of t))

@@ -5,3 +5,4 @@ pub mod SourceOf
 pub mod Accepted
 pub mod MissingOf
 pub mod Starred
+pub mod Found

@@ -8,7 +8,6 @@ ghost use Rattle.pairs.specs.Kept.{modelled, kind_of, side_of, kept_by, kept_pai
 ghost use Rattle.pairs.specs.SourceOf.{reads_from, source_of};
 
 pub mod frame;
-pub mod sources;
 
 use trace::{Op, RECORDS, Trace, first};
 
@@ -91,10 +90,7 @@ pub fn kind(op: Op) -> u8
 fn side(one: bool) -> usize
     ensures { result ≡ side_of one }
 {
-    if one {
-        return 1;
-    }
-    0
+    usize::from(one)
 }
 
 // Whether a model keeps a pair of these kinds without a fence between, told whether both are at one address; a model or a kind that does not
@@ -102,16 +98,8 @@ fn side(one: bool) -> usize
 pub fn kept_by(model: u8, first: u8, second: u8, one: bool) -> bool
     ensures { result ≡ kept_by model first second one }
 {
-    if model <= MODELS {
-        if first < KINDS {
-            if second < KINDS {
-                let m = model as usize;
-                let a = first as usize;
-                let b = second as usize;
-                let s = side(one);
-                return KEPT[m][a][b][s];
-            }
-        }
+    if model <= MODELS && first < KINDS && second < KINDS {
+        return KEPT[model as usize][first as usize][second as usize][side(one)];
     }
     false
 }
@@ -121,8 +109,7 @@ pub fn op_at(t: Trace, i: usize) -> Op
     ensures { result ≡ at t i }
 {
     if i < RECORDS {
-        let record = t.records[i];
-        return record.op;
+        return t.records[i].op;
     }
     Op::Load {
         thread: 0,
@@ -136,17 +123,11 @@ pub fn fenced(t: Trace, x: usize, y: usize) -> bool
     ensures { result ≡ fenced t x y }
 {
     let thread = op_at(t, x).thread();
-    let mut i = 0;
-    while i < y {
-        if RECORDS <= i {
-            return false;
-        }
-        let record = t.records[i];
-        let op = record.op;
+    for i in 0..y.min(RECORDS) {
+        let op = t.records[i].op;
         if op.fence() & (x < i) & (op.thread() == thread) {
             return true;
         }
-        i += 1;
     }
     false
 }
@@ -192,16 +173,11 @@ pub fn source_of(t: Trace, load: usize) -> usize
     if value == begins {
         return RECORDS;
     }
-    let mut i: usize = 0;
-    while i < RECORDS {
-        let record = t.records[i];
-        let a = record.op;
-        if a.written() == value {
-            if (i < n) & (load < n) & (i != load) & reads_from(a, b, begins) {
-                return i;
-            }
+    for i in 0..RECORDS {
+        let a = t.records[i].op;
+        if a.written() == value && (i < n) & (load < n) & (i != load) & reads_from(a, b, begins) {
+            return i;
         }
-        i += 1;
     }
     RECORDS
 }

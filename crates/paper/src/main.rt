@@ -7,12 +7,12 @@ mod asking;
 mod lines;
 
 use asking::{Wanted, asked};
-use lines::{OPEN, say_lines, say_numbers};
+use lines::{OPEN, Split, say_lines, say_numbers};
 use reader::turns::number;
 use reader::{Answer, LOST};
-use reasons::listing::{Listed, write};
+use reasons::listing::{Reason, write};
 use saying::input::fill;
-use saying::{fail, refuse_at, say, tell};
+use saying::{fail, refuse_at};
 use std::io;
 use std::io::{Stderr, Stdin, Stdout};
 use trace::Trace;
@@ -23,126 +23,86 @@ const ROOM: usize = 32769;
 // How many numbers a list may have here.
 const NUMBERS: usize = 65536;
 
-// What came of asking for a list: its model and how many numbers it has, none where it is not shown, and whether it is too long to be shown.
+// A list that lies in lent memory: its model, and how many numbers it has.
 #[derive(Clone, Copy)]
 struct Found {
     model: u8,
     count: usize,
-    long: bool,
 }
 
-// Writes the list for one model into lent memory.
-fn list_under(t: Trace, model: u8, room: &mut [u16]) -> Found {
-    let listed = write(t, model, room);
-    match listed {
-        Listed::Shown(count) => Found {
-            model,
-            count,
-            long: false,
-        },
-        Listed::TooLong => Found {
-            model,
-            count: 0,
-            long: true,
-        },
-        Listed::Nothing => Found {
-            model,
-            count: 0,
-            long: false,
-        },
-        Listed::NoModel => Found {
-            model,
-            count: 0,
-            long: false,
-        },
-        Listed::NotWellFormed => Found {
-            model,
-            count: 0,
-            long: false,
-        },
+// Writes the list for one model into lent memory, if there is one to show.
+fn list_under(t: Trace, model: u8, room: &mut [u16]) -> Result<Option<Found>, Reason> {
+    match write(t, model, room)? {
+        Some(count) => Ok(Some(Found { model, count })),
+        None => Ok(None),
     }
 }
 
 // The same for the first model under which the trace is faulty.
-fn first_list(t: Trace, room: &mut [u16]) -> Found {
-    let mut model: u8 = pairs::SC;
-    while model <= pairs::WMO {
-        let found = list_under(t, model, room);
-        if (0 < found.count) | found.long {
-            return found;
+fn first_list(t: Trace, room: &mut [u16]) -> Result<Option<Found>, Reason> {
+    for model in pairs::SC..=pairs::WMO {
+        let found = list_under(t, model, room)?;
+        if found.is_some() {
+            return Ok(found);
         }
-        model += 1;
     }
-    Found {
-        model: 0,
-        count: 0,
-        long: false,
-    }
+    Ok(None)
 }
 
 // The line with a model's name.
 fn say_model(stdout: Stdout, model: u8) -> io::Result<()> {
     match model {
-        1 => say(stdout, b"SC\n"),
-        2 => say(stdout, b"TSO\n"),
-        3 => say(stdout, b"PSO\n"),
-        _ => say(stdout, b"WMO\n"),
+        1 => println!(stdout; "SC"),
+        2 => println!(stdout; "TSO"),
+        3 => println!(stdout; "PSO"),
+        _ => println!(stdout; "WMO"),
     }
 }
 
 // Prints a list in words.
 fn say_words(stdout: Stdout, list: &[u16], model: u8) -> io::Result<()> {
-    let mut numbers = [0usize; OPEN];
-    let mut xs = [0u16; OPEN];
-    let mut ys = [0u16; OPEN];
+    let mut splits = [Split::default(); OPEN];
     say_model(stdout, model)?;
-    say_lines(stdout, list, &mut numbers, &mut xs, &mut ys)
+    say_lines(stdout, list, &mut splits)
 }
 
 // Prints a list in numbers or in words.
 fn say_list(stdout: Stdout, list: &[u16], model: u8, numbers: bool) -> io::Result<()> {
     if numbers {
-        return say_numbers(stdout, list);
+        say_numbers(stdout, list)
+    } else {
+        say_words(stdout, list, model)
     }
-    say_words(stdout, list, model)
 }
 
-// Prints why there is no list.
-fn say_none(stdout: Stdout, long: bool) -> io::Result<()> {
-    if long {
-        return say(stdout, b"too long\n");
-    }
-    say(stdout, b"nothing to show\n")
-}
-
-// Prints the list that was found, which is the front of the memory, or why there is none.
+// Prints the list that was found, which is the front of the memory.
 fn say_found(stdout: Stdout, room: &[u16], found: Found, numbers: bool) -> io::Result<()> {
-    let count = found.count;
-    if count == 0 {
-        return say_none(stdout, found.long);
+    match room.get(..found.count) {
+        Some(list) => say_list(stdout, list, found.model, numbers),
+        None => println!(stdout; "too long"),
     }
-    if room.len() < count {
-        return say_none(stdout, true);
-    }
-    say_list(stdout, &room[0..count], found.model, numbers)
 }
 
 // Finds the list that is asked for and prints it.
 fn show(stdout: Stdout, t: Trace, what: Wanted) -> io::Result<()> {
     let mut room = [0u16; NUMBERS];
-    if what.model == 0 {
-        let first = first_list(t, &mut room);
-        return say_found(stdout, &room, first, what.numbers);
+    let found = match what.model {
+        Some(model) => list_under(t, model, &mut room),
+        None => first_list(t, &mut room),
+    };
+    match found {
+        Ok(Some(found)) => say_found(stdout, &room, found, what.numbers),
+        Ok(None) | Err(Reason::NoModel | Reason::NotWellFormed) => {
+            println!(stdout; "nothing to show")
+        }
+        Err(Reason::TooLong) => println!(stdout; "too long"),
     }
-    let found = list_under(t, what.model, &mut room);
-    say_found(stdout, &room, found, what.numbers)
 }
 
 // Prints what a text comes to, or tells why it is turned back.
 fn answered(stdout: Stdout, stderr: Stderr, text: &[u8], what: Wanted) -> io::Result<()> {
     let reading = reader::read_whole(text);
-    let answer = reading.answer;
-    match answer {
+    match reading.answer {
         Answer::Good => show(stdout, reading.trace, what),
         Answer::Refused { reason, line } => refuse_at(stderr, number(reason), b" line ", line),
         Answer::Lost => refuse_at(stderr, LOST, b" line ", 0),
@@ -151,26 +111,22 @@ fn answered(stdout: Stdout, stderr: Stderr, text: &[u8], what: Wanted) -> io::Re
 
 // Reads the text and answers it. Where a read failed nothing is told: half a trace may have an order where the whole one has none.
 fn watch(mut stdin: Stdin, stdout: Stdout, stderr: Stderr, what: Wanted) -> io::Result<()> {
-    let mut text: [u8; ROOM] = [0; 32769];
-    let got = fill(&mut stdin, &mut text);
-    let n = got.count;
-    if let Err(why) = got.whole {
-        return fail(stderr, b"paper: standard input", why);
-    }
-    match answered(stdout, stderr, &text[..n], what) {
-        Ok(()) => Ok(()),
-        Err(why) => fail(stderr, b"paper: standard output", why),
+    let mut text = [0u8; ROOM];
+    match fill(&mut stdin, &mut text) {
+        Ok(n) => {
+            answered(stdout, stderr, &text[..n], what).or_else(|why| fail(
+                stderr,
+                b"paper: standard output",
+                why,
+            ))
+        }
+        Err(why) => fail(stderr, b"paper: standard input", why),
     }
 }
 
 fn main(rt: HostRuntime) -> io::Result<()> {
-    let what = asked(&rt);
-    if what.good {
-        watch(rt.stdin(), rt.stdout(), rt.stderr(), what)
-    } else {
-        tell(
-            rt.stderr(),
-            b"usage: paper [numbers] [sc, tso, pso or wmo] < TRACE\n",
-        )
+    match asked(&rt) {
+        Some(what) => watch(rt.stdin(), rt.stdout(), rt.stderr(), what),
+        None => eprintln!(rt; "usage: paper [numbers] [sc, tso, pso or wmo] < TRACE"),
     }
 }

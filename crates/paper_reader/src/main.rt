@@ -2,19 +2,17 @@
 // the line of a text that is turned back. More than one trace and list may be named, each trace with its list behind it.
 #![tactic(auto)]
 
-ghost use Rattle.std.specs.Prelude.{◌≤◌, IfOk, length};
+ghost use Rattle.std.specs.Prelude.{◌≤◌, IfOk, IfSome, length};
 
-use papers::reading::{Acceptance, accepts};
+use papers::reading::{Refusal, accepts};
 use reader::Answer;
 use reader::turns::number;
 use saying::args::{arg, arg_count};
 use saying::input::fill_file;
-use saying::{say, say_u8, say_usize, tell};
 use std::env::Env;
 use std::io;
 use std::io::Stdout;
 use std::rt::Files;
-use text::digits::run_at;
 use trace::Trace;
 
 // How many numbers a list may have here; the library takes any.
@@ -23,95 +21,63 @@ const NUMBERS: usize = 65536;
 // How many bytes its file may have.
 const BYTES: usize = 393216;
 
-// What a file has: how many numbers, and whether it has nothing else.
-#[derive(Clone, Copy)]
-struct NumbersRead {
-    count: usize,
-    good: bool,
-}
-
-// Puts a number at a place, where there is one.
-fn put(list: &mut [u16], i: usize, x: u16) {
-    if i < list.len() {
-        list[i] = x;
+// The number that a word is; none where anything but digits stands in it, or it is past 65,535.
+fn number_of(word: &[u8]) -> Option<u16> {
+    if word.iter().all(|b| b.is_ascii_digit()) {
+        str::from_utf8(word).ok()?.parse().ok()
+    } else {
+        None
     }
 }
 
-// Takes the decimal numbers of a file into the list; spaces and line feeds stand between them.
-fn numbers(bytes: &[u8], list: &mut [u16]) -> NumbersRead
-    ensures { result.count ≤ length list.new }
+// Takes the decimal numbers of a file into the list, spaces and line feeds between them: how many; none where there is anything else, or no place is left.
+fn numbers(bytes: &[u8], list: &mut [u16]) -> Option<usize>
+    ensures { IfSome result (λ n. n ≤ length list.new) }
 {
     let mut count: usize = 0;
-    let mut at: usize = 0;
-    while at < bytes.len() {
-        let run = run_at(bytes, at);
-        let end = run.end;
-        let value = run.value;
-        if at < end {
-            if 65535 < value {
-                return NumbersRead {
-                    count: 0,
-                    good: false,
-                };
+    for word in bytes.split(|b| matches!(*b, b' ' | b'\n')) {
+        if !word.is_empty() {
+            let x = number_of(word)?;
+            if count == list.len() {
+                return None;
             }
-            put(list, count, value as u16);
+            list[count] = x;
             count += 1;
-            at = end;
-        } else {
-            let b = bytes[at];
-            if (b != b' ') & (b != b'\n') {
-                return NumbersRead {
-                    count: 0,
-                    good: false,
-                };
-            }
-            at += 1;
         }
     }
-    if list.len() < count {
-        return NumbersRead {
-            count: 0,
-            good: false,
-        };
-    }
-    NumbersRead { count, good: true }
+    Some(count)
 }
 
-fn say_model(stdout: Stdout, name: &[u8], t: Trace, model: u8, list: &[u16]) -> io::Result<()> {
-    say(stdout, name)?;
-    let a = accepts(t, model, list);
-    match a {
-        Acceptance::Accepted => say(stdout, b": accepted\n"),
-        Acceptance::NotAccepted => say(stdout, b": not accepted\n"),
-        Acceptance::NoModel => say(stdout, b": refused 9\n"),
-        Acceptance::NotWellFormed => say(stdout, b": refused 10\n"),
+fn say_model(stdout: Stdout, name: &str, t: Trace, model: u8, list: &[u16]) -> io::Result<()> {
+    match accepts(t, model, list) {
+        Ok(true) => println!(stdout; "{name}: accepted"),
+        Ok(false) => println!(stdout; "{name}: not accepted"),
+        Err(Refusal::NoModel) => println!(stdout; "{name}: refused 9"),
+        Err(Refusal::NotWellFormed) => println!(stdout; "{name}: refused 10"),
     }
 }
 
 fn say_models(stdout: Stdout, t: Trace, list: &[u16]) -> io::Result<()> {
-    say_model(stdout, b"SC", t, pairs::SC, list)?;
-    say_model(stdout, b"TSO", t, pairs::TSO, list)?;
-    say_model(stdout, b"PSO", t, pairs::PSO, list)?;
-    say_model(stdout, b"WMO", t, pairs::WMO, list)
+    say_model(stdout, "SC", t, pairs::SC, list)?;
+    say_model(stdout, "TSO", t, pairs::TSO, list)?;
+    say_model(stdout, "PSO", t, pairs::PSO, list)?;
+    say_model(stdout, "WMO", t, pairs::WMO, list)
 }
 
 fn say_refused(stdout: Stdout, n: u8, line: usize) -> io::Result<()> {
-    say_u8(stdout, b"refused ", n)?;
-    say_usize(stdout, b" line ", line)?;
-    say(stdout, b"\n")
+    println!(stdout; "refused {n} line {line}")
 }
 
 fn answer(stdout: Stdout, text: &[u8], list: &[u16]) -> io::Result<()> {
     let reading = reader::read_whole(text);
-    let a = reading.answer;
-    match a {
+    match reading.answer {
         Answer::Good => say_models(stdout, reading.trace, list),
         Answer::Refused { reason, line } => say_refused(stdout, number(reason), line),
         Answer::Lost => say_refused(stdout, 22, 0),
     }
 }
 
-// What the file that argument i names has, in lent memory.
+// What the file that word i of the arguments names has, in lent memory.
 fn fill(rt: &(impl Files + Env), i: usize, buf: &mut [u8]) -> io::Result<usize>
     ensures { IfOk result (λ n. n ≤ length buf.new) }
 {
@@ -120,7 +86,7 @@ fn fill(rt: &(impl Files + Env), i: usize, buf: &mut [u8]) -> io::Result<usize>
     fill_file(rt, &name[..n], buf)
 }
 
-// One trace and its list, which arguments i and j name, in lent memory.
+// One trace and its list, which words i and j of the arguments name, in lent memory.
 fn answer_files(
     rt: &(impl Files + Env),
     stdout: Stdout,
@@ -128,16 +94,13 @@ fn answer_files(
     j: usize,
     text: &mut [u8],
     bytes: &mut [u8],
-    list: &mut [u16],
+    room: &mut [u16],
 ) -> io::Result<()> {
     let got = fill(rt, i, text)?;
     let read = fill(rt, j, bytes)?;
-    let listed = numbers(&bytes[..read], list);
-    let count = listed.count;
-    if listed.good {
-        answer(stdout, &text[..got], &list[..count])
-    } else {
-        say(stdout, b"no list of numbers\n")
+    match numbers(&bytes[..read], room) {
+        Some(count) => answer(stdout, &text[..got], &room[..count]),
+        None => println!(stdout; "no list of numbers"),
     }
 }
 
@@ -149,15 +112,14 @@ fn case(rt: &(impl Files + Env), stdout: Stdout, i: usize, j: usize) -> io::Resu
     answer_files(rt, stdout, i, j, &mut text, &mut bytes, &mut list)
 }
 
+// The words in twos: a trace, and a list.
 fn main(rt: HostRuntime) -> io::Result<()> {
     let count = arg_count(&rt);
     if count < 3 {
-        return tell(rt.stderr(), b"usage: paper_reader TRACE LIST ..\n");
+        return eprintln!(rt; "usage: paper_reader TRACE LIST ..");
     }
-    let mut i: usize = 1;
-    while 1 < count - i {
-        case(&rt, rt.stdout(), i, i + 1)?;
-        i += 2;
+    for k in 0..(count - 1) / 2 {
+        case(&rt, rt.stdout(), 2 * k + 1, 2 * k + 2)?;
     }
     Ok(())
 }

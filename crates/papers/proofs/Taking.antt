@@ -25,8 +25,8 @@ use Rattle.rules.specs.Rules.{nothing}
 use Rattle.rules.specs.RuleTests.{writer?, source?, first?, rules, gives?}
 use Rattle.papers.specs.Paper.{Claim, Entry, edge_at, named, leads, arrives, chained, BRANCH, branch_room, may_rest, splits, fits, refutes}
 use Rattle.papers.specs.inner.ReaderBranch.{branch_of, between, link_of, link_joins, linked, others_of, stack_of, goals_of, branch_after, went, Taken}
-use Rattle.papers.specs.declared.reading.Link.{Link}
-use Rattle.papers.specs.declared.reading.Link.TheVariants.{Between, Nowhere}
+use Rattle.std.specs.Prelude.{Some, None}
+use Rattle.std.specs.Prelude as std
 use Rattle.papers.specs.declared.reading.Turn.TheVariants.{Goes, Closed, Wrong}
 use Rattle.papers.proofs.Branches.{branch-long, branch-more, same_branch, same-others, set_same}
 
@@ -70,14 +70,14 @@ guard : (a p q : Bool) → (So a → p ≡ q) → (a && p) ≡ (a && q)
 guard true p q h = h refl
 guard false p q h = refl
 
-joins-in : (l : Link) (x y : ℕ) → x < RECORDS → y < RECORDS → link_joins l x y ≡ linked l x y
+joins-in : (l : std.Option (ℕ × ℕ)) (x y : ℕ) → x < RECORDS → y < RECORDS → link_joins l x y ≡ linked l x y
 unfolding link_joins linked
-joins-in (Between a b) x y hx hy =
+joins-in (Some (a, b)) x y hx hy =
     test-one {A = (a ≡ x) × (b ≡ y)}
     (let q : So ((ltb a RECORDS && ltb b RECORDS) && (eqb x a && eqb y b)) ↔ (((a < RECORDS) × (b < RECORDS)) × ((x ≡ a) × (y ≡ b))) = and-iff (and-iff so-lt so-lt) (and-iff so-eq so-eq) in
     (λ t. let p = q.0 t in (sym p.1.0, sym p.1.1), λ e. q.1 ((omega (arith, hx, e.0), omega (arith, hy, e.1)), (sym e.0, sym e.1))))
     (and-iff so-eq so-eq)
-joins-in Nowhere x y hx hy = refl
+joins-in None x y hx hy = refl
 
 module _ (t : Trace) (h : t.len ≤ RECORDS) where
   writer_in : (S L : ℕ) → So (writer? (frame_of t) S L) → S < RECORDS
@@ -96,7 +96,7 @@ module _ (t : Trace) (h : t.len ≤ RECORDS) where
       let b = left (writer? f S L && f.reads L) (eqb (f.read L) (f.written S)) a in
       (writer_in S L (left (writer? f S L) (f.reads L) b), reads_in L (right (writer? f S L) (f.reads L) b))
 
-  pub gives-link : (K : Table) (l : Link) (x y r : ℕ) → gives? (frame_of t) K nothing (link_joins l) x y r ≡ gives? (frame_of t) K nothing (linked l) x y r
+  pub gives-link : (K : Table) (l : std.Option (ℕ × ℕ)) (x y r : ℕ) → gives? (frame_of t) K nothing (link_joins l) x y r ≡ gives? (frame_of t) K nothing (linked l) x y r
   unfolding gives? rules
   gives-link K l x y r =
       let f = frame_of t in

@@ -17,6 +17,7 @@ use native.Mathlib.Omega.{arith}
 use borrow.Author.Tests.{lt-ltb, le-ltb, le-leb, lt-leb, eq-eqb, ne_eqb}
 use lib.Dec.{ltb}
 use lib.ListN.{length, set, take, drop}
+use Rattle.std.specs.Prelude.{Option, Some, None, Result, Ok, Err}
 use Rattle.laws.proofs.Tests.{test}
 use Rattle.trace.specs.Trace.{empty, started, pushed}
 use Rattle.trace.specs.declared.Op.{Op}
@@ -27,9 +28,7 @@ use Rattle.reader.specs.Answer.{turned, init_given}
 use Rattle.reader.specs.Bounds.{TEXT}
 use Rattle.reader.specs.Read.{none, read_lines, read_inits, read_text, bad_lines, bad_inits, bad_line_of}
 use Rattle.reader.specs.declared.Init.{Init}
-use Rattle.reader.specs.declared.Init.TheVariants as init
-use Rattle.reader.specs.declared.Turn.{Turn}
-use Rattle.reader.specs.declared.Turn.TheVariants.{Taken, Refused}
+use Rattle.reader.specs.declared.Reason.{Reason}
 use Rattle.reader.proofs.Walks.{read_taken, bad-taken, read-refused, bad-refused, read-begun, bad-begun, read_left, bad-left}
 use Rattle.reader.specs.declared.Reading.{Reading}
 use Rattle.reader.specs.BadLine.{line_in, bad_line_number, passed, line_start, line_end, start_of, end_of}
@@ -90,9 +89,9 @@ module _ (text : List ℕ) where
     where
       go : line_at text (passed text k) ≡ l.bytes
           → ((o : Op) → Tells (line_in (read_lines (k + 1 + 1) (pushed t o) ls).answer) (bad_lines (pushed t o) ls))
-          → (r : Turn) → turned t l ≡ r → Tells (line_in (read_lines (k + 1) t (l ∷ ls)).answer) (bad_lines t (l ∷ ls))
-      go b f (Taken o) q = rw (read_taken t l ls o q (k + 1), bad-taken t l ls o q) (f o)
-      go b f (Refused reason) q =
+          → (r : Result Op Reason) → turned t l ≡ r → Tells (line_in (read_lines (k + 1) t (l ∷ ls)).answer) (bad_lines t (l ∷ ls))
+      go b f (Ok o) q = rw (read_taken t l ls o q (k + 1), bad-taken t l ls o q) (f o)
+      go b f (Err reason) q =
           rw (read-refused t l ls reason q (k + 1), bad-refused t l ls reason q)
           record { none = λ z. absurd (omega arith); some = λ _. sym b ∙ ap (λ (n : ℕ). line_at text (passed text n)) (let z : k ≡ k + 1 - 1 = omega arith in z) }
 
@@ -103,9 +102,9 @@ module _ (text : List ℕ) where
   walk-inits (l ∷ ls) given t k e = go (λ a v. walk-inits ls (set given a true) (started t a v) (k + 1) (rw add-one (rest_lines k l ls e))) (init_given given l) refl
     where
       go : ((a v : ℕ) → Tells (line_in (read_inits (k + 1 + 1) (set given a true) (started t a v) ls).answer) (bad_inits (set given a true) (started t a v) ls))
-          → (i : Init) → init_given given l ≡ i → Tells (line_in (read_inits (k + 1) given t (l ∷ ls)).answer) (bad_inits given t (l ∷ ls))
-      go f (init.Of a v) q = rw (read-begun t l ls given a v q (k + 1), bad-begun t l ls given a v q) (f a v)
-      go f init.Nothing q = rw (read_left t l ls given q (k + 1), bad-left t l ls given q) (walk (l ∷ ls) t k e)
+          → (i : Option Init) → init_given given l ≡ i → Tells (line_in (read_inits (k + 1) given t (l ∷ ls)).answer) (bad_inits given t (l ∷ ls))
+      go f (Some i) q = rw (read-begun t l ls given i.addr i.value q (k + 1), bad-begun t l ls given i.addr i.value q) (f i.addr i.value)
+      go f None q = rw (read_left t l ls given q (k + 1), bad-left t l ls given q) (walk (l ∷ ls) t k e)
 
   tells : Tells (bad_line_number text) (bad_line_of text)
   unfolding read_text bad_line_of passed

@@ -6,6 +6,7 @@
 --   init-late, init-nothing    == what an init line leads to, cut or not
 --   beginning-cut, beginning-none == whether it gives a first value, cut or not
 --   checked-cut           == cutting a number past every bound changes nothing that a record gets
+use Rattle.std.specs.Prelude.{Option, Some, None, Err}
 use mathlib.Core.Path.{◌≡◌, refl, sym, ap, ◌∙◌}
 use mathlib.Core.Bool.{Bool, So, ◌&&◌}
 use mathlib.Core.Logic.{◌↔◌, inl, inr}
@@ -22,15 +23,11 @@ use Rattle.trace.specs.declared.Op.{Op}
 use Rattle.trace.specs.declared.Op.TheVariants as op
 use Rattle.trace.specs.declared.Trace.{Trace}
 use Rattle.text.specs.Number.{cut}
-use Rattle.reader.specs.LineForms.{cut_raw, cut_form, cut_init, raw_of}
+use Rattle.reader.specs.LineForms.{cut_raw, cut_form, init, cut_init, raw_of}
 use Rattle.reader.specs.declared.Init.{Init}
-use Rattle.reader.specs.declared.Init.TheVariants as init
 use Rattle.reader.specs.Answer.{in_bounds, checked, late, unformed, checked_form, beginning}
 use Rattle.reader.specs.declared.Raw.{Raw}
 use Rattle.reader.specs.declared.Raw.TheVariants.{Load, Store, Swap, Fence}
-use Rattle.reader.specs.declared.Form.{Form}
-use Rattle.reader.specs.declared.Form.TheVariants.{Of, Nothing}
-use Rattle.reader.specs.declared.Turn.TheVariants.{Refused}
 use Rattle.reader.specs.declared.Reason.TheVariants.{NoForm}
 
 pub load-within : {raw : Raw} {t a r : ℕ} → So (in_bounds raw) → raw ≡ Load t a r → (t < THREADS) × (a < ADDRESSES) × (r < VALUES)
@@ -98,35 +95,35 @@ checked-cut t raw =
       | inr h ↦ rw (in-bounds-cut raw, h)
     ]
 
-pub form-checked : (t : Trace) (f : Form) (i : Init) (raw : Raw) → Of raw ≡ cut_form f → checked t raw ≡ checked_form t f i
-form-checked t (Of r) i raw e = ap (checked t) (let q : raw ≡ cut_raw r = cc in q) ∙ checked-cut t r
-form-checked t Nothing i raw e = let z : ◌≡◌ {A = ℕ} 0 1 = cc in absurd (omega arith)
+pub form-checked : (t : Trace) (f : Option Raw) (i : Option Init) (raw : Raw) → Some raw ≡ cut_form f → checked t raw ≡ checked_form t f i
+form-checked t (Some r) i raw e = ap (checked t) (let q : raw ≡ cut_raw r = cc in q) ∙ checked-cut t r
+form-checked t None i raw e = let z : ◌≡◌ {A = ℕ} 0 1 = cc in absurd (omega arith)
 
-pub form-nothing : (t : Trace) (f : Form) (i : Init) → Nothing ≡ cut_form f → unformed i ≡ checked_form t f i
-form-nothing t (Of r) i e = let z : ◌≡◌ {A = ℕ} 0 1 = cc in absurd (omega arith)
-form-nothing t Nothing i e = refl
+pub form-nothing : (t : Trace) (f : Option Raw) (i : Option Init) → None ≡ cut_form f → unformed i ≡ checked_form t f i
+form-nothing t (Some r) i e = let z : ◌≡◌ {A = ℕ} 0 1 = cc in absurd (omega arith)
+form-nothing t None i e = refl
 
 -- nor does what an init line gets
 late-cut : (a v : ℕ) → late (cut a) (cut v) ≡ late a v
 unfolding late
 late-cut a v = rw (cut-address a, cut_below v)
 
-pub init-late : (i : Init) (a v : ℕ) → init.Of a v ≡ cut_init i → late a v ≡ unformed i
-init-late (init.Of b w) a v e = ap (λ (j : Init). unformed j) e ∙ late-cut b w
-init-late init.Nothing a v e = let z : ◌≡◌ {A = ℕ} 0 1 = cc in absurd (omega arith)
+pub init-late : (i : Option Init) (a v : ℕ) → Some (init a v) ≡ cut_init i → late a v ≡ unformed i
+init-late (Some i) a v e = ap (λ (j : Option Init). unformed j) e ∙ late-cut i.addr i.value
+init-late None a v e = let z : ◌≡◌ {A = ℕ} 0 1 = cc in absurd (omega arith)
 
-pub init-nothing : (i : Init) → init.Nothing ≡ cut_init i → Refused NoForm ≡ unformed i
-init-nothing (init.Of b w) e = let z : ◌≡◌ {A = ℕ} 0 1 = cc in absurd (omega arith)
-init-nothing init.Nothing e = refl
+pub init-nothing : (i : Option Init) → None ≡ cut_init i → Err NoForm ≡ unformed i
+init-nothing (Some i) e = let z : ◌≡◌ {A = ℕ} 0 1 = cc in absurd (omega arith)
+init-nothing None e = refl
 
 -- nor whether an init line gives a first value
-pub beginning-cut : (given : List Bool) (i : Init) (a v : ℕ) → init.Of a v ≡ cut_init i → beginning given (init.Of a v) ≡ beginning given i
-beginning-cut given (init.Of b w) a v e = ap (beginning given) e ∙ elim (test (ltb b ADDRESSES && ltb w VALUES)) [
-  | inl h ↦ let p = (and-iff (so-lt {m = b}) (so-lt {m = w})).0 h in rw (uncut b (omega (arith, p.0)), uncut w p.1) refl
-  | inr h ↦ rw (cut-address b, cut_below w, h) refl
+pub beginning-cut : (given : List Bool) (i : Option Init) (a v : ℕ) → Some (init a v) ≡ cut_init i → beginning given (Some (init a v)) ≡ beginning given i
+beginning-cut given (Some i) a v e = ap (beginning given) e ∙ elim (test (ltb i.addr ADDRESSES && ltb i.value VALUES)) [
+  | inl h ↦ let p = (and-iff (so-lt {m = i.addr}) (so-lt {m = i.value})).0 h in rw (uncut i.addr (omega (arith, p.0)), uncut i.value p.1) refl
+  | inr h ↦ rw (cut-address i.addr, cut_below i.value, h) refl
 ]
-beginning-cut given init.Nothing a v e = let z : ◌≡◌ {A = ℕ} 0 1 = cc in absurd (omega arith)
+beginning-cut given None a v e = let z : ◌≡◌ {A = ℕ} 0 1 = cc in absurd (omega arith)
 
-pub beginning-none : (given : List Bool) (i : Init) → init.Nothing ≡ cut_init i → init.Nothing ≡ beginning given i
-beginning-none given (init.Of b w) e = let z : ◌≡◌ {A = ℕ} 0 1 = cc in absurd (omega arith)
-beginning-none given init.Nothing e = refl
+pub beginning-none : (given : List Bool) (i : Option Init) → None ≡ cut_init i → None ≡ beginning given i
+beginning-none given (Some i) e = let z : ◌≡◌ {A = ℕ} 0 1 = cc in absurd (omega arith)
+beginning-none given None e = refl

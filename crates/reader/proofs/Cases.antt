@@ -8,6 +8,7 @@
 --   read-good         == a text is read exactly when it is not too long and all its lines are clean
 --   part_at           == the part beside a refusal is the line that is turned back
 --   part-long, part-good == it is empty where the text is too long or good
+use Rattle.std.specs.Prelude.{Option, Some, None, Result, Ok, Err}
 use mathlib.Core.Path.{◌≡◌, refl, sym, ap, subst, ◌∙◌}
 use mathlib.Core.Logic.{◌↔◌, ◌⊎◌, inl, inr}
 use mathlib.Core.Bool.{Bool, true, false, ◌&&◌, cond, So, false≢true}
@@ -31,18 +32,13 @@ use Rattle.reader.specs.Bounds.{TEXT, LINE}
 use Rattle.text.specs.Lines.{Line, lines}
 use Rattle.reader.specs.LineForms.{render, render_init, form_of, init_of, raw_of}
 use Rattle.reader.specs.declared.Init.{Init}
-use Rattle.reader.specs.declared.Init.TheVariants as init
 use Rattle.reader.specs.Answer.{number_of, in_bounds, one_address, op_of, joined, checked, late, unformed, checked_form, turned, init_given}
 use Rattle.reader.specs.Read.{refusal, read_lines, read_inits, read_text, bad_lines, bad_inits, bad_line_of}
 use Rattle.reader.specs.Cases.{Renders, Begins, Past, PastInit, TwoAddresses, Above, top, with_init, grown, LateInit, Case, NoLower, LowestCase, Free, Clean, CleanInit, Took, nothing, begin, next, ReachesLine, AtLine, Back, long, line}
 use Rattle.reader.specs.declared.Raw.{Raw}
 use Rattle.reader.specs.declared.Raw.TheVariants.{Load, Store, Swap, Fence}
-use Rattle.reader.specs.declared.Form.{Form}
-use Rattle.reader.specs.declared.Form.TheVariants.{Of, Nothing}
 use Rattle.reader.specs.declared.Reason.{Reason}
 use Rattle.reader.specs.declared.Reason.TheVariants.{LongText, LongLine, NoForm, PastBound, Addresses, FirstValue, TooMany, Twice, Late}
-use Rattle.reader.specs.declared.Turn.{Turn}
-use Rattle.reader.specs.declared.Turn.TheVariants as turn
 use Rattle.reader.specs.declared.Answer.{Answer}
 use Rattle.reader.specs.declared.Answer.TheVariants as answer
 use Rattle.reader.specs.declared.Reading.{Reading}
@@ -112,9 +108,9 @@ raw-op (Fence t) h = refl
 -- ---- a line
 
 -- what a turn says of its line
-data Verdict (s : Above) (l : Line) : Turn → Type 0 where
-  clean : {o : Op} → Clean s l o → Verdict s l (turn.Taken o)
-  bad : {reason : Reason} → LowestCase reason s l → Verdict s l (turn.Refused reason)
+data Verdict (s : Above) (l : Line) : Result Op Reason → Type 0 where
+  clean : {o : Op} → Clean s l o → Verdict s l (Ok o)
+  bad : {reason : Reason} → LowestCase reason s l → Verdict s l (Err reason)
 
 module _ (s : Above) (l : Line) where
   abbrev t : Trace
@@ -127,12 +123,12 @@ module _ (s : Above) (l : Line) where
   past_one : (reason : Reason) → (Case reason s l → ⊥) → NoLower reason s l → Under (suc (number_of reason))
   past_one reason c low other h k = elim (last? h) [ inl q ↦ c (subst (λ r. Case r s l) (number-one other reason q) k) | inr m ↦ low other m k ]
 
-  module _ (reason : Reason) {rest : Turn} (low : NoLower reason s l) (next : Under (suc (number_of reason)) → Verdict s l rest) where
-    when : {b : Bool} → So b ↔ Case reason s l → Verdict s l (cond b (turn.Refused reason) rest)
+  module _ (reason : Reason) {rest : Result Op Reason} (low : NoLower reason s l) (next : Under (suc (number_of reason)) → Verdict s l rest) where
+    when : {b : Bool} → So b ↔ Case reason s l → Verdict s l (cond b (Err reason) rest)
     when {b = true} c = bad (c.0 refl, low)
     when {b = false} c = next (past_one reason (λ k. false≢true (c.1 k)) low)
 
-    unless : {b : Bool} → (b ≡ false) ↔ Case reason s l → Verdict s l (cond b rest (turn.Refused reason))
+    unless : {b : Bool} → (b ≡ false) ↔ Case reason s l → Verdict s l (cond b rest (Err reason))
     unless {b = true} c = next (past_one reason (λ k. false≢true (sym (c.1 k))) low)
     unless {b = false} c = bad (c.0 refl, low)
 
@@ -235,16 +231,16 @@ module _ (s : Above) (l : Line) where
   abbrev Stuck : Type 0
   Stuck = (a v : ℕ) → Good s.given l a v → 0 < t.len
 
-  unformed-right : Stuck → NoLower NoForm s l → l.ended ≡ true → form_of l.bytes ≡ Nothing → (i : Init) → init_of l.bytes ≡ i → Verdict s l (unformed i)
-  unformed-right stuck low p q (init.Of a v) r =
-      let e = init-only l.bytes a v r in
-      late-right a v e (stuck a v) (past_one NoForm (λ c. elim c [ inl f ↦ false≢true (sym f ∙ p) | inr n ↦ n.1 a v e ]) low)
-  unformed-right stuck low p q init.Nothing r = bad {reason = NoForm} (inr ((no-form l.bytes).0 q, init-none l.bytes r), low)
+  unformed-right : Stuck → NoLower NoForm s l → l.ended ≡ true → form_of l.bytes ≡ None → (i : Option Init) → init_of l.bytes ≡ i → Verdict s l (unformed i)
+  unformed-right stuck low p q (Some i) r =
+      let e = init-only l.bytes i.addr i.value r in
+      late-right i.addr i.value e (stuck i.addr i.value) (past_one NoForm (λ c. elim c [ inl f ↦ false≢true (sym f ∙ p) | inr n ↦ n.1 i.addr i.value e ]) low)
+  unformed-right stuck low p q None r = bad {reason = NoForm} (inr ((no-form l.bytes).0 q, init-none l.bytes r), low)
 
   -- number 3
-  form-right : Stuck → NoLower NoForm s l → (b : Bool) → l.ended ≡ b → (f : Form) → form_of l.bytes ≡ f → Verdict s l (cond b (checked_form t f (init_of l.bytes)) (turn.Refused NoForm))
-  form-right stuck low true p (Of raw) q = let e = form-only l.bytes raw q in checked-right raw e (past_one NoForm (λ c. elim c [ inl f ↦ false≢true (sym f ∙ p) | inr n ↦ n.0 raw e ]) low)
-  form-right stuck low true p Nothing q = unformed-right stuck low p q (init_of l.bytes) refl
+  form-right : Stuck → NoLower NoForm s l → (b : Bool) → l.ended ≡ b → (f : Option Raw) → form_of l.bytes ≡ f → Verdict s l (cond b (checked_form t f (init_of l.bytes)) (Err NoForm))
+  form-right stuck low true p (Some raw) q = let e = form-only l.bytes raw q in checked-right raw e (past_one NoForm (λ c. elim c [ inl f ↦ false≢true (sym f ∙ p) | inr n ↦ n.0 raw e ]) low)
+  form-right stuck low true p None q = unformed-right stuck low p q (init_of l.bytes) refl
   form-right stuck low false p f q = bad (inl p, low)
 
   turned_right : Stuck → Verdict s l (turned t l)
@@ -271,28 +267,28 @@ module _ (s : Above) (l : Line) where
     elim (dec_lt 0 t.len) [ yes h ↦ absurd (c.0 Late (a, v, c.1, inl h)) | no h ↦ omega arith ],
   )
 
-  pub turned-refused : Stuck → (reason : Reason) → (turned t l ≡ turn.Refused reason) ↔ LowestCase reason s l
+  pub turned-refused : Stuck → (reason : Reason) → (turned t l ≡ Err reason) ↔ LowestCase reason s l
   turned-refused stuck reason = (λ e. lowest (subst (Verdict s l) e (turned_right stuck)), λ c. go c (turned t l) (turned_right stuck))
     where
-      lowest : Verdict s l (turn.Refused reason) → LowestCase reason s l
+      lowest : Verdict s l (Err reason) → LowestCase reason s l
       lowest (bad c) = c
 
-      go : LowestCase reason s l → (w : Turn) → Verdict s l w → w ≡ turn.Refused reason
-      go c (turn.Taken o) (clean d) = absurd (d.0 reason c.0)
-      go c (turn.Refused other) (bad d) = elim (which (number_of other) (number_of reason)) [
+      go : LowestCase reason s l → (w : Result Op Reason) → Verdict s l w → w ≡ Err reason
+      go c (Ok o) (clean d) = absurd (d.0 reason c.0)
+      go c (Err other) (bad d) = elim (which (number_of other) (number_of reason)) [
         | inl h ↦ absurd (c.1 other h d.0)
-        | inr h ↦ elim h [ inl q ↦ ap turn.Refused (number-one other reason q) | inr m ↦ absurd (d.1 reason m c.0) ]
+        | inr h ↦ elim h [ inl q ↦ ap Err (number-one other reason q) | inr m ↦ absurd (d.1 reason m c.0) ]
       ]
 
-  pub turned_taken : Stuck → (o : Op) → (turned t l ≡ turn.Taken o) ↔ Clean s l o
+  pub turned_taken : Stuck → (o : Op) → (turned t l ≡ Ok o) ↔ Clean s l o
   turned_taken stuck o = (λ e. cleaned (subst (Verdict s l) e (turned_right stuck)), λ c. go c (turned t l) (turned_right stuck))
     where
-      cleaned : Verdict s l (turn.Taken o) → Clean s l o
+      cleaned : Verdict s l (Ok o) → Clean s l o
       cleaned (clean c) = c
 
-      go : Clean s l o → (w : Turn) → Verdict s l w → w ≡ turn.Taken o
-      go c (turn.Refused reason) (bad d) = absurd (c.0 reason d.0)
-      go c (turn.Taken p) (clean d) = ap turn.Taken (render-op-one p o (sym d.1 ∙ c.1))
+      go : Clean s l o → (w : Result Op Reason) → Verdict s l w → w ≡ Ok o
+      go c (Err reason) (bad d) = absurd (c.0 reason d.0)
+      go c (Ok p) (clean d) = ap Ok (render-op-one p o (sym d.1 ∙ c.1))
 
   -- where a line is judged without regard to init lines
   clean-stuck : (o : Op) → Clean s l o → Stuck
@@ -310,9 +306,9 @@ module _ (s : Above) (l : Line) where
   judged : Stuck → Which
   judged stuck = go (turned t l) (turned_right stuck)
     where
-      go : (w : Turn) → Verdict s l w → Which
-      go (turn.Taken o) (clean c) = record-line o c
-      go (turn.Refused reason) (bad c) = bad-line reason c
+      go : (w : Result Op Reason) → Verdict s l w → Which
+      go (Ok o) (clean c) = record-line o c
+      go (Err reason) (bad c) = bad-line reason c
 
   pub each : Which
   each = elim (dec_lt 0 t.len) [
@@ -320,9 +316,9 @@ module _ (s : Above) (l : Line) where
     | no h ↦ go (omega arith) (init_given s.given l) refl
   ]
     where
-      go : t.len ≡ 0 → (i : Init) → init_given s.given l ≡ i → Which
-      go n (init.Of a v) q = let g = begins-good s.given l a v q in init-line a v (good-free a v g n, g.text)
-      go n init.Nothing q = judged (λ a v g. absurd (begins-none s.given l q a v g))
+      go : t.len ≡ 0 → (i : Option Init) → init_given s.given l ≡ i → Which
+      go n (Some i) q = let g = begins-good s.given l i.addr i.value q in init-line i.addr i.value (good-free i.addr i.value g n, g.text)
+      go n None q = judged (λ a v g. absurd (begins-none s.given l q a v g))
 
 -- ---- a text
 abbrev pub good_of : Trace → Reading
@@ -356,12 +352,12 @@ bad-end s = elim (test (eqb s.trace.len 0)) [ inl e ↦ rw e refl | inr e ↦ rw
 
 module _ (s : Above) (l : Line) (ls : List Line) where
   -- no first value is given here
-  left : Stuck s l → So (eqb s.trace.len 0) → init_given s.given l ≡ init.Nothing
+  left : Stuck s l → So (eqb s.trace.len 0) → init_given s.given l ≡ None
   left stuck e = go (init_given s.given l) refl
     where
-      go : (i : Init) → init_given s.given l ≡ i → i ≡ init.Nothing
-      go (init.Of a v) q = let h = stuck a v (begins-good s.given l a v q) in absurd (omega (arith, eqb-true s.trace.len 0 e))
-      go init.Nothing q = refl
+      go : (i : Option Init) → init_given s.given l ≡ i → i ≡ None
+      go (Some i) q = let h = stuck i.addr i.value (begins-good s.given l i.addr i.value q) in absurd (omega (arith, eqb-true s.trace.len 0 e))
+      go None q = refl
 
   stuck-reads : Stuck s l → (n : ℕ) → read_on n s (l ∷ ls) ≡ read_lines n s.trace (l ∷ ls)
   stuck-reads stuck n = elim (test (eqb s.trace.len 0)) [

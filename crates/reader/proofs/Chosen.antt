@@ -9,6 +9,7 @@
 --   colon-there, colon-none, colon-inside == a colon and a space at a place
 --   init-taken, init-left == an init line is found, or it is none
 --   no-thread, no-colon, with-thread == what the beginning of a line says of its form
+use Rattle.std.specs.Prelude.{Option, Some, None, unwrap_or}
 use mathlib.Core.Path.{◌≡◌, refl, sym, ap, ◌∙◌}
 use mathlib.Core.Bool.{Bool, true, false, true≢false, ◌&&◌, and-false, cond}
 use mathlib.Core.List.{List, [], ◌∷◌, map}
@@ -22,13 +23,9 @@ use lib.ListN.{length, drop, get_or, replicate, get_or-map}
 use Rattle.trace.specs.Bounds.{VALUES}
 use Rattle.text.specs.Number.{digits, value, is_number, cut}
 use Rattle.text.specs.Template.{HOLE, NUMBERS, Hit, hit, miss, also, begins, found, fit_from, fitted}
-use Rattle.reader.specs.LineForms.{thread_then, store_rest, load_rest, swap_rest, sync, or_else, cut_raw, cut_form, store_of, load_of, swap_of, fence_of, form_of, init_form, init_hit, init_of, cut_init}
-use Rattle.reader.specs.declared.Init.TheVariants as init
+use Rattle.reader.specs.LineForms.{thread_then, store_rest, load_rest, swap_rest, sync, or_else, cut_raw, cut_form, store_of, load_of, swap_of, fence_of, form_of, init_form, init, init_hit, init_of, cut_init}
 use Rattle.reader.specs.inner.AfterThread.{fence_else, swap_else, load_else, plain_of, exchange_of, sync_of, first_form, behind_of}
-use Rattle.text.specs.declared.Fit.{Fit}
 use Rattle.reader.specs.declared.Raw.{Raw}
-use Rattle.reader.specs.declared.Form.{Form}
-use Rattle.reader.specs.declared.Form.TheVariants.{Of, Nothing}
 use Rattle.text.proofs.Fits.{number_is, begins-at, begins-past}
 
 unfoldable pub Makes : (List ℕ → Raw) → Type 0
@@ -50,32 +47,32 @@ pub fence-makes : Makes fence_of
 unfolding Makes
 fence-makes ns ms h = rw (h 0 (omega arith))
 
-module _ (ts rest : List ℕ) (r : Fit) (e : r ≡ fitted ts rest) (make : List ℕ → Raw) (other : Form) (thread : ℕ) where
-  pub fit-taken : Makes make → thread ≤ VALUES → r.fits ≡ true → Of (make (thread ∷ r.numbers)) ≡ cut_form (or_else (also thread (found ts rest)) make other)
+module _ (ts rest : List ℕ) (make : List ℕ → Raw) (other : Option Raw) (thread : ℕ) where
+  pub fit-taken : (places : List ℕ) → Makes make → thread ≤ VALUES → Some places ≡ fitted ts rest → Some (make (thread ∷ places)) ≡ cut_form (or_else (also thread (found ts rest)) make other)
   unfolding Makes fitted
-  fit-taken m h t = go (found ts rest) e
+  fit-taken places m h e = go (found ts rest) e
     where
-      go : (f : Hit) → r ≡ fit_from 0 (replicate NUMBERS 0) f → Of (make (thread ∷ r.numbers)) ≡ cut_form (or_else (also thread f) make other)
-      go (hit ns) q = ap Of (m (thread ∷ ns) (thread ∷ r.numbers) each)
+      go : (f : Hit) → Some places ≡ fit_from 0 (replicate NUMBERS 0) f → Some (make (thread ∷ places)) ≡ cut_form (or_else (also thread f) make other)
+      go (hit ns) q = ap Some (m (thread ∷ ns) (thread ∷ places) each)
         where
-          each : (i : ℕ) → i < suc NUMBERS → get_or (thread ∷ r.numbers) i 0 ≡ cut (get_or (thread ∷ ns) i 0)
+          each : (i : ℕ) → i < suc NUMBERS → get_or (thread ∷ places) i 0 ≡ cut (get_or (thread ∷ ns) i 0)
           each zero b = omega arith
-          each (suc i) b = ap (λ (r : Fit). get_or r.numbers i 0) q ∙ number_is ns i (omega arith)
-      go miss q = absurd (true≢false (sym t ∙ ap (λ (r : Fit). r.fits) q))
+          each (suc i) b = ap (λ (r : Option (List ℕ)). get_or (unwrap_or r []) i 0) q ∙ number_is ns i (omega arith)
+      go miss q = let z : ◌≡◌ {A = ℕ} 0 1 = cc in absurd (omega arith)
 
-  pub fit-left : r.fits ≡ false → or_else (also thread (found ts rest)) make other ≡ other
+  pub fit-left : None ≡ fitted ts rest → or_else (also thread (found ts rest)) make other ≡ other
   unfolding fitted
-  fit-left t = go (found ts rest) e
+  fit-left e = go (found ts rest) e
     where
-      go : (f : Hit) → r ≡ fit_from 0 (replicate NUMBERS 0) f → or_else (also thread f) make other ≡ other
-      go (hit ns) q = absurd (true≢false (sym (ap (λ (r : Fit). r.fits) q) ∙ t))
+      go : (f : Hit) → None ≡ fit_from 0 (replicate NUMBERS 0) f → or_else (also thread f) make other ≡ other
+      go (hit ns) q = let z : ◌≡◌ {A = ℕ} 0 1 = cc in absurd (omega arith)
       go miss q = refl
 
 -- one form: the thread cut or not
-one-cut : (make : List ℕ → Raw) → Makes make → (v : ℕ) (f : Hit) (o p : Form) → cut_form o ≡ cut_form p → cut_form (or_else (also (cut v) f) make o) ≡ cut_form (or_else (also v f) make p)
+one-cut : (make : List ℕ → Raw) → Makes make → (v : ℕ) (f : Hit) (o p : Option Raw) → cut_form o ≡ cut_form p → cut_form (or_else (also (cut v) f) make o) ≡ cut_form (or_else (also v f) make p)
 unfolding Makes
 one-cut make m v (hit ns) o p e =
-    ap Of (sym (m (cut v ∷ ns) (map cut (v ∷ ns)) (λ i b. each i)) ∙ m (v ∷ ns) (map cut (v ∷ ns)) (λ i b. get_or-map cut (v ∷ ns) i 0))
+    ap Some (sym (m (cut v ∷ ns) (map cut (v ∷ ns)) (λ i b. each i)) ∙ m (v ∷ ns) (map cut (v ∷ ns)) (λ i b. get_or-map cut (v ∷ ns) i 0))
   where
     each : (i : ℕ) → get_or (map cut (v ∷ ns)) i 0 ≡ cut (get_or (cut v ∷ ns) i 0)
     each zero = omega arith
@@ -87,7 +84,7 @@ thread-cut v rest =
     one-cut store_of store-makes v (found store_rest rest) (load_else (cut v) rest) (load_else v rest)
     (one-cut load_of load-makes v (found load_rest rest) (swap_else (cut v) rest) (swap_else v rest)
     (one-cut swap_of swap-makes v (found swap_rest rest) (fence_else (cut v) rest) (fence_else v rest)
-    (one-cut fence_of fence-makes v (found sync rest) Nothing Nothing refl)))
+    (one-cut fence_of fence-makes v (found sync rest) None None refl)))
 
 -- a template gives nothing that begins with another byte than it
 other_byte : (t : ℕ) (ts s : List ℕ) → (t ≡ HOLE → ⊥) → begins t s ≡ false → found (t ∷ ts) s ≡ miss
@@ -112,9 +109,9 @@ module _ (thread : ℕ) (s : List ℕ) (i : ℕ) where
   fence-first m b =
       rw (other_byte 77 (91 ∷ 35 ∷ 93 ∷ 32 ∷ 58 ∷ 61 ∷ 32 ∷ 35 ∷ []) (drop i s) (λ q. omega arith) m, other_byte 77 (91 ∷ 35 ∷ 93 ∷ 32 ∷ 61 ∷ 61 ∷ 32 ∷ 35 ∷ []) (drop i s) (λ q. omega arith) m, other_byte 123 _ (drop i s) (λ q. omega arith) b)
 
-  pub none_first : length s ≤ i → Nothing ≡ first_form thread (drop i s)
+  pub none_first : length s ≤ i → None ≡ first_form thread (drop i s)
   none_first h =
-      sym (ap (λ (f : Hit). or_else (also thread f) fence_of Nothing) (other_byte 0x73 _ (drop i s) (λ q. omega arith) (begins-past 0x73 s i h)))
+      sym (ap (λ (f : Hit). or_else (also thread f) fence_of None) (other_byte 0x73 _ (drop i s) (λ q. omega arith) (begins-past 0x73 s i h)))
       ∙ fence-first (begins-past 77 s i h) (begins-past 123 s i h)
 
 -- a colon and a space at a place
@@ -138,14 +135,14 @@ module _ (line : List ℕ) where
   unfolding found
   begun-found ts = refl
 
-  pub no-thread : is_number (digits line) ≡ false → form_of line ≡ Nothing
+  pub no-thread : is_number (digits line) ≡ false → form_of line ≡ None
   unfolding form_of
   no-thread e = rw (none store_rest, none load_rest, none swap_rest, none sync)
     where
       none : (ts : List ℕ) → found (thread_then ts) line ≡ miss
       none ts = begun-found ts ∙ ap (λ (b : Bool). cond b (also (value 0 (digits line)) (cond (begins 58 rest) (cond (begins 32 (drop 1 rest)) (found ts (drop 1 (drop 1 rest))) miss) miss)) miss) e
 
-  pub no-colon : (begins 58 rest && begins 32 (drop 1 rest)) ≡ false → form_of line ≡ Nothing
+  pub no-colon : (begins 58 rest && begins 32 (drop 1 rest)) ≡ false → form_of line ≡ None
   unfolding form_of
   no-colon e = rw (none store_rest, none load_rest, none swap_rest, none sync)
     where
@@ -174,22 +171,22 @@ module _ (line : List ℕ) where
           ∙ ap (also (value 0 (digits line))) (both (begins 58 rest) (begins 32 (drop 1 rest)) _ e)
 
 -- an init line
-module _ (line : List ℕ) (r : Fit) (e : r ≡ fitted init_form line) where
-  pub init-taken : r.fits ≡ true → init.Of (get_or r.numbers 0 0) (get_or r.numbers 1 0) ≡ cut_init (init_of line)
+module _ (line : List ℕ) where
+  pub init-taken : (places : List ℕ) → Some places ≡ fitted init_form line → Some (init (get_or places 0 0) (get_or places 1 0)) ≡ cut_init (init_of line)
   unfolding init_of fitted
-  init-taken t = go (found init_form line) e
+  init-taken places e = go (found init_form line) e
     where
-      go : (f : Hit) → r ≡ fit_from 0 (replicate NUMBERS 0) f → init.Of (get_or r.numbers 0 0) (get_or r.numbers 1 0) ≡ cut_init (init_hit f)
+      go : (f : Hit) → Some places ≡ fit_from 0 (replicate NUMBERS 0) f → Some (init (get_or places 0 0) (get_or places 1 0)) ≡ cut_init (init_hit f)
       go (hit ns) q = rw (each 0 (omega arith), each 1 (omega arith)) refl
         where
-          each : (i : ℕ) → i < NUMBERS → get_or r.numbers i 0 ≡ cut (get_or ns i 0)
-          each i b = ap (λ (r : Fit). get_or r.numbers i 0) q ∙ number_is ns i b
-      go miss q = absurd (true≢false (sym t ∙ ap (λ (r : Fit). r.fits) q))
+          each : (i : ℕ) → i < NUMBERS → get_or places i 0 ≡ cut (get_or ns i 0)
+          each i b = ap (λ (r : Option (List ℕ)). get_or (unwrap_or r []) i 0) q ∙ number_is ns i b
+      go miss q = let z : ◌≡◌ {A = ℕ} 0 1 = cc in absurd (omega arith)
 
-  pub init-left : r.fits ≡ false → init.Nothing ≡ cut_init (init_of line)
+  pub init-left : None ≡ fitted init_form line → None ≡ cut_init (init_of line)
   unfolding init_of fitted
-  init-left t = go (found init_form line) e
+  init-left e = go (found init_form line) e
     where
-      go : (f : Hit) → r ≡ fit_from 0 (replicate NUMBERS 0) f → init.Nothing ≡ cut_init (init_hit f)
-      go (hit ns) q = absurd (true≢false (sym (ap (λ (r : Fit). r.fits) q) ∙ t))
+      go : (f : Hit) → None ≡ fit_from 0 (replicate NUMBERS 0) f → None ≡ cut_init (init_hit f)
+      go (hit ns) q = let z : ◌≡◌ {A = ℕ} 0 1 = cc in absurd (omega arith)
       go miss q = refl

@@ -8,6 +8,7 @@
 --   op-raw                   == a record comes back from its raw one
 --   LONGEST, render-long     == how long the line of a record in bounds is at the most
 --   render-short             == so it is never too long
+use Rattle.std.specs.Prelude.{Option, Some, None}
 use mathlib.Core.Path.{◌≡◌, refl, sym, ap, ◌∙◌, subst}
 use mathlib.Core.Logic.{◌↔◌}
 use mathlib.Core.Bool.{So}
@@ -29,18 +30,16 @@ use Rattle.reader.specs.Bounds.{LINE}
 use Rattle.text.specs.Bounds.{FEED}
 use Rattle.text.specs.Number.{decimal, digits, is_number}
 use Rattle.text.specs.Template.{Hit, hit, miss, fill, found}
-use Rattle.reader.specs.LineForms.{store_form, load_form, swap_form, fence_form, render, or_else, store_of, load_of, swap_of, fence_of, form_of, raw_of, render_op, init_form, render_init, init_hit, init_of}
-use Rattle.reader.specs.declared.Init.TheVariants as init
+use Rattle.reader.specs.declared.Init.{Init}
+use Rattle.reader.specs.LineForms.{store_form, load_form, swap_form, fence_form, render, or_else, store_of, load_of, swap_of, fence_of, form_of, raw_of, render_op, init_form, render_init, init, init_hit, init_of}
 use Rattle.reader.specs.Answer.{op_of}
 use Rattle.reader.specs.declared.Raw.{Raw}
 use Rattle.reader.specs.declared.Raw.TheVariants.{Load, Store, Swap, Fence}
-use Rattle.reader.specs.declared.Form.{Form}
-use Rattle.reader.specs.declared.Form.TheVariants.{Of, Nothing}
 use Rattle.reader.proofs.Chosen.{no-thread}
 use Rattle.text.proofs.Decimal.{decimal-length}
 use Rattle.text.proofs.Template.{holes, nothing, found-fill, found-same, found-apart, fill-count, fill-length}
 
-pub form-render : (r : Raw) → form_of (render r) ≡ Of r
+pub form-render : (r : Raw) → form_of (render r) ≡ Some r
 unfolding form_of render
 form-render (Store t a w) = rw (found-same store_form (t ∷ a ∷ w ∷ []) refl refl)
 form-render (Load t a r) = rw (found-apart store_form load_form (t ∷ a ∷ r ∷ []) refl refl, found-same load_form (t ∷ a ∷ r ∷ []) refl refl)
@@ -60,69 +59,71 @@ listed (suc k) i ns e =
     ap (λ ms. get_or ns i 0 ∷ ms) (listed k (suc i) ns (suc_inj (sym (ap length q) ∙ e))) ∙ sym q
 
 -- one form's part: the numbers that a line is found with are those of the record made of them
-one_form : (ts : List ℕ) (make : List ℕ → Raw) (other : Form) (line : List ℕ) (r : Raw) → ((ns : List ℕ) → length ns ≡ holes ts → render (make ns) ≡ fill ts ns)
-    → (other ≡ Of r → line ≡ render r) → or_else (found ts line) make other ≡ Of r → line ≡ render r
+one_form : (ts : List ℕ) (make : List ℕ → Raw) (other : Option Raw) (line : List ℕ) (r : Raw) → ((ns : List ℕ) → length ns ≡ holes ts → render (make ns) ≡ fill ts ns)
+    → (other ≡ Some r → line ≡ render r) → or_else (found ts line) make other ≡ Some r → line ≡ render r
 one_form ts make other line r made else = go (found ts line) refl
   where
-    go : (h : Hit) → found ts line ≡ h → or_else h make other ≡ Of r → line ≡ render r
+    go : (h : Hit) → found ts line ≡ h → or_else h make other ≡ Some r → line ≡ render r
     go (hit ns) q e =
         let f = found-fill ts line ns q in
         let s : make ns ≡ r = cc in
         f.0 ∙ sym (made ns f.1) ∙ ap render s
     go miss q e = else e
 
-pub form-only : (line : List ℕ) (r : Raw) → form_of line ≡ Of r → line ≡ render r
+pub form-only : (line : List ℕ) (r : Raw) → form_of line ≡ Some r → line ≡ render r
 unfolding form_of render row
 form-only line r =
     one_form store_form store_of _ line r (λ ns l. ap (fill store_form) (listed 3 0 ns l))
     (one_form load_form load_of _ line r (λ ns l. ap (fill load_form) (listed 3 0 ns l))
     (one_form swap_form swap_of _ line r (λ ns l. ap (fill swap_form) (listed 5 0 ns l))
-    (one_form fence_form fence_of Nothing line r (λ ns l. ap (fill fence_form) (listed 1 0 ns l))
+    (one_form fence_form fence_of None line r (λ ns l. ap (fill fence_form) (listed 1 0 ns l))
     (λ e. let z : ◌≡◌ {A = ℕ} 0 1 = cc in absurd (omega arith)))))
 
-pub form-exactly : (line : List ℕ) (r : Raw) → (form_of line ≡ Of r) ↔ (line ≡ render r)
+pub form-exactly : (line : List ℕ) (r : Raw) → (form_of line ≡ Some r) ↔ (line ≡ render r)
 form-exactly line r = (form-only line r, λ e. rw e (form-render r))
 
-pub no-form : (line : List ℕ) → (form_of line ≡ Nothing) ↔ ((r : Raw) → line ≡ render r → ⊥)
+pub no-form : (line : List ℕ) → (form_of line ≡ None) ↔ ((r : Raw) → line ≡ render r → ⊥)
 no-form line = (λ e r q. let f = (form-exactly line r).1 q in let z : ◌≡◌ {A = ℕ} 0 1 = cc in omega arith, λ h. go h (form_of line) refl)
   where
-    go : ((r : Raw) → line ≡ render r → ⊥) → (f : Form) → form_of line ≡ f → f ≡ Nothing
-    go h (Of r) e = absurd (h r (form-only line r e))
-    go h Nothing e = refl
+    go : ((r : Raw) → line ≡ render r → ⊥) → (f : Option Raw) → form_of line ≡ f → f ≡ None
+    go h (Some r) e = absurd (h r (form-only line r e))
+    go h None e = refl
 
 pub render-one : (r s : Raw) → render r ≡ render s → r ≡ s
 render-one r s e = let f = form-render r in let g = (form-exactly (render r) s).1 e in (cc)
 
 -- ---- init lines
-pub init-only : (line : List ℕ) (a v : ℕ) → init_of line ≡ init.Of a v → line ≡ render_init a v
+pub init-only : (line : List ℕ) (a v : ℕ) → init_of line ≡ Some (init a v) → line ≡ render_init a v
 unfolding init_of render_init row
 init-only line a v = go (found init_form line) refl
   where
-    go : (h : Hit) → found init_form line ≡ h → init_hit h ≡ init.Of a v → line ≡ fill init_form (a ∷ v ∷ [])
+    go : (h : Hit) → found init_form line ≡ h → init_hit h ≡ Some (init a v) → line ≡ fill init_form (a ∷ v ∷ [])
     go (hit ns) q e =
         let f = found-fill init_form line ns q in
-        let p : get_or ns 0 0 ≡ a = cc in
-        let r : get_or ns 1 0 ≡ v = cc in
+        let same : init (get_or ns 0 0) (get_or ns 1 0) ≡ init a v = cc in
+        let p : get_or ns 0 0 ≡ a = ap (λ (i : Init). i.addr) same in
+        let r : get_or ns 1 0 ≡ v = ap (λ (i : Init). i.value) same in
         f.0 ∙ ap (fill init_form) (sym (listed 2 0 ns f.1) ∙ rw (p, r) refl)
     go miss q e = let z : ◌≡◌ {A = ℕ} 0 1 = cc in absurd (omega arith)
 
-pub init-found : (a v : ℕ) → init_of (render_init a v) ≡ init.Of a v
+pub init-found : (a v : ℕ) → init_of (render_init a v) ≡ Some (init a v)
 unfolding init_of render_init
 init-found a v = rw (found-same init_form (a ∷ v ∷ []) refl refl)
 
 pub init-one : (a v b w : ℕ) → render_init a v ≡ render_init b w → (a ≡ b) × (v ≡ w)
 init-one a v b w e =
-    let q : init.Of a v ≡ init.Of b w = sym (init-found a v) ∙ ap init_of e ∙ init-found b w in
-    (cc, cc)
+    let q : Some (init a v) ≡ Some (init b w) = sym (init-found a v) ∙ ap init_of e ∙ init-found b w in
+    let same : init a v ≡ init b w = cc in
+    (ap (λ (i : Init). i.addr) same, ap (λ (i : Init). i.value) same)
 
-pub init-none : (line : List ℕ) → init_of line ≡ init.Nothing → (a v : ℕ) → line ≡ render_init a v → ⊥
-init-none line e a v q = let f = init-found a v in let g : init_of (render_init a v) ≡ init.Nothing = subst (λ (l : List ℕ). init_of l ≡ init.Nothing) q e in let z : ◌≡◌ {A = ℕ} 0 1 = cc in omega arith
+pub init-none : (line : List ℕ) → init_of line ≡ None → (a v : ℕ) → line ≡ render_init a v → ⊥
+init-none line e a v q = let f = init-found a v in let g : init_of (render_init a v) ≡ None = subst (λ (l : List ℕ). init_of l ≡ None) q e in let z : ◌≡◌ {A = ℕ} 0 1 = cc in omega arith
 
 -- a record's line begins with a digit
 pub no-init : (r : Raw) (a v : ℕ) → render r ≡ render_init a v → ⊥
 unfolding render_init digits is_number fill
 no-init r a v e =
-    let q : Of r ≡ Nothing = sym (form-render r) ∙ ap form_of e ∙ no-thread (render_init a v) refl in
+    let q : Some r ≡ None = sym (form-render r) ∙ ap form_of e ∙ no-thread (render_init a v) refl in
     let z : ◌≡◌ {A = ℕ} 0 1 = cc in
     omega arith
 

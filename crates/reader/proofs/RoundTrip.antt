@@ -38,13 +38,13 @@ use Rattle.reader.specs.Bounds.{TEXT}
 use Rattle.text.specs.Bounds.{FEED}
 use Rattle.text.specs.Lines.{Line, lines}
 use Rattle.reader.specs.LineForms.{render_init, raw_of, render_op}
+use Rattle.std.specs.Prelude.{Option, Some, None}
 use Rattle.reader.specs.Answer.{in_bounds, op_of, init_given}
 use Rattle.reader.specs.Read.{none, read_lines, read_inits, read_text}
 use Rattle.reader.specs.Cases.{Renders, Past, TwoAddresses, Above, top, with_init, grown, Case, Free, Clean, CleanInit, Took, nothing, begin, next}
 use Rattle.reader.specs.TextOf.{Begin, render_records, render_inits, Without, Apart, records_of, TextOf, inits_of, render_trace}
 use Rattle.reader.specs.declared.Raw.{Raw}
 use Rattle.reader.specs.declared.Init.{Init}
-use Rattle.reader.specs.declared.Init.TheVariants as init
 use Rattle.reader.specs.declared.Reason.{Reason}
 use Rattle.reader.specs.declared.Reason.TheVariants.{LongText, LongLine, NoForm, PastBound, Addresses, FirstValue, TooMany, Twice, Late}
 use Rattle.reader.specs.declared.Answer.TheVariants as answer
@@ -364,6 +364,6 @@ no-inits text h n = read-lines text h ∙ go (lines text) refl
     go [] e = refl
     go (l ∷ ls) e = on (init_given none l) refl
       where
-        on : (i : Init) → init_given none l ≡ i → read_inits 1 none empty (l ∷ ls) ≡ read_lines 1 empty (l ∷ ls)
-        on (init.Of a v) q = absurd (n [] ls l e a v (begins-good none l a v q).text)
-        on init.Nothing q = read_left empty l ls none q 1
+        on : (i : Option Init) → init_given none l ≡ i → read_inits 1 none empty (l ∷ ls) ≡ read_lines 1 empty (l ∷ ls)
+        on (Some i) q = absurd (n [] ls l e i.addr i.value (begins-good none l i.addr i.value q).text)
+        on None q = read_left empty l ls none q 1

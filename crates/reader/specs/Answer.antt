@@ -11,7 +11,7 @@
 --   unformed i        == a line of no record's form (3, 4, 17)
 --   turned t l        == a line behind the trace so far that gives no first value (2 to 8, 17); the lowest number that applies
 --   init_given given l == the address and first value of an init line that gives one: short, ended, in bounds, and no line above gave that address one
-use Rattle.std.specs.Prelude.{Bool, true, false, not, ◌&&◌, cond, List, ℕ, eqb, ltb, length, get_or}
+use Rattle.std.specs.Prelude.{Bool, true, false, not, ◌&&◌, cond, List, ℕ, eqb, ltb, length, get_or, Option, Some, None, Result, Ok, Err}
 use Rattle.trace.specs.Bounds.{THREADS, ADDRESSES, VALUES}
 use Rattle.trace.specs.Fault.{fault_of}
 use Rattle.trace.specs.declared.Fault.{Fault}
@@ -23,15 +23,10 @@ use Rattle.reader.specs.Bounds.{LINE}
 use Rattle.text.specs.Lines.{Line}
 use Rattle.reader.specs.LineForms.{form_of, init_of}
 use Rattle.reader.specs.declared.Init.{Init}
-use Rattle.reader.specs.declared.Init.TheVariants as init
 use Rattle.reader.specs.declared.Raw.{Raw}
 use Rattle.reader.specs.declared.Raw.TheVariants.{Load, Store, Swap, Fence}
-use Rattle.reader.specs.declared.Form.{Form}
-use Rattle.reader.specs.declared.Form.TheVariants.{Of, Nothing}
 use Rattle.reader.specs.declared.Reason.{Reason}
 use Rattle.reader.specs.declared.Reason.TheVariants.{LongText, LongLine, NoForm, PastBound, Addresses, FirstValue, TooMany, Twice, Late}
-use Rattle.reader.specs.declared.Turn.{Turn}
-use Rattle.reader.specs.declared.Turn.TheVariants.{Taken, Refused}
 
 abbrev pub number_of : Reason → ℕ
 number_of LongText = 1
@@ -62,37 +57,37 @@ op_of (Store t a w) = op.Store t a w
 op_of (Swap t a r b w) = op.Swap t a r w
 op_of (Fence t) = op.Fence t
 
-abbrev pub turn_of : Op → Fault → Turn
-turn_of o fault.Nothing = Taken o
-turn_of o fault.PastBound = Refused PastBound
-turn_of o fault.FirstValue = Refused FirstValue
-turn_of o fault.TooMany = Refused TooMany
-turn_of o fault.Twice = Refused Twice
+abbrev pub turn_of : Op → Option Fault → Result Op Reason
+turn_of o None = Ok o
+turn_of o (Some fault.PastBound) = Err PastBound
+turn_of o (Some fault.FirstValue) = Err FirstValue
+turn_of o (Some fault.TooMany) = Err TooMany
+turn_of o (Some fault.Twice) = Err Twice
 
-unfoldable pub joined : Trace → Op → Turn
+unfoldable pub joined : Trace → Op → Result Op Reason
 joined t o = turn_of o (fault_of t o)
 
-unfoldable pub checked : Trace → Raw → Turn
-checked t raw = cond (in_bounds raw) (cond (one_address raw) (joined t (op_of raw)) (Refused Addresses)) (Refused PastBound)
+unfoldable pub checked : Trace → Raw → Result Op Reason
+checked t raw = cond (in_bounds raw) (cond (one_address raw) (joined t (op_of raw)) (Err Addresses)) (Err PastBound)
 
-unfoldable pub late : ℕ → ℕ → Turn
-late a v = cond (ltb a ADDRESSES && ltb v VALUES) (Refused Late) (Refused PastBound)
+unfoldable pub late : ℕ → ℕ → Result Op Reason
+late a v = cond (ltb a ADDRESSES && ltb v VALUES) (Err Late) (Err PastBound)
 
-abbrev pub unformed : Init → Turn
-unformed (init.Of a v) = late a v
-unformed init.Nothing = Refused NoForm
+abbrev pub unformed : Option Init → Result Op Reason
+unformed (Some i) = late i.addr i.value
+unformed None = Err NoForm
 
-abbrev pub checked_form : Trace → Form → Init → Turn
-checked_form t (Of raw) i = checked t raw
-checked_form t Nothing i = unformed i
+abbrev pub checked_form : Trace → Option Raw → Option Init → Result Op Reason
+checked_form t (Some raw) i = checked t raw
+checked_form t None i = unformed i
 
-unfoldable pub turned : Trace → Line → Turn
-turned t l = cond (ltb LINE (length l.bytes)) (Refused LongLine) (cond l.ended (checked_form t (form_of l.bytes) (init_of l.bytes)) (Refused NoForm))
+unfoldable pub turned : Trace → Line → Result Op Reason
+turned t l = cond (ltb LINE (length l.bytes)) (Err LongLine) (cond l.ended (checked_form t (form_of l.bytes) (init_of l.bytes)) (Err NoForm))
 
-abbrev pub beginning : List Bool → Init → Init
-beginning given (init.Of a v) = cond (ltb a ADDRESSES && ltb v VALUES && not (get_or given a false)) (init.Of a v) init.Nothing
-beginning given init.Nothing = init.Nothing
+abbrev pub beginning : List Bool → Option Init → Option Init
+beginning given (Some i) = cond (ltb i.addr ADDRESSES && ltb i.value VALUES && not (get_or given i.addr false)) (Some i) None
+beginning given None = None
 
 -- `given` has a flag for each address
-unfoldable pub init_given : List Bool → Line → Init
-init_given given l = cond (ltb LINE (length l.bytes)) init.Nothing (cond l.ended (beginning given (init_of l.bytes)) init.Nothing)
+unfoldable pub init_given : List Bool → Line → Option Init
+init_given given l = cond (ltb LINE (length l.bytes)) None (cond l.ended (beginning given (init_of l.bytes)) None)

@@ -7,17 +7,17 @@
 --   form_of line    == the raw record that a line renders, if any
 --   cut_form form   == the same with its numbers cut, as the code holds it
 --   render_op op    == the line of a record
-use Rattle.std.specs.Prelude.{List, [], ◌∷◌, ℕ, get_or}
+--   init a v        == an init line's address and value
+--   init_of line    == those of the init line that a line is, if it is one
+--   cut_init i      == the same cut, as the code holds them
+use Rattle.std.specs.Prelude.{List, [], ◌∷◌, ℕ, get_or, Option, Some, None}
 use Rattle.trace.specs.declared.Op.{Op}
 use Rattle.trace.specs.declared.Op.TheVariants as op
 use Rattle.text.specs.Number.{cut}
 use Rattle.text.specs.Template.{Hit, hit, miss, fill, found}
 use Rattle.reader.specs.declared.Raw.{Raw}
 use Rattle.reader.specs.declared.Raw.TheVariants.{Load, Store, Swap, Fence}
-use Rattle.reader.specs.declared.Form.{Form}
-use Rattle.reader.specs.declared.Form.TheVariants.{Of, Nothing}
 use Rattle.reader.specs.declared.Init.{Init}
-use Rattle.reader.specs.declared.Init.TheVariants as init
 
 -- every form begins with the thread, a colon and a space:  #:
 abbrev pub thread_then : List ℕ → List ℕ
@@ -59,8 +59,8 @@ render (Swap t a r b w) = fill swap_form (t ∷ a ∷ r ∷ b ∷ w ∷ [])
 render (Fence t) = fill fence_form (t ∷ [])
 
 -- the record made of the numbers found, or what another form says
-abbrev pub or_else : Hit → (List ℕ → Raw) → Form → Form
-or_else (hit ns) make other = Of (make ns)
+abbrev pub or_else : Hit → (List ℕ → Raw) → Option Raw → Option Raw
+or_else (hit ns) make other = Some (make ns)
 or_else miss make other = other
 
 abbrev pub load_of : List ℕ → Raw
@@ -75,12 +75,12 @@ swap_of ns = Swap (get_or ns 0 0) (get_or ns 1 0) (get_or ns 2 0) (get_or ns 3 0
 abbrev pub fence_of : List ℕ → Raw
 fence_of ns = Fence (get_or ns 0 0)
 
-unfoldable pub form_of : List ℕ → Form
+unfoldable pub form_of : List ℕ → Option Raw
 form_of line =
     or_else (found store_form line) store_of
     (or_else (found load_form line) load_of
     (or_else (found swap_form line) swap_of
-    (or_else (found fence_form line) fence_of Nothing)))
+    (or_else (found fence_form line) fence_of None)))
 
 abbrev pub cut_raw : Raw → Raw
 cut_raw (Load t a r) = Load (cut t) (cut a) (cut r)
@@ -88,9 +88,9 @@ cut_raw (Store t a w) = Store (cut t) (cut a) (cut w)
 cut_raw (Swap t a r b w) = Swap (cut t) (cut a) (cut r) (cut b) (cut w)
 cut_raw (Fence t) = Fence (cut t)
 
-abbrev pub cut_form : Form → Form
-cut_form (Of raw) = Of (cut_raw raw)
-cut_form Nothing = Nothing
+abbrev pub cut_form : Option Raw → Option Raw
+cut_form (Some raw) = Some (cut_raw raw)
+cut_form None = None
 
 -- init: M[#] := #
 abbrev pub init_form : List ℕ
@@ -99,16 +99,19 @@ init_form = 105 ∷ 110 ∷ 105 ∷ 116 ∷ 58 ∷ 32 ∷ store_rest
 unfoldable pub render_init : ℕ → ℕ → List ℕ
 render_init a v = fill init_form (a ∷ v ∷ [])
 
-abbrev pub init_hit : Hit → Init
-init_hit (hit ns) = init.Of (get_or ns 0 0) (get_or ns 1 0)
-init_hit miss = init.Nothing
+abbrev pub init : ℕ → ℕ → Init
+init a v = record { addr = a; value = v }
 
-unfoldable pub init_of : List ℕ → Init
+abbrev pub init_hit : Hit → Option Init
+init_hit (hit ns) = Some (init (get_or ns 0 0) (get_or ns 1 0))
+init_hit miss = None
+
+unfoldable pub init_of : List ℕ → Option Init
 init_of line = init_hit (found init_form line)
 
-abbrev pub cut_init : Init → Init
-cut_init (init.Of a v) = init.Of (cut a) (cut v)
-cut_init init.Nothing = init.Nothing
+abbrev pub cut_init : Option Init → Option Init
+cut_init (Some i) = Some (init (cut i.addr) (cut i.value))
+cut_init None = None
 
 -- a record as a raw one: a swap's address stands twice
 abbrev pub raw_of : Op → Raw

@@ -14,7 +14,7 @@ pub mod turns;
 
 use text::walk::line_end;
 use trace::cores::lost;
-use trace::{FIRSTS, Op, RECORDS, Record, Trace, empty};
+use trace::{FIRSTS, RECORDS, Record, Trace, empty};
 use turns::{begin, turned};
 
 // How many bytes a text has at the most, and a line without its feed; specs/Bounds.antt has the same numbers.
@@ -50,18 +50,11 @@ pub enum Raw {
     },
 }
 
-// A raw record, or that the line is of no form.
+// The address and the value of an init line, not yet held to their bounds.
 #[derive(Clone, Copy)]
-pub enum Form {
-    Of(Raw),
-    Nothing,
-}
-
-// An init line, its numbers not yet held to their bounds, or that the line is none.
-#[derive(Clone, Copy)]
-pub enum Init {
-    Of { addr: u32, value: u32 },
-    Nothing,
+pub struct Init {
+    pub addr: u32,
+    pub value: u32,
 }
 
 // Why a text is turned back: the numbers 1 to 8 in order, and 17.
@@ -78,13 +71,6 @@ pub enum Reason {
     Late,
 }
 
-// What one line gets.
-#[derive(Clone, Copy)]
-pub enum Turn {
-    Taken(Op),
-    Refused(Reason),
-}
-
 // What a text gets: lines are counted from 1, and number 1 comes with line 0. Only `read_whole` says that a core is lost, number 22.
 #[derive(Clone, Copy)]
 pub enum Answer {
@@ -93,7 +79,7 @@ pub enum Answer {
     Lost,
 }
 
-// The answer, and the trace; beside a refusal the empty one.
+// The answer, and the trace; beside a refusal the empty one, which is promised and for which a `Result` has no place.
 #[derive(Clone, Copy)]
 pub struct Reading {
     pub answer: Answer,
@@ -131,10 +117,11 @@ fn opened(text: &[u8]) -> Opening
     let mut given = [false; FIRSTS];
     let mut at: usize = 0;
     let mut line: usize = 1;
+    // Not a `for`: each step ends where the line does.
     while at < text.len() {
         let end = line_end(text, at);
         let ended = end < text.len();
-        let Init::Of { addr, value } = begin(&given, &text[at..end], ended) else {
+        let Some(Init { addr, value }) = begin(&given, &text[at..end], ended) else {
             return Opening { trace, at, line };
         };
         let i = addr as usize;
@@ -154,18 +141,19 @@ fn walked(text: &[u8]) -> Stand
     let mut trace = opening.trace;
     let mut at = opening.at;
     let mut line = opening.line;
+    // Not a `for`: each step ends where the line does.
     while at < text.len() {
         let end = line_end(text, at);
         let ended = end < text.len();
         match turned(trace, &text[at..end], ended) {
-            Turn::Taken(op) => {
+            Ok(op) => {
                 let n = trace.len;
                 if n < RECORDS {
                     trace.records[n] = Record { op };
                     trace.len = n + 1;
                 }
             }
-            Turn::Refused(reason) => {
+            Err(reason) => {
                 let answer = Answer::Refused { reason, line };
                 let trace = empty();
                 let reading = Reading { answer, trace };
@@ -223,9 +211,7 @@ pub fn bad_line<'a>(text: &'a [u8]) -> &'a [u8]
     ensures { PartOf text.entry (start_of text.now) (end_of text.now) result }
 {
     let place = bad_place(text);
-    let start = place.start;
-    let end = place.end;
-    &text[start..end]
+    &text[place.start..place.end]
 }
 
 // The same as `read`, but where every line is good no core may be lost.

@@ -14,16 +14,15 @@ use Rattle.papers.specs.Paper.{BRANCH, Claim, Entry}
 use Rattle.papers.specs.inner.ReaderBranch.{branch_of}
 use Rattle.reasons.specs.Telling.{edges_of, along}
 use Rattle.reasons.specs.inner.Laid.{Done, EntriesTold}
-use Rattle.reasons.specs.declared.naming.Told.{Told}
-use Rattle.reasons.specs.declared.naming.Told.TheVariants.{On, Over}
+use Rattle.std.specs.Prelude.{Option, Some, None}
 use Rattle.reasons.proofs.Laying.{left}
 use Rattle.reasons.proofs.Joining.{told_none, done-join, over_first, over-then}
 
 module _ (limit : ℕ) (from to out : List ℕ) (n at : ℕ) where
-  pub told-join : (es fs : List Entry) (from₁ to₁ out₁ : List ℕ) (m p : ℕ) → Done limit from to out n at es from₁ to₁ out₁ m p → (from₂ to₂ out₂ : List ℕ) (r : Told)
+  pub told-join : (es fs : List Entry) (from₁ to₁ out₁ : List ℕ) (m p : ℕ) → Done limit from to out n at es from₁ to₁ out₁ m p → (from₂ to₂ out₂ : List ℕ) (r : Option (ℕ × ℕ))
       → EntriesTold limit from₁ to₁ out₁ m p fs from₂ to₂ out₂ r → EntriesTold limit from to out n at (es ++ fs) from₂ to₂ out₂ r
-  told-join es fs from₁ to₁ out₁ m p d from₂ to₂ out₂ (On k q) e = done-join limit from to out n at es fs from₁ to₁ out₁ m p d from₂ to₂ out₂ k q e
-  told-join es fs from₁ to₁ out₁ m p d from₂ to₂ out₂ Over h = over-then limit from to out n at es fs from₁ to₁ out₁ m p d h
+  told-join es fs from₁ to₁ out₁ m p d from₂ to₂ out₂ (Some (k, q)) e = done-join limit from to out n at es fs from₁ to₁ out₁ m p d from₂ to₂ out₂ k q e
+  told-join es fs from₁ to₁ out₁ m p d from₂ to₂ out₂ None h = over-then limit from to out n at es fs from₁ to₁ out₁ m p d h
 
   -- the way leads from a by the steps to b
   module _ (tell : List Claim → ℕ → ℕ → List Entry) (a : ℕ) (steps : List ℕ) (len b : ℕ) where
@@ -61,15 +60,15 @@ module _ (limit : ℕ) (from to out : List ℕ) (n at : ℕ) where
             ∙ split h;
       }
 
-      pub along-over : i < len → EntriesTold limit from₁ to₁ out₁ m p (one (get_or steps i 0)) from₂ to₂ out₂ Over → EntriesTold limit from to out n at whole from₂ to₂ out₂ Over
+      pub along-over : i < len → EntriesTold limit from₁ to₁ out₁ m p (one (get_or steps i 0)) from₂ to₂ out₂ None → EntriesTold limit from to out n at whole from₂ to₂ out₂ None
       along-over h e =
-          subst (λ (es : List Entry). EntriesTold limit from to out n at es from₂ to₂ out₂ Over) (split h)
-          (told-join w.told (one (get_or steps i 0) ++ more) from₁ to₁ out₁ m p w.done from₂ to₂ out₂ Over (over_first limit from₁ to₁ out₁ m p (one (get_or steps i 0)) more e))
+          subst (λ (es : List Entry). EntriesTold limit from to out n at es from₂ to₂ out₂ None) (split h)
+          (told-join w.told (one (get_or steps i 0) ++ more) from₁ to₁ out₁ m p w.done from₂ to₂ out₂ None (over_first limit from₁ to₁ out₁ m p (one (get_or steps i 0)) more e))
         where
           more : List Entry
           more = along tell (on (get_or steps i 0)) (get_or steps i 0) (drop (i + 1) (take len steps)) b
 
-      pub along-end : len ≤ i → (r : Told) → EntriesTold limit from₁ to₁ out₁ m p (one b) from₂ to₂ out₂ r → EntriesTold limit from to out n at whole from₂ to₂ out₂ r
+      pub along-end : len ≤ i → (r : Option (ℕ × ℕ)) → EntriesTold limit from₁ to₁ out₁ m p (one b) from₂ to₂ out₂ r → EntriesTold limit from to out n at whole from₂ to₂ out₂ r
       unfolding along
       along-end h r e =
           let l : length (take len steps) ≤ i = omega (arith, length-take-le len steps fits) in

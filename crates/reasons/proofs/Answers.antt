@@ -33,8 +33,8 @@ use Rattle.rules.proofs.Says.{circle-none}
 use Rattle.rules.proofs.VerdictComputed.{verdict-says}
 use Rattle.pairs.specs.Kept.{modelled, kept_of}
 use Rattle.pairs.specs.MissingOf.{record?, missing_of}
-use Rattle.pairs.specs.declared.sources.Found.{Found}
-use Rattle.pairs.specs.declared.sources.Found.TheVariants.{At, Nothing}
+use Rattle.pairs.specs.Found.{Found}
+use Rattle.std.specs.Prelude.{Option, Some, None, Result, Ok, Err}
 use Rattle.pairs.proofs.KeptPairs.{kept-joins}
 use Rattle.pairs.proofs.MissingOf.{missing-lowest}
 use Rattle.search.specs.FirstOrder.{found?, FirstOrder}
@@ -47,10 +47,8 @@ use Rattle.reasons.specs.Writing.{paper_of, paper}
 use Rattle.reasons.specs.inner.Closable.{Closable}
 use Rattle.reasons.specs.inner.Laid.{PutAt}
 use Rattle.reasons.specs.inner.PutKept.{PutKept}
-use Rattle.reasons.specs.declared.naming.Put.{Put}
-use Rattle.reasons.specs.declared.naming.Put.TheVariants as put
-use Rattle.reasons.specs.declared.listing.Listed.{Listed}
-use Rattle.reasons.specs.declared.listing.Listed.TheVariants as listed
+use Rattle.reasons.specs.declared.listing.Reason.{Reason}
+use Rattle.reasons.specs.declared.listing.Reason.TheVariants.{NoModel, NotWellFormed, TooLong}
 use Rattle.reasons.proofs.Writing.{none-joined, paper-closes}
 
 abbrev pub NoOrder : Trace → ℕ → Type 0
@@ -80,49 +78,49 @@ module _ (t : Trace) (w : So (well_formed t)) (m : ℕ) (sourced : Sourced (fram
         (subst (λ (E : List Claim). Closable (frame_of t) (kept_of m t) (suc ((frame_of t).records * (frame_of t).records)) E) (sym nothing-named)
         (paper-closes (frame_of t) (good t w) small (kept_of m t) (kept-joins m t) sourced none))
 
-    pub whole-laid : (limit : ℕ) (out from' to' out' : List ℕ) (r : Put) → PutKept limit from to 0 out 0 (spell (paper_of (frame_of t) (kept_of m t) n (branch_of from to 0))) from' to' out' r
+    pub whole-laid : (limit : ℕ) (out from' to' out' : List ℕ) (r : Option ℕ) → PutKept limit from to 0 out 0 (spell (paper_of (frame_of t) (kept_of m t) n (branch_of from to 0))) from' to' out' r
         → PutAt limit out 0 (spell (paper (frame_of t) (kept_of m t))) out' r
     whole-laid limit out from' to' out' r h =
         forget r
         (subst (λ (n : ℕ). PutKept limit from to 0 out 0 (spell (paper_of (frame_of t) (kept_of m t) n [])) from' to' out' r) splits
         (subst (λ (E : List Claim). PutKept limit from to 0 out 0 (spell (paper_of (frame_of t) (kept_of m t) n E)) from' to' out' r) nothing-named h))
       where
-        forget : (r : Put) → PutKept limit from to 0 out 0 (spell (paper (frame_of t) (kept_of m t))) from' to' out' r → PutAt limit out 0 (spell (paper (frame_of t) (kept_of m t))) out' r
-        forget (put.At p) h = (h.0, h.1, h.2)
-        forget put.Full h = h
+        forget : (r : Option ℕ) → PutKept limit from to 0 out 0 (spell (paper (frame_of t) (kept_of m t))) from' to' out' r → PutAt limit out 0 (spell (paper (frame_of t) (kept_of m t))) out' r
+        forget (Some p) h = (h.0, h.1, h.2)
+        forget None h = h
 
 module _ (ws before : List ℕ) where
-  pub front_long : (out after : List ℕ) → PutAt (length before) out 0 ws after put.Full → LaidInFront ws before before listed.TooLong
+  pub front_long : (out after : List ℕ) → PutAt (length before) out 0 ws after None → LaidInFront ws before before (Err TooLong)
   front_long out after h = record { fits = λ l. absurd (omega (arith, l, h)); long = λ _. (refl, refl) }
 
-  pub front-laid : (n : ℕ) → n ≡ 0 + length ws → n ≤ length before → (after : List ℕ) (r : Put) → PutAt (length before) before 0 ws after r → LaidInFront ws before after (listed.Shown n)
-  front-laid n e l after r h = record { fits = λ _. (ap listed.Shown (e ∙ zero-add (length ws)), laid r h); long = λ g. absurd (omega (arith, e, l, g)) }
+  pub front-laid : (n : ℕ) → n ≡ 0 + length ws → n ≤ length before → (after : List ℕ) (r : Option ℕ) → PutAt (length before) before 0 ws after r → LaidInFront ws before after (Ok (Some n))
+  front-laid n e l after r h = record { fits = λ _. (ap (λ k. Ok (Some k)) (e ∙ zero-add (length ws)), laid r h); long = λ g. absurd (omega (arith, e, l, g)) }
     where
-      laid : (r : Put) → PutAt (length before) before 0 ws after r → after ≡ ws ++ drop (length ws) before
-      laid (put.At p) h = h.2 ∙ sets-eq ws before 0 (omega (arith, e, l)) ∙ ap (λ k. ws ++ drop k before) (zero-add (length ws))
-      laid put.Full h = absurd (omega (arith, e, l, h))
+      laid : (r : Option ℕ) → PutAt (length before) before 0 ws after r → after ≡ ws ++ drop (length ws) before
+      laid (Some p) h = h.2 ∙ sets-eq ws before 0 (omega (arith, e, l)) ∙ ap (λ k. ws ++ drop k before) (zero-add (length ws))
+      laid None h = absurd (omega (arith, e, l, h))
 
 module _ (t : Trace) (m : ℕ) (before : List ℕ) where
-  pub wrote-model : modelled m ≡ false → Writes t m before before listed.NoModel
+  pub wrote-model : modelled m ≡ false → Writes t m before before (Err NoModel)
   wrote-model e = record { nine = λ _. (refl, refl); ten = λ k. absurd (false≢true (sym e ∙ k)); says = λ k. absurd (false≢true (sym e ∙ k)) }
 
   module _ (k : So (modelled m)) where
-    pub wrote-form : well_formed t ≡ false → Writes t m before before listed.NotWellFormed
+    pub wrote-form : well_formed t ≡ false → Writes t m before before (Err NotWellFormed)
     wrote-form e = record { nine = λ n. absurd (false≢true (sym n ∙ k)); ten = λ _ _. (refl, refl); says = λ _ w. absurd (false≢true (sym e ∙ w)) }
 
     module _ (w : So (well_formed t)) where
       -- an answer by a verdict that is allowed
-      by : (v : Verdict) → Says (frame_of t) (kept_of m t) v → (after : List ℕ) (r : Listed) → ListedBy (frame_of t) (kept_of m t) v before after r → Writes t m before after r
+      by : (v : Verdict) → Says (frame_of t) (kept_of m t) v → (after : List ℕ) (r : Result (Option ℕ) Reason) → ListedBy (frame_of t) (kept_of m t) v before after r → Writes t m before after r
       by v s after r b = record { nine = λ n. absurd (false≢true (sym n ∙ k)); ten = λ _ n. absurd (false≢true (sym n ∙ w)); says = λ _ _. (v, s, b) }
 
       -- the verdict that there is
       given : Says (frame_of t) (kept_of m t) (verdict? (frame_of t) (kept_of m t))
       given = verdict-says (frame_of t) (good t w) (kept_of m t) (kept-joins m t)
 
-      pub wrote-source : (x : ℕ) → missing_of t ≡ At x → Writes t m before before listed.Nothing
-      wrote-source x e = by (no_source x) (subst (λ (a : Found). Lowest (Missing (frame_of t)) (record? a)) e (missing-lowest t w)) before listed.Nothing (refl, refl)
+      pub wrote-source : (x : ℕ) → missing_of t ≡ Some x → Writes t m before before (Ok None)
+      wrote-source x e = by (no_source x) (subst (λ (a : Found). Lowest (Missing (frame_of t)) (record? a)) e (missing-lowest t w)) before (Ok None) (refl, refl)
 
-      module _ (e : missing_of t ≡ Nothing) where
+      module _ (e : missing_of t ≡ None) where
         pub sourced-all : Sourced (frame_of t)
         sourced-all = subst (λ (a : Found). Lowest (Missing (frame_of t)) (record? a)) e (missing-lowest t w)
 
@@ -133,19 +131,19 @@ module _ (t : Trace) (m : ℕ) (before : List ℕ) where
         pub unfound : (o : Order) → FirstOrder t m o → o.found ≡ false → NoOrder t m
         unfound o q e = subst (λ (b : Bool). Least (Valid (frame_of t) (kept_of m t)) (found? b (take o.len o.operations))) e (found-least o q)
 
-        pub wrote-order : (o : Order) → FirstOrder t m o → So o.found → Writes t m before before listed.Nothing
-        wrote-order o q f = by (verdict? (frame_of t) (kept_of m t)) given before listed.Nothing (go (verdict? (frame_of t) (kept_of m t)) given)
+        pub wrote-order : (o : Order) → FirstOrder t m o → So o.found → Writes t m before before (Ok None)
+        wrote-order o q f = by (verdict? (frame_of t) (kept_of m t)) given before (Ok None) (go (verdict? (frame_of t) (kept_of m t)) given)
           where
             there : Least (Valid (frame_of t) (kept_of m t)) (some (take o.len o.operations))
             there = subst (λ (b : Bool). Least (Valid (frame_of t) (kept_of m t)) (found? b (take o.len o.operations))) f (found-least o q)
 
-            go : (v : Verdict) → Says (frame_of t) (kept_of m t) v → ListedBy (frame_of t) (kept_of m t) v before before listed.Nothing
+            go : (v : Verdict) → Says (frame_of t) (kept_of m t) v → ListedBy (frame_of t) (kept_of m t) v before before (Ok None)
             go (no_source x) s = (refl, refl)
             go (circle c rs) s = absurd (circle-none (frame_of t) (kept_of m t) (good t w) (c, rs) s.1 _ there.0)
             go (order xs) s = (refl, refl)
             go none_left s = absurd (s.2 _ there.0)
 
-        pub wrote-paper : NoOrder t m → (after : List ℕ) (r : Listed) → LaidInFront (spell (paper (frame_of t) (kept_of m t))) before after r → Writes t m before after r
+        pub wrote-paper : NoOrder t m → (after : List ℕ) (r : Result (Option ℕ) Reason) → LaidInFront (spell (paper (frame_of t) (kept_of m t))) before after r → Writes t m before after r
         wrote-paper n after r h = by (verdict? (frame_of t) (kept_of m t)) given after r (go (verdict? (frame_of t) (kept_of m t)) given)
           where
             go : (v : Verdict) → Says (frame_of t) (kept_of m t) v → ListedBy (frame_of t) (kept_of m t) v before after r

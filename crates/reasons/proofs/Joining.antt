@@ -17,8 +17,7 @@ use Rattle.papers.specs.Paper.{BRANCH, Entry, spell}
 use Rattle.papers.specs.inner.ReaderBranch.{branch_of}
 use Rattle.reasons.specs.Telling.{edges_of}
 use Rattle.reasons.specs.inner.Laid.{Done, EntriesTold}
-use Rattle.reasons.specs.declared.naming.Told.{Told}
-use Rattle.reasons.specs.declared.naming.Told.TheVariants.{On, Over}
+use Rattle.std.specs.Prelude.{Option, Some, None}
 use Rattle.reasons.proofs.Places.{sets-join}
 use Rattle.reasons.proofs.Telling.{edges-append}
 
@@ -32,7 +31,7 @@ pub spell-long : (es fs : List Entry) → length (spell (es ++ fs)) ≡ length (
 spell-long es fs = ap length (spell-append es fs) ∙ length-append (spell es) (spell fs)
 
 module _ (limit : ℕ) (from to out : List ℕ) (n at : ℕ) where
-  pub told_none : n ≤ BRANCH → at ≤ limit → EntriesTold limit from to out n at [] from to out (On n at)
+  pub told_none : n ≤ BRANCH → at ≤ limit → EntriesTold limit from to out n at [] from to out (Some (n, at))
   unfolding edges_of spell
   told_none s l = record {
     counted = sym (add-zero n);
@@ -43,10 +42,10 @@ module _ (limit : ℕ) (from to out : List ℕ) (n at : ℕ) where
     laid = refl;
   }
 
-  pub told-on : (es : List Entry) (from' to' out' : List ℕ) (r : Told) (m p : ℕ) → EntriesTold limit from to out n at es from' to' out' r → r ≡ On m p → Done limit from to out n at es from' to' out' m p
+  pub told-on : (es : List Entry) (from' to' out' : List ℕ) (r : Option (ℕ × ℕ)) (m p : ℕ) → EntriesTold limit from to out n at es from' to' out' r → r ≡ Some (m, p) → Done limit from to out n at es from' to' out' m p
   told-on es from' to' out' r m p h e = subst (EntriesTold limit from to out n at es from' to' out') e h
 
-  pub told_over : (es : List Entry) (from' to' out' : List ℕ) (r : Told) → EntriesTold limit from to out n at es from' to' out' r → r ≡ Over → (limit < at + length (spell es)) ⊎ (BRANCH < n + length es)
+  pub told_over : (es : List Entry) (from' to' out' : List ℕ) (r : Option (ℕ × ℕ)) → EntriesTold limit from to out n at es from' to' out' r → r ≡ None → (limit < at + length (spell es)) ⊎ (BRANCH < n + length es)
   told_over es from' to' out' r h e = subst (EntriesTold limit from to out n at es from' to' out') e h
 
   pub over_first : (es fs : List Entry) → (limit < at + length (spell es)) ⊎ (BRANCH < n + length es) → (limit < at + length (spell (es ++ fs))) ⊎ (BRANCH < n + length (es ++ fs))

@@ -30,9 +30,7 @@ use Rattle.papers.proofs.Branches.{branch-more, same_branch, set_same}
 use Rattle.reasons.specs.Telling.{edges_of, entry_number, numbers}
 use Rattle.reasons.specs.Ways.{step_of, way_of}
 use Rattle.reasons.specs.inner.Laid.{PutAt, EntriesTold}
-use Rattle.reasons.specs.declared.naming.Put.{Put}
-use Rattle.reasons.specs.declared.naming.Put.TheVariants.{At, Full}
-use Rattle.reasons.specs.declared.naming.Told.TheVariants.{On, Over}
+use Rattle.std.specs.Prelude.{Option, Some, None}
 use Rattle.reasons.proofs.Places.{Reads, sets-join, sets_more}
 
 -- the first i of a list, and one more that was stored
@@ -123,7 +121,7 @@ module _ (before : List ℕ) (at : ℕ) (words out : List ℕ) (i : ℕ) (h : i 
   pub lay-skip : length out ≤ at + i → out ≡ sets before at (take (i + 1) words)
   lay-skip l = sym (set_out out (at + i) (get_or words i 0) l) ∙ lay-write
 
-pub put-at : (limit : ℕ) (out : List ℕ) (at : ℕ) (ws out' : List ℕ) (r q : Put) → PutAt limit out at ws out' r → r ≡ q → PutAt limit out at ws out' q
+pub put-at : (limit : ℕ) (out : List ℕ) (at : ℕ) (ws out' : List ℕ) (r q : Option ℕ) → PutAt limit out at ws out' r → r ≡ q → PutAt limit out at ws out' q
 put-at limit out at ws out' r q h e = subst (PutAt limit out at ws out') e h
 
 -- one entry more, as it is kept in the arrays
@@ -149,27 +147,27 @@ module _ (rule x y k : ℕ) (rests : List ℕ) (fits : k ≤ length rests) where
   spelt-long : length (spell (one ∷ [])) ≡ 4 + k
   spelt-long = ap length spelt ∙ (let q : length (head ++ take k rests) ≡ 4 + k = omega (arith, length-take-le k rests fits) in q)
 
-  pub entry-full : (limit : ℕ) (out : List ℕ) (at : ℕ) (out' : List ℕ) → limit < at + 4 → PutAt limit out at (spell (one ∷ [])) out' Full
+  pub entry-full : (limit : ℕ) (out : List ℕ) (at : ℕ) (out' : List ℕ) → limit < at + 4 → PutAt limit out at (spell (one ∷ [])) out' None
   entry-full limit out at out' h = omega (arith, spelt-long)
 
-  pub entry-laid : (limit : ℕ) (out : List ℕ) (at : ℕ) (out₁ : List ℕ) (p : ℕ) → PutAt limit out at head out₁ (At p) → (out₂ : List ℕ) (r : Put)
+  pub entry-laid : (limit : ℕ) (out : List ℕ) (at : ℕ) (out₁ : List ℕ) (p : ℕ) → PutAt limit out at head out₁ (Some p) → (out₂ : List ℕ) (r : Option ℕ)
       → PutAt limit out₁ p (take k rests) out₂ r → PutAt limit out at (spell (one ∷ [])) out₂ r
-  entry-laid limit out at out₁ p (a, b, s) out₂ (At q) (a', b', s') = (
+  entry-laid limit out at out₁ p (a, b, s) out₂ (Some q) (a', b', s') = (
     omega (arith, a, a', spelt-long, length-take-le k rests fits),
     b',
     s' ∙ ap (λ o. sets o p (take k rests)) s ∙ ap (λ j. sets (sets out at head) j (take k rests)) a ∙ sets-join out at head (take k rests) ∙ ap (sets out at) (sym spelt),
   )
-  entry-laid limit out at out₁ p (a, b, s) out₂ Full h = omega (arith, a, h, spelt-long, length-take-le k rests fits)
+  entry-laid limit out at out₁ p (a, b, s) out₂ None h = omega (arith, a, h, spelt-long, length-take-le k rests fits)
 
   module _ (limit : ℕ) (from to out : List ℕ) (n at : ℕ) where
-    pub name-over : (from' to' out' : List ℕ) → BRANCH ≤ n → EntriesTold limit from to out n at (one ∷ []) from' to' out' Over
+    pub name-over : (from' to' out' : List ℕ) → BRANCH ≤ n → EntriesTold limit from to out n at (one ∷ []) from' to' out' None
     name-over from' to' out' h = inr (let q : BRANCH < n + 1 = omega arith in q)
 
-    pub name-full : (from' to' out' out'' : List ℕ) → PutAt limit out at (spell (one ∷ [])) out'' Full → EntriesTold limit from to out n at (one ∷ []) from' to' out' Over
+    pub name-full : (from' to' out' out'' : List ℕ) → PutAt limit out at (spell (one ∷ [])) out'' None → EntriesTold limit from to out n at (one ∷ []) from' to' out' None
     name-full from' to' out' out'' h = inl h
 
-    pub name_done : (out' : List ℕ) (p : ℕ) → PutAt limit out at (spell (one ∷ [])) out' (At p) → n < BRANCH → length from ≡ BRANCH → length to ≡ BRANCH
-        → EntriesTold limit from to out n at (one ∷ []) (set from n x) (set to n y) out' (On (n + 1) p)
+    pub name_done : (out' : List ℕ) (p : ℕ) → PutAt limit out at (spell (one ∷ [])) out' (Some p) → n < BRANCH → length from ≡ BRANCH → length to ≡ BRANCH
+        → EntriesTold limit from to out n at (one ∷ []) (set from n x) (set to n y) out' (Some (n + 1, p))
     unfolding edges_of
     name_done out' p (a, b, s) h lf lt = record {
       counted = refl;

@@ -54,10 +54,8 @@ use Rattle.reasons.specs.Telling.{edges_of, inside, numbers, along, tell}
 use Rattle.reasons.specs.Writing.{circle_entry, fallen, circle_round, closing, leaf_of}
 use Rattle.reasons.specs.inner.Laid.{PutAt, Done, EntriesTold}
 use Rattle.reasons.specs.inner.PutKept.{PutKept}
-use Rattle.reasons.specs.declared.naming.Put.{Put}
-use Rattle.reasons.specs.declared.naming.Put.TheVariants.{At, Full}
-use Rattle.reasons.specs.declared.naming.Told.{Told}
-use Rattle.reasons.specs.declared.naming.Told.TheVariants.{On, Over}
+use Rattle.std.specs.Prelude.{Some, None}
+use Rattle.std.specs.Prelude as std
 use Rattle.reasons.proofs.Names.{inside-iff, named-grow}
 use Rattle.reasons.proofs.Short.{distinct-short}
 use Rattle.reasons.proofs.Places.{sets-join}
@@ -175,10 +173,10 @@ module _ (f : Frame) (K P : Table) (k limit : ℕ) (from to out : List ℕ) (n a
   rests = numbers (E ++ edges_of (circling (inside E))) s zs s
 
   -- by the pairs that the branch names
-  by-branch : (from₁ to₁ out₁ : List ℕ) (r : Told) → EntriesTold limit from to out n at (circling P) from₁ to₁ out₁ r → EntriesTold limit from to out n at (circling (inside E)) from₁ to₁ out₁ r
+  by-branch : (from₁ to₁ out₁ : List ℕ) (r : std.Option (ℕ × ℕ)) → EntriesTold limit from to out n at (circling P) from₁ to₁ out₁ r → EntriesTold limit from to out n at (circling (inside E)) from₁ to₁ out₁ r
   by-branch from₁ to₁ out₁ r = subst (λ (P : Table). EntriesTold limit from to out n at (circling P) from₁ to₁ out₁ r) q
 
-  pub closed-full : (from₁ to₁ out₁ : List ℕ) (r : Told) → EntriesTold limit from to out n at (circling P) from₁ to₁ out₁ r → r ≡ Over → n + length (circling (inside E)) ≤ BRANCH
+  pub closed-full : (from₁ to₁ out₁ : List ℕ) (r : std.Option (ℕ × ℕ)) → EntriesTold limit from to out n at (circling P) from₁ to₁ out₁ r → r ≡ None → n + length (circling (inside E)) ≤ BRANCH
       → limit < at + length (spell (closing f K k E s zs))
   unfolding closing
   closed-full from₁ to₁ out₁ r d o l = elim (told_over limit from to out n at (circling (inside E)) from₁ to₁ out₁ r (by-branch from₁ to₁ out₁ r d) o) [
@@ -186,11 +184,11 @@ module _ (f : Frame) (K P : Table) (k limit : ℕ) (from to out : List ℕ) (n a
     | inr h ↦ absurd (omega arith)
   ]
 
-  module _ (from₁ to₁ out₁ : List ℕ) (r : Told) (m p : ℕ) (told : EntriesTold limit from to out n at (circling P) from₁ to₁ out₁ r) (o : r ≡ On m p) where
+  module _ (from₁ to₁ out₁ : List ℕ) (r : std.Option (ℕ × ℕ)) (m p : ℕ) (told : EntriesTold limit from to out n at (circling P) from₁ to₁ out₁ r) (o : r ≡ Some (m, p)) where
     pub closed-told : Done limit from to out n at (circling (inside E)) from₁ to₁ out₁ m p
     closed-told = told-on limit from to out n at (circling (inside E)) from₁ to₁ out₁ r m p (by-branch from₁ to₁ out₁ r told) o
 
-    pub closed-laid : (is : List ℕ) → is ≡ numbers (branch_of from₁ to₁ m) s zs s → (out₂ : List ℕ) (r : Put) → PutAt limit out₁ p (spell (circle_entry s is ∷ [])) out₂ r
+    pub closed-laid : (is : List ℕ) → is ≡ numbers (branch_of from₁ to₁ m) s zs s → (out₂ : List ℕ) (r : std.Option ℕ) → PutAt limit out₁ p (spell (circle_entry s is ∷ [])) out₂ r
         → PutKept limit from to n out at (spell (closing f K k E s zs)) from₁ to₁ out₂ r
     unfolding closing
     closed-laid is e out₂ r h = go r (subst (λ (js : List ℕ). PutAt limit out₁ p (spell (circle_entry s js ∷ [])) out₂ r) (e ∙ ap (λ B. numbers B s zs s) d.branch) h)
@@ -204,14 +202,14 @@ module _ (f : Frame) (K P : Table) (k limit : ℕ) (from to out : List ℕ) (n a
         end : List Entry
         end = circle_entry s rests ∷ []
 
-        go : (r : Put) → PutAt limit out₁ p (spell (circle_entry s rests ∷ [])) out₂ r → PutKept limit from to n out at (spell (circling (inside E) ++ circle_entry s rests ∷ [])) from₁ to₁ out₂ r
-        go (At o) (a, b, w) = (
+        go : (r : std.Option ℕ) → PutAt limit out₁ p (spell (circle_entry s rests ∷ [])) out₂ r → PutKept limit from to n out at (spell (circling (inside E) ++ circle_entry s rests ∷ [])) from₁ to₁ out₂ r
+        go (Some o) (a, b, w) = (
           omega (arith, a, d.placed, spell-long es end),
           b,
           w ∙ ap₂ (λ o j. sets o j (spell end)) d.laid d.placed ∙ sets-join out at (spell es) (spell end) ∙ ap (sets out at) (sym (spell-append es end)),
           branch-front from to n from₁ to₁ m (edges_of es) (omega (arith, d.counted)) d.branch,
         )
-        go Full h = omega (arith, h, d.placed, spell-long es end)
+        go None h = omega (arith, h, d.placed, spell-long es end)
 
 -- the same of a trace, by what its functions promise
 module _ (t : Trace) (m : ℕ) (rows : List ℕ) (E : List Claim) (w : So (well_formed t)) (o : So (modelled m)) (q : supposed_of t rows ≡ inside E) (fell : So (fallen (frame_of t) (kept_of m t) E))
@@ -228,10 +226,10 @@ module _ (t : Trace) (m : ℕ) (rows : List ℕ) (E : List Claim) (w : So (well_
       subst (λ (P : Table). Ends (frame_of t) (kept_of m t) P r.number r.circle r.before r.edges r.chains) q
       (d.ended ((and-iff {a = well_formed t} {b = modelled m} same-iff same-iff).1 (w, o)))
 
-  pub leaf-empty : len ≡ 0 → (limit : ℕ) (from to : List ℕ) (n : ℕ) (out : List ℕ) (at : ℕ) → at ≤ limit → PutKept limit from to n out at (spell (leaf_of (frame_of t) (kept_of m t) E)) from to out (At at)
+  pub leaf-empty : len ≡ 0 → (limit : ℕ) (from to : List ℕ) (n : ℕ) (out : List ℕ) (at : ℕ) → at ≤ limit → PutKept limit from to n out at (spell (leaf_of (frame_of t) (kept_of m t) E)) from to out (Some at)
   unfolding spell
   leaf-empty z limit from to n out at l =
-      subst (λ (es : List Entry). PutKept limit from to n out at (spell es) from to out (At at))
+      subst (λ (es : List Entry). PutKept limit from to n out at (spell es) from to out (Some at))
       (sym (leaf-none (frame_of t) (good t w) small (kept_of m t) (kept-joins m t) E joined fell r.number r.circle r.before r.edges r.chains ends len laid s z))
       (sym (add-zero at), l, refl, refl)
 

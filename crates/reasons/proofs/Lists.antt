@@ -54,8 +54,8 @@ use Rattle.reasons.specs.inner.Closable.{Closable, closes, parts}
 use Rattle.reasons.specs.inner.Choice.{ReadRow, SupposedIn, NamedRows, Known, ChosenPair, NextIn}
 use Rattle.reasons.specs.inner.Laid.{PutAt}
 use Rattle.reasons.specs.inner.PutKept.{PutKept}
-use Rattle.reasons.specs.declared.naming.Put.{Put}
-use Rattle.reasons.specs.declared.naming.Put.TheVariants.{At, Full}
+use Rattle.std.specs.Prelude.{Some, None}
+use Rattle.std.specs.Prelude as std
 use Rattle.reasons.specs.declared.choice.Choice.{Choice}
 use Rattle.reasons.specs.declared.choice.Next.{Next}
 use Rattle.reasons.specs.declared.choice.Next.TheVariants.{Circle, Split}
@@ -198,16 +198,16 @@ module _ (limit : ℕ) (out : List ℕ) (at a b : ℕ) (es fs : List Entry) wher
   long : length (spell whole) ≡ length (spell (split_entry a b ∷ [])) + (length (spell es) + length (spell fs))
   long = ap length spelt ∙ length-append (spell (split_entry a b ∷ [])) (spell es ++ spell fs) ∙ ap (λ k. length (spell (split_entry a b ∷ [])) + k) (length-append (spell es) (spell fs))
 
-  pub split-over : (out' : List ℕ) → PutAt limit out at (spell (split_entry a b ∷ [])) out' Full → limit < at + length (spell whole)
+  pub split-over : (out' : List ℕ) → PutAt limit out at (spell (split_entry a b ∷ [])) out' None → limit < at + length (spell whole)
   split-over out' h = omega (arith, h, long)
 
-  module _ (out₁ : List ℕ) (p : ℕ) (h : PutAt limit out at (spell (split_entry a b ∷ [])) out₁ (At p)) where
+  module _ (out₁ : List ℕ) (p : ℕ) (h : PutAt limit out at (spell (split_entry a b ∷ [])) out₁ (Some p)) where
     pub first-over : limit < p + length (spell es) → limit < at + length (spell whole)
     first-over g = omega (arith, h.0, g, long)
 
     pub sides-laid : (out₂ : List ℕ) (q : ℕ) → q ≡ p + length (spell es) → out₂ ≡ sets out₁ p (spell es) → (from to from' to' from'' to'' : List ℕ) (n k : ℕ) → (branch_of from'' to'' k ≡ branch_of from' to' k → branch_of from'' to'' n ≡ branch_of from to n)
-        → (out₃ : List ℕ) (r : Put) → PutKept limit from' to' k out₂ q (spell fs) from'' to'' out₃ r → PutKept limit from to n out at (spell whole) from'' to'' out₃ r
-    sides-laid out₂ q c d from to from' to' from'' to'' n k e out₃ (At z) (u, v, x, y) = (
+        → (out₃ : List ℕ) (r : std.Option ℕ) → PutKept limit from' to' k out₂ q (spell fs) from'' to'' out₃ r → PutKept limit from to n out at (spell whole) from'' to'' out₃ r
+    sides-laid out₂ q c d from to from' to' from'' to'' n k e out₃ (Some z) (u, v, x, y) = (
       omega (arith, u, c, h.0, long),
       v,
       x
@@ -224,7 +224,7 @@ module _ (limit : ℕ) (out : List ℕ) (at a b : ℕ) (es fs : List Entry) wher
             (let q : at + length (spell (split_entry a b ∷ [])) + length (spell es) ≡ at + length (spell (split_entry a b ∷ []) ++ spell es) = omega (arith, length-append (spell (split_entry a b ∷ [])) (spell es)) in q)
             ∙ sets-join out at (spell (split_entry a b ∷ []) ++ spell es) (spell fs)
             ∙ ap (sets out at) (append_assoc (spell (split_entry a b ∷ [])) (spell es) (spell fs))
-    sides-laid out₂ q c d from to from' to' from'' to'' n k e out₃ Full g = omega (arith, g, c, h.0, long)
+    sides-laid out₂ q c d from to from' to' from'' to'' n k e out₃ None g = omega (arith, g, c, h.0, long)
 
 -- one side of a split, as the arrays keep it
 module _ (t : Trace) (w : So (well_formed t)) (m k : ℕ) (E : List Claim) (from to : List ℕ) (n x y : ℕ) (same : branch_of from to n ≡ E) (l : n < length from) (l' : n < length to) where
@@ -237,10 +237,10 @@ module _ (t : Trace) (w : So (well_formed t)) (m k : ℕ) (E : List Claim) (from
   pub side-closes : Closable (frame_of t) (kept_of m t) k (named E x y) → Closable (frame_of t) (kept_of m t) k (branch_of (set from n x) (set to n y) (n + 1))
   side-closes c = subst⁻¹ (Closable (frame_of t) (kept_of m t) k) side-named c
 
-  pub side-list : (limit : ℕ) (out : List ℕ) (at : ℕ) (from' to' out' : List ℕ) (r : Put)
+  pub side-list : (limit : ℕ) (out : List ℕ) (at : ℕ) (from' to' out' : List ℕ) (r : std.Option ℕ)
       → PutKept limit (set from n x) (set to n y) (n + 1) out at (spell (paper_of (frame_of t) (kept_of m t) k (branch_of (set from n x) (set to n y) (n + 1)))) from' to' out' r
       → PutKept limit (set from n x) (set to n y) (n + 1) out at (spell (paper_of (frame_of t) (kept_of m t) k (named E x y))) from' to' out' r
   side-list limit out at from' to' out' r h = subst (λ (F : List Claim). PutKept limit (set from n x) (set to n y) (n + 1) out at (spell (paper_of (frame_of t) (kept_of m t) k F)) from' to' out' r) side-named h
 
-pub kept_at : (limit : ℕ) (from to : List ℕ) (n : ℕ) (out : List ℕ) (at : ℕ) (ws from' to' out' : List ℕ) (r q : Put) → PutKept limit from to n out at ws from' to' out' r → r ≡ q → PutKept limit from to n out at ws from' to' out' q
+pub kept_at : (limit : ℕ) (from to : List ℕ) (n : ℕ) (out : List ℕ) (at : ℕ) (ws from' to' out' : List ℕ) (r q : std.Option ℕ) → PutKept limit from to n out at ws from' to' out' r → r ≡ q → PutKept limit from to n out at ws from' to' out' q
 kept_at limit from to n out at ws from' to' out' r q h e = subst (PutKept limit from to n out at ws from' to' out') e h

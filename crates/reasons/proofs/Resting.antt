@@ -7,6 +7,7 @@
 --   source-small  == a source is a number of the code
 --   inside-place  == an edge is named where it has a place
 --   rests-alone   == the answer for an edge that is told alone
+--   rests-resting == the chain, where the answer is one
 --   told-alone, told-short, told-resting == an edge told by that answer: alone; no room for what it rests on; behind what it rests on
 use mathlib.Core.Path.{◌≡◌, refl, sym, ap, ap₂, ◌∙◌, subst, fun_ext}
 use mathlib.Core.Logic.{◌≢◌, ◌↔◌, ◌⊎◌, inl, inr}
@@ -16,7 +17,7 @@ use mathlib.Core.Option.{Option, none, some}
 use Prim.Native.Nat.{ℕ, zero, suc, ◌+◌, ◌-◌, ◌<◌, ◌≤◌}
 use native.Mathlib.Omega.{arith}
 use lib.Dec.{eqb}
-use lib.ListN.{length, take, get_or}
+use lib.ListN.{length, take}
 use Rattle.laws.specs.Tests.{any}
 use Rattle.laws.specs.Relation.{Table}
 use Rattle.laws.specs.Lowest.{Lowest, lowest}
@@ -39,11 +40,12 @@ use Rattle.papers.specs.Paper.{Claim, Entry, edge_at}
 use Rattle.papers.specs.inner.ReaderBranch.{branch_of}
 use Rattle.reasons.specs.Telling.{edges_of, inside, entry_place, numbers, along, rule_by, rest_load, bare_entry, rests_from, rests_to, way_at, resting, tell}
 use Rattle.reasons.specs.Ways.{way_of}
-use Rattle.reasons.specs.inner.Rests.{resting_on, RestsOn}
+use Rattle.reasons.specs.inner.Rests.{resting_on, Resting, RestsOn}
 use Rattle.reasons.specs.inner.Laid.{Done, EntriesTold}
 use Rattle.reasons.specs.declared.story.Rest.{Rest}
-use Rattle.reasons.specs.declared.naming.Told.{Told}
-use Rattle.reasons.specs.declared.naming.Told.TheVariants.{Over}
+use Rattle.reasons.specs.declared.story.Chain.{Chain}
+use Rattle.std.specs.Prelude.{Some, None}
+use Rattle.std.specs.Prelude as std
 use Rattle.reasons.proofs.Joining.{over_first}
 use Rattle.reasons.proofs.Along.{told-join}
 
@@ -218,40 +220,40 @@ module _ (E : List Claim) (x y : ℕ) where
       go (some i) l = (λ _. (so-any (length E) t).1 (i, l.0.0, l.0.1), λ h. absurd (omega (arith, l.0.0, h)))
       go none l = (λ h. absurd (omega (arith, h)), λ _. off (λ u. let p = (so-any (length E) t).0 u in l p.0 (p.1, p.2)))
 
-module _ (f : Frame) (K P : Table) (k x y : ℕ) (steps : List ℕ) (r : Rest) where
-  pub rests-alone : ((i : ℕ) → get_or steps i 0 < 65536) → So r.bare → r.from ≡ 0 → r.to ≡ 0 → r.len ≡ 0 → (b : ℕ) → r.rule ≡ b
-      → ((E : List Claim) → inside E x y ≡ false → tell f K P k E x y ≡ record { rule = b; from = x; to = y; rests = [] } ∷ []) → RestsOn f K P k x y steps r
-  rests-alone m s p q l b e h = record {
-    alone = λ _ E out. h E out ∙ ap (λ b. record { rule = b; from = x; to = y; rests = [] } ∷ []) (sym e);
-    rests = λ n. absurd (false≢true (sym n ∙ s));
-    lower = λ n. absurd (false≢true (sym n ∙ s));
-    from-small = omega arith;
-    to-small = omega arith;
-    steps-small = m;
-    short = omega arith;
-  }
+module _ (f : Frame) (K P : Table) (k x y : ℕ) (steps : List ℕ) where
+  pub rests-alone : (r : Rest) (b : ℕ) → r.rule ≡ b → r.chain ≡ None
+      → ((E : List Claim) → inside E x y ≡ false → tell f K P k E x y ≡ record { rule = b; from = x; to = y; rests = [] } ∷ []) → RestsOn f K P k x y steps r.rule r.chain
+  rests-alone r b e n h =
+      subst (RestsOn f K P k x y steps r.rule) (sym n) (λ E out. h E out ∙ ap (λ b. record { rule = b; from = x; to = y; rests = [] } ∷ []) (sym e))
 
-  -- the edge is told in the branch of the arrays, which does not name it
-  module _ (rest : RestsOn f K P k x y steps r) (limit : ℕ) (from to out : List ℕ) (n at : ℕ) (new : inside (branch_of from to n) x y ≡ false) (from' to' out' : List ℕ) (a : Told) where
-    pub told-alone : So r.bare → EntriesTold limit from to out n at (record { rule = r.rule; from = x; to = y; rests = [] } ∷ []) from' to' out' a
-        → EntriesTold limit from to out n at (tell f K P k (branch_of from to n) x y) from' to' out' a
-    told-alone s h = subst (λ (es : List Entry). EntriesTold limit from to out n at es from' to' out' a) (sym (rest.alone s (branch_of from to n) new)) h
+  module _ (r : ℕ) where
+    pub rests-resting : (o : std.Option Chain) (c : Chain) → RestsOn f K P k x y steps r o → o ≡ Some c → Resting f K P k x y steps r c
+    rests-resting o c h e = subst (RestsOn f K P k x y steps r) e h
 
-    module _ (s : r.bare ≡ false) where
-      abbrev whole : List Entry
-      whole = along (tell f K P r.number) (branch_of from to n) r.from (take r.len steps) r.to
+    -- the edge is told in the branch of the arrays, which does not name it
+    module _ (limit : ℕ) (from to out : List ℕ) (n at : ℕ) (new : inside (branch_of from to n) x y ≡ false) (from' to' out' : List ℕ) (a : std.Option (ℕ × ℕ)) where
+      pub told-alone : (o : std.Option Chain) → RestsOn f K P k x y steps r o → o ≡ None → EntriesTold limit from to out n at (record { rule = r; from = x; to = y; rests = [] } ∷ []) from' to' out' a
+          → EntriesTold limit from to out n at (tell f K P k (branch_of from to n) x y) from' to' out' a
+      told-alone o rest e h = subst (λ (es : List Entry). EntriesTold limit from to out n at es from' to' out' a) (sym (alone (branch_of from to n) new)) h
+        where
+          alone : RestsOn f K P k x y steps r None
+          alone = subst (RestsOn f K P k x y steps r) e rest
 
-      abbrev entry_by : List Claim → Entry
-      entry_by B = record { rule = r.rule; from = x; to = y; rests = numbers B r.from (take r.len steps) r.to }
+      module _ (c : Chain) (rest : Resting f K P k x y steps r c) where
+        abbrev whole : List Entry
+        whole = along (tell f K P c.number) (branch_of from to n) c.from (take c.len steps) c.to
 
-      pub told-short : EntriesTold limit from to out n at whole from' to' out' Over → EntriesTold limit from to out n at (tell f K P k (branch_of from to n) x y) from' to' out' Over
-      told-short h =
-          subst (λ (es : List Entry). EntriesTold limit from to out n at es from' to' out' Over) (sym (rest.rests s (branch_of from to n) new))
-          (over_first limit from to out n at whole (entry_by (branch_of from to n ++ edges_of whole) ∷ []) h)
+        abbrev entry_by : List Claim → Entry
+        entry_by B = record { rule = r; from = x; to = y; rests = numbers B c.from (take c.len steps) c.to }
 
-      pub told-resting : (from₁ to₁ out₁ : List ℕ) (m p : ℕ) → Done limit from to out n at whole from₁ to₁ out₁ m p
-          → EntriesTold limit from₁ to₁ out₁ m p (entry_by (branch_of from₁ to₁ m) ∷ []) from' to' out' a → EntriesTold limit from to out n at (tell f K P k (branch_of from to n) x y) from' to' out' a
-      told-resting from₁ to₁ out₁ m p d h =
-          subst (λ (es : List Entry). EntriesTold limit from to out n at es from' to' out' a) (sym (rest.rests s (branch_of from to n) new))
-          (told-join limit from to out n at whole (entry_by (branch_of from to n ++ edges_of whole) ∷ []) from₁ to₁ out₁ m p d from' to' out' a
-          (subst (λ (B : List Claim). EntriesTold limit from₁ to₁ out₁ m p (entry_by B ∷ []) from' to' out' a) d.branch h))
+        pub told-short : EntriesTold limit from to out n at whole from' to' out' None → EntriesTold limit from to out n at (tell f K P k (branch_of from to n) x y) from' to' out' None
+        told-short h =
+            subst (λ (es : List Entry). EntriesTold limit from to out n at es from' to' out' None) (sym (rest.rests (branch_of from to n) new))
+            (over_first limit from to out n at whole (entry_by (branch_of from to n ++ edges_of whole) ∷ []) h)
+
+        pub told-resting : (from₁ to₁ out₁ : List ℕ) (m p : ℕ) → Done limit from to out n at whole from₁ to₁ out₁ m p
+            → EntriesTold limit from₁ to₁ out₁ m p (entry_by (branch_of from₁ to₁ m) ∷ []) from' to' out' a → EntriesTold limit from to out n at (tell f K P k (branch_of from to n) x y) from' to' out' a
+        told-resting from₁ to₁ out₁ m p d h =
+            subst (λ (es : List Entry). EntriesTold limit from to out n at es from' to' out' a) (sym (rest.rests (branch_of from to n) new))
+            (told-join limit from to out n at whole (entry_by (branch_of from to n ++ edges_of whole) ∷ []) from₁ to₁ out₁ m p d from' to' out' a
+            (subst (λ (B : List Claim). EntriesTold limit from₁ to₁ out₁ m p (entry_by B ∷ []) from' to' out' a) d.branch h))

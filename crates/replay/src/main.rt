@@ -7,17 +7,17 @@ ghost use Rattle.std.specs.Prelude.{◌<◌};
 mod walk;
 mod words;
 
+use machine::Steps;
 use machine::replaying::steps_of;
-use machine::{STEPS, Steps};
 use pairs::{SC, TSO};
 use reader::Answer;
 use saying::args::arg_count;
 use saying::input::fill;
-use saying::{fail, say, tell};
+use saying::{fail, say};
 use std::io;
 use std::io::{Stderr, Stdin, Stdout};
 use text::Cursor;
-use trace::{RECORDS, THREADS, Trace};
+use trace::{THREADS, Trace};
 use verdict::tell::verdict_of;
 use walk::{first_from, own};
 use words::{say_empty, say_run};
@@ -32,10 +32,7 @@ const KINDS: usize = 16;
 fn kind_of(step: u8) -> usize
     ensures { result < 16 }
 {
-    if step < 16 {
-        return step as usize;
-    }
-    0
+    if step < 16 { step as usize } else { 0 }
 }
 
 // Where it is noted which store the core of a step emptied last.
@@ -43,9 +40,10 @@ fn stores_of(step: u8) -> usize
     ensures { result < 16 }
 {
     if step < THREADS {
-        return (THREADS + step) as usize;
+        (THREADS + step) as usize
+    } else {
+        0
     }
-    0
 }
 
 // A step in words, told its record and from where on its core's stores wait.
@@ -59,41 +57,31 @@ fn say_step(
 ) -> io::Result<()> {
     let op = pairs::op_at(t, x);
     if step < THREADS {
-        return say_run(stdout, op, model, (model == TSO) & own(t, x, waiting));
+        say_run(stdout, op, model, model == TSO && own(t, x, waiting))
+    } else {
+        say_empty(stdout, op)
     }
-    say_empty(stdout, op)
 }
 
 // The steps of an order in words. What each is about is looked for behind the last record, or the last store, that a step of its kind was about.
 fn say_steps(stdout: Stdout, t: Trace, model: u8, s: Steps) -> io::Result<()> {
-    let len = s.len;
     let mut from = [0usize; KINDS];
-    let mut i: usize = 0;
-    while i < STEPS {
-        let step = s.steps[i];
+    for step in s.steps.iter().copied().take(s.len) {
         let kind = kind_of(step);
-        let stores = stores_of(step);
-        let x = first_from(t, step, from[kind]);
-        if len <= i {
-            return Ok(());
-        }
-        if x < RECORDS {
+        if let Some(x) = first_from(t, step, from[kind]) {
             from[kind] = x + 1;
-            say_step(stdout, t, model, step, x, from[stores])?;
+            say_step(stdout, t, model, step, x, from[stores_of(step)])?;
         }
-        i += 1;
     }
     Ok(())
 }
 
 // A part of what is reported.
 fn say_part(stdout: Stdout, report: &[u8], from: usize, to: usize) -> io::Result<()> {
-    if from <= to {
-        if to <= report.len() {
-            return say(stdout, &report[from..to]);
-        }
+    match report.get(from..to) {
+        Some(part) => say(stdout, part),
+        None => Ok(()),
     }
-    Ok(())
 }
 
 // The steps of the first len operations, where they are an order.
@@ -104,28 +92,25 @@ fn say_order(
     operations: &[u16],
     len: usize,
 ) -> io::Result<()> {
-    if len <= operations.len() {
-        return say_steps(stdout, t, model, steps_of(t, model, &operations[0..len]));
+    match operations.get(..len) {
+        Some(order) => say_steps(stdout, t, model, steps_of(t, model, order)),
+        None => Ok(()),
     }
-    Ok(())
 }
 
 // The steps of the verdict's order, if it has one.
 fn replay(stdout: Stdout, t: Trace, model: u8) -> io::Result<()> {
     let v = verdict_of(t, model);
-    let operations = v.operations;
-    say_order(stdout, t, model, &operations, v.len)
+    say_order(stdout, t, model, &v.operations, v.len)
 }
 
 // The line of each of the two models, which are the first that are reported, and its steps below.
 fn say_models(stdout: Stdout, t: Trace, report: &[u8]) -> io::Result<()> {
     let first = Cursor::new().next(report);
     let second = first.next(report);
-    let end = first.at;
-    let last = second.at;
-    say_part(stdout, report, 0, end)?;
+    say_part(stdout, report, 0, first.at)?;
     replay(stdout, t, SC)?;
-    say_part(stdout, report, end, last)?;
+    say_part(stdout, report, first.at, second.at)?;
     replay(stdout, t, TSO)
 }
 
@@ -134,36 +119,29 @@ fn answered(stdout: Stdout, text: &[u8]) -> io::Result<()> {
     let mut out = [0u8; report::REPORT];
     let n = report::report(text, &mut out);
     let reading = reader::read_whole(text);
-    let answer = reading.answer;
-    match answer {
+    match reading.answer {
         Answer::Good => say_models(stdout, reading.trace, &out),
-        Answer::Refused { reason: _, line: _ } => say_part(stdout, &out, 0, n),
-        Answer::Lost => say_part(stdout, &out, 0, n),
+        Answer::Refused { .. } | Answer::Lost => say_part(stdout, &out, 0, n),
     }
 }
 
 // The same, or the line of what failed.
 fn answer(stdout: Stdout, stderr: Stderr, text: &[u8]) -> io::Result<()> {
-    match answered(stdout, text) {
-        Ok(()) => Ok(()),
-        Err(why) => fail(stderr, b"replay: standard output", why),
-    }
+    answered(stdout, text).or_else(|why| fail(stderr, b"replay: standard output", why))
 }
 
 // Reads the text and answers it. Where a read failed nothing is replayed: half a trace may be good where the whole one is not.
 fn watch(mut stdin: Stdin, stdout: Stdout, stderr: Stderr) -> io::Result<()> {
-    let mut text: [u8; ROOM] = [0; 32769];
-    let got = fill(&mut stdin, &mut text);
-    let n = got.count;
-    match got.whole {
-        Ok(()) => answer(stdout, stderr, &text[..n]),
+    let mut text = [0u8; ROOM];
+    match fill(&mut stdin, &mut text) {
+        Ok(n) => answer(stdout, stderr, &text[..n]),
         Err(why) => fail(stderr, b"replay: standard input", why),
     }
 }
 
 fn main(rt: HostRuntime) -> io::Result<()> {
     if arg_count(&rt) > 1 {
-        tell(rt.stderr(), b"usage: replay < TRACE (it takes no words)\n")
+        eprintln!(rt; "usage: replay < TRACE (it takes no words)")
     } else {
         watch(rt.stdin(), rt.stdout(), rt.stderr())
     }

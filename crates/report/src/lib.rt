@@ -30,10 +30,8 @@ fn put_models(t: Trace, out: &mut [u8]) -> usize
     requires { length out.old ≡ REPORT }
     ensures { WroteLines t MODELS out.old out.new result }
 {
-    let mut model: u8 = 0;
     let mut at: usize = 0;
-    while model < MODELS {
-        model += 1;
+    for model in 1..=MODELS {
         at = put_line(model, verdict_of(t, model), out, at);
     }
     at
@@ -45,8 +43,7 @@ fn written(text: &[u8], out: &mut [u8]) -> usize
     ensures { Written text.now out.old out.new result }
 {
     let reading = read_whole(text);
-    let answer = reading.answer;
-    match answer {
+    match reading.answer {
         Answer::Good => put_models(reading.trace, out),
         Answer::Refused { reason, line } => put_refusal(wide(number(reason)), line, out, 0),
         Answer::Lost => put_refusal(wide(LOST), 0, out, 0),

@@ -6,21 +6,20 @@
 --   mark-words, put-words == words stay words
 --   put_in, put-left, put_right, put-past == within the records the pair is marked; elsewhere nothing changes
 use mathlib.Core.Path.{◌≡◌, refl, ◌∙◌}
-use mathlib.Core.Logic.{◌⊎◌, ◌↔◌, inl, inr}
-use mathlib.Core.Bool.{Bool, true, false, So, cond, ◌||◌, ◌&&◌, or-false}
+use mathlib.Core.Logic.{◌⊎◌, ◌↔◌}
+use mathlib.Core.Bool.{Bool, true, false, So, cond, ◌||◌, ◌&&◌}
 use mathlib.Core.List.{List}
 use Prim.Native.Nat.{ℕ, ◌%◌, ◌^◌, ◌<◌, ◌≤◌}
 use native.Mathlib.Decide.{dec_lt}
 use native.Mathlib.Omega.{arith}
 use borrow.Author.Tests.{le-ltb}
-use lib.Bits.{bit_or, or_lt}
 use lib.Dec.{eqb, ltb}
-use lib.ListN.{length, get_or, length-set}
+use lib.ListN.{length, get_or}
 use lib.Pow.{pow-lt}
-use lib.Seq.{get_or-set_same, get_or-set_other, set_out}
+use lib.Seq.{set_out}
 use Rattle.laws.specs.Bits.{bit_of}
-use Rattle.laws.proofs.Bits.{bit_of-or, bit_of-power}
-use Rattle.laws.proofs.Tests.{off, test-one, and-iff, or-iff, same-iff, so-eq, so-lt, eq?}
+use Rattle.laws.proofs.Bits.{bit_of-power}
+use Rattle.laws.proofs.Tests.{off, test-one, and-iff, or-iff, same-iff, so-eq, so-lt}
 use Rattle.trace.specs.Bounds.{RECORDS}
 use Rattle.rows.specs.Bounds.{WIDTH, CELLS}
 use Rattle.rows.specs.Rows.{place, bit, Edges, Words}

@@ -46,12 +46,8 @@ fn has(rows: &[u64], x: usize, y: usize) -> bool
 pub fn test(rows: &[u64], x: usize, y: usize) -> bool
     ensures { result ≡ bit rows.now x y }
 {
-    if x < trace::RECORDS {
-        if y < trace::RECORDS {
-            if x * WORDS + y / WIDTH < rows.len() {
-                return has(rows, x, y);
-            }
-        }
+    if x < trace::RECORDS && y < trace::RECORDS && x * WORDS + y / WIDTH < rows.len() {
+        return has(rows, x, y);
     }
     false
 }
@@ -61,21 +57,15 @@ fn mark(rows: &mut [u64], x: usize, y: usize)
     requires { (x < RECORDS) × (y < RECORDS) × (place x y < length rows.old) }
     ensures { rows.new ≡ mark_of rows.old x y }
 {
-    let i = x * WORDS + y / WIDTH;
-    let word = rows[i];
-    rows[i] = word | (1u64 << (y % WIDTH));
+    rows[x * WORDS + y / WIDTH] |= 1u64 << (y % WIDTH);
 }
 
 // Adds the pair x, y to the relation; a number past the records, or a pair past the end of the rows, changes nothing.
 pub fn put(rows: &mut [u64], x: usize, y: usize)
     ensures { rows.new ≡ put_of rows.old x y }
 {
-    if x < trace::RECORDS {
-        if y < trace::RECORDS {
-            if x * WORDS + y / WIDTH < rows.len() {
-                mark(rows, x, y);
-            }
-        }
+    if x < trace::RECORDS && y < trace::RECORDS && x * WORDS + y / WIDTH < rows.len() {
+        mark(rows, x, y);
     }
 }
 
@@ -92,11 +82,7 @@ pub fn put_if(rows: &mut [u64], yes: bool, x: usize, y: usize)
 pub fn clear(rows: &mut [u64])
     ensures { rows.new ≡ empty_of (length rows.old) }
 {
-    let mut i: usize = 0;
-    while i < rows.len() {
-        rows[i] = 0;
-        i += 1;
-    }
+    rows.fill(0);
 }
 
 // The relation with no pair.
@@ -113,28 +99,14 @@ pub fn copy(from: &[u64], to: &mut [u64])
     if from.len() != to.len() {
         return;
     }
-    let mut i: usize = 0;
-    while i < to.len() {
-        to[i] = from[i];
-        i += 1;
-    }
+    to.copy_from_slice(from);
 }
 
 // Whether two lists of words are the same; of rows of the full length, whether they hold the same relation.
 pub fn equal(a: &[u64], b: &[u64]) -> bool
     ensures { So result ↔ (a.now ≡ b.now) }
 {
-    if a.len() != b.len() {
-        return false;
-    }
-    let mut i: usize = 0;
-    while i < a.len() {
-        if a[i] != b[i] {
-            return false;
-        }
-        i += 1;
-    }
-    true
+    a == b
 }
 
 // A word of row x; 0 where the rows have none.
@@ -142,10 +114,8 @@ fn word(rows: &[u64], x: usize, i: usize) -> u64
     requires { i < WORDS }
     ensures { result ≡ word_of rows.now x i }
 {
-    if x < trace::RECORDS {
-        if x * WORDS + i < rows.len() {
-            return rows[x * WORDS + i];
-        }
+    if x < trace::RECORDS && x * WORDS + i < rows.len() {
+        return rows[x * WORDS + i];
     }
     0
 }
@@ -154,14 +124,12 @@ fn word(rows: &[u64], x: usize, i: usize) -> u64
 pub fn within(a: &[u64], x: usize, b: &[u64], y: usize) -> bool
     ensures { So result ↔ Within a.now x b.now y }
 {
-    let mut i: usize = 0;
-    while i < WORDS {
+    for i in 0..WORDS {
         let p = word(a, x, i);
         let q = word(b, y, i);
         if p | q != q {
             return false;
         }
-        i += 1;
     }
     true
 }
@@ -170,14 +138,12 @@ pub fn within(a: &[u64], x: usize, b: &[u64], y: usize) -> bool
 pub fn meets(a: &[u64], x: usize, b: &[u64], y: usize) -> bool
     ensures { So result ↔ Meets a.now x b.now y }
 {
-    let mut i: usize = 0;
-    while i < WORDS {
+    for i in 0..WORDS {
         let p = word(a, x, i);
         let q = word(b, y, i);
         if p & q != 0 {
             return true;
         }
-        i += 1;
     }
     false
 }
@@ -187,6 +153,7 @@ pub fn next(rows: &[u64], x: usize, from: usize) -> usize
     ensures { NextInRow rows.now x from result }
 {
     let mut z = from;
+    // Not a `for`: each step goes on to the first number of the next word.
     while z < trace::RECORDS {
         let rest = word(rows, x, z / WIDTH) >> (z % WIDTH);
         if rest != 0 {
@@ -202,12 +169,10 @@ pub fn next(rows: &[u64], x: usize, from: usize) -> usize
 pub fn reflexive(rows: &[u64]) -> bool
     ensures { result ≡ any RECORDS (λ x. bit rows.now x x) }
 {
-    let mut x: usize = 0;
-    while x < trace::RECORDS {
+    for x in 0..trace::RECORDS {
         if test(rows, x, x) {
             return true;
         }
-        x += 1;
     }
     false
 }
@@ -217,13 +182,8 @@ fn join(rows: &mut [u64], x: usize, k: usize)
     requires { (x < RECORDS) × (k < RECORDS) × (length rows.old ≡ CELLS) }
     ensures { Added rows.old (Row rows.old x k) rows.new }
 {
-    let mut i: usize = 0;
-    while i < WORDS {
-        let to = x * WORDS + i;
-        let p = rows[to];
-        let q = rows[k * WORDS + i];
-        rows[to] = p | q;
-        i += 1;
+    for i in 0..WORDS {
+        rows[x * WORDS + i] |= rows[k * WORDS + i];
     }
 }
 
@@ -231,13 +191,10 @@ fn join(rows: &mut [u64], x: usize, k: usize)
 fn height(rows: &[u64]) -> usize
     ensures { (result ≤ RECORDS) × RowsBelow rows.now result }
 {
-    let mut n: usize = trace::RECORDS;
-    while 0 < n {
-        let x = n - 1;
+    for x in (0..trace::RECORDS).rev() {
         if !within(rows, x, &[0u64; WORDS], 0) {
-            return n;
+            return x + 1;
         }
-        n = x;
     }
     0
 }
@@ -250,12 +207,10 @@ fn pass(rows: &mut [u64], k: usize, n: usize)
     if within(rows, k, &[0u64; WORDS], 0) {
         return;
     }
-    let mut x: usize = 0;
-    while x < n {
+    for x in 0..n {
         if has(rows, x, k) {
             join(rows, x, k);
         }
-        x += 1;
     }
 }
 
@@ -264,10 +219,8 @@ fn close_any(rows: &mut [u64], n: usize)
     requires { (n ≤ RECORDS) × (length rows.old ≡ CELLS) × RowsBelow rows.old n }
     ensures { HoldsChains rows.old rows.new }
 {
-    let mut k: usize = 0;
-    while k < trace::RECORDS {
+    for k in 0..trace::RECORDS {
         pass(rows, k, n);
-        k += 1;
     }
 }
 
@@ -276,12 +229,10 @@ fn forward(rows: &[u64], n: usize) -> bool
     requires { (n ≤ RECORDS) × RowsBelow rows.now n }
     ensures { So result ↔ Forward rows.now }
 {
-    let mut x: usize = 0;
-    while x < n {
+    for x in 0..n {
         if next(rows, x, 0) <= x {
             return false;
         }
-        x += 1;
     }
     true
 }
@@ -306,9 +257,7 @@ fn close_forward(rows: &mut [u64], n: usize)
     requires { (n ≤ RECORDS) × (length rows.old ≡ CELLS) × RowsBelow rows.old n × Forward rows.old }
     ensures { HoldsChains rows.old rows.new }
 {
-    let mut x = n;
-    while 0 < x {
-        x -= 1;
+    for x in (0..n).rev() {
         extend(rows, x);
     }
 }
@@ -335,15 +284,12 @@ pub fn add_row(from: &[u64], m: usize, to: &mut [u64], x: usize)
     if trace::RECORDS <= x {
         return;
     }
-    let mut i: usize = 0;
-    while i < WORDS {
+    for i in 0..WORDS {
         let q = word(from, m, i);
         let at = x * WORDS + i;
         if at < to.len() {
-            let p = to[at];
-            to[at] = p | q;
+            to[at] |= q;
         }
-        i += 1;
     }
 }
 
@@ -354,15 +300,12 @@ pub fn drop_row(from: &[u64], m: usize, to: &mut [u64], x: usize)
     if trace::RECORDS <= x {
         return;
     }
-    let mut i: usize = 0;
-    while i < WORDS {
+    for i in 0..WORDS {
         let q = word(from, m, i);
         let at = x * WORDS + i;
         if at < to.len() {
-            let p = to[at];
-            to[at] = (p | q) ^ q;
+            to[at] = (to[at] | q) ^ q;
         }
-        i += 1;
     }
 }
 
@@ -388,14 +331,12 @@ fn cross(square: &mut [u64], k: usize, d: usize, m: u64)
     requires { (length square.old ≡ WIDTH) × Mask k d m }
     ensures { Square (crossed k square.old) square.new }
 {
-    let mut p: usize = 0;
-    while p < WIDTH / 2 {
+    for p in 0..WIDTH / 2 {
         let i = (p >> k) * d + p;
         let a = square[i];
         let b = square[i + d];
         square[i] = mix(m, a, b << d);
         square[i + d] = mix(m, a >> d, b);
-        p += 1;
     }
 }
 
@@ -428,10 +369,8 @@ fn take_square(rows: &[u64], n: usize, p: usize, q: usize, square: &mut [u64])
     requires { (p < WORDS) × (q < WORDS) × (length square.old ≡ WIDTH) }
     ensures { Square (part rows.now n p q) square.new }
 {
-    let mut i: usize = 0;
-    while i < WIDTH {
+    for i in 0..WIDTH {
         square[i] = word_below(rows, n, p * WIDTH + i, q);
-        i += 1;
     }
 }
 
@@ -440,15 +379,11 @@ fn lay_square(square: &[u64], n: usize, p: usize, q: usize, out: &mut [u64])
     requires { (p < WORDS) × (q < WORDS) × (length square.now ≡ WIDTH) × (length out.old ≡ CELLS) }
     ensures { Added out.old (LaysSquare square.now n p q) out.new }
 {
-    let mut i: usize = 0;
-    while i < WIDTH {
+    for i in 0..WIDTH {
         let y = q * WIDTH + i;
         if y < n {
-            let at = y * WORDS + p;
-            let w = out[at];
-            out[at] = w | square[i];
+            out[y * WORDS + p] |= square[i];
         }
-        i += 1;
     }
 }
 
@@ -457,10 +392,7 @@ fn turn_part(rows: &[u64], n: usize, p: usize, q: usize, out: &mut [u64])
     requires { (p < WORDS) × (q < WORDS) × (length out.old ≡ CELLS) }
     ensures { Added out.old (λ y x. InSquare p q y x × Turns rows.now n y x) out.new }
 {
-    if n <= p * WIDTH {
-        return;
-    }
-    if n <= q * WIDTH {
+    if n <= p * WIDTH || n <= q * WIDTH {
         return;
     }
     let mut square = [0u64; WIDTH];
@@ -477,9 +409,7 @@ pub fn turn(rows: &[u64], n: usize, out: &mut [u64])
         return;
     }
     clear(out);
-    let mut c: usize = 0;
-    while c < WORDS * WORDS {
+    for c in 0..WORDS * WORDS {
         turn_part(rows, n, c / WORDS, c % WORDS, out);
-        c += 1;
     }
 }

@@ -26,19 +26,15 @@ fn before_source(t: Trace, chains: &[u64], chained: bool, x: usize, y: usize) ->
     }
     let n = t.len;
     let a = op_at(t, x);
-    let mut load: usize = 0;
-    while load < n {
+    for load in 0..n {
         let b = op_at(t, load);
         if writer_by(n, a, x, b, load) {
             let known = (chained & rows::test(chains, x, load))
                 | (!chained & earlier_by(a, x, b, load));
-            if known {
-                if source(t, y, load) {
-                    return true;
-                }
+            if known && source(t, y, load) {
+                return true;
             }
         }
-        load += 1;
     }
     false
 }
@@ -51,14 +47,10 @@ fn after_load(t: Trace, chains: &[u64], x: usize, y: usize) -> bool
         return false;
     }
     let n = t.len;
-    let mut from: usize = 0;
-    while from < n {
-        if (y != from) & rows::test(chains, from, y) {
-            if source(t, from, x) {
-                return true;
-            }
+    for from in 0..n {
+        if (y != from) & rows::test(chains, from, y) && source(t, from, x) {
+            return true;
         }
-        from += 1;
     }
     false
 }

@@ -8,19 +8,6 @@ pub mod input;
 use std::io;
 use std::io::{ErrorKind, Print, Stderr, Stdout};
 
-// Conversions for numbers that are printed.
-fn wide8(x: u8) -> u64 {
-    x as u64
-}
-
-fn wide16(x: u16) -> u64 {
-    x as u64
-}
-
-fn long(x: usize) -> u64 {
-    x as u64
-}
-
 // A word and a number behind it, to a stream.
 fn put(to: &impl Print, word: &[u8], n: u64) -> io::Result<()> {
     to.write_all(word)?;
@@ -38,15 +25,15 @@ pub fn say_number(stdout: Stdout, word: &[u8], n: u64) -> io::Result<()> {
 }
 
 pub fn say_u8(stdout: Stdout, word: &[u8], n: u8) -> io::Result<()> {
-    put(&stdout, word, wide8(n))
+    put(&stdout, word, u64::from(n))
 }
 
 pub fn say_u16(stdout: Stdout, word: &[u8], n: u16) -> io::Result<()> {
-    put(&stdout, word, wide16(n))
+    put(&stdout, word, u64::from(n))
 }
 
 pub fn say_usize(stdout: Stdout, word: &[u8], n: usize) -> io::Result<()> {
-    put(&stdout, word, long(n))
+    put(&stdout, word, n as u64)
 }
 
 // A word on standard error.
@@ -56,41 +43,39 @@ pub fn tell(stderr: Stderr, word: &[u8]) -> io::Result<()> {
 
 // A word and a number behind it on standard error.
 pub fn tell_u8(stderr: Stderr, word: &[u8], n: u8) -> io::Result<()> {
-    put(&stderr, word, wide8(n))
+    put(&stderr, word, u64::from(n))
 }
 
 pub fn tell_u16(stderr: Stderr, word: &[u8], n: u16) -> io::Result<()> {
-    put(&stderr, word, wide16(n))
+    put(&stderr, word, u64::from(n))
 }
 
 pub fn tell_usize(stderr: Stderr, word: &[u8], n: usize) -> io::Result<()> {
-    put(&stderr, word, long(n))
+    put(&stderr, word, n as u64)
 }
 
 // The line of a refusal that names nothing, on standard error.
 pub fn refuse(stderr: Stderr, number: u8) -> io::Result<()> {
-    tell_u8(stderr, b"refused ", number)?;
-    tell(stderr, b"\n")
+    println!(stderr; "refused {number}")
 }
 
 // The line of a refusal with the line, the record or the word that is to blame.
 pub fn refuse_at(stderr: Stderr, number: u8, word: &[u8], place: usize) -> io::Result<()> {
-    tell_u8(stderr, b"refused ", number)?;
-    tell_usize(stderr, word, place)?;
-    tell(stderr, b"\n")
+    print!(stderr; "refused {number}")?;
+    stderr.write_all(word)?;
+    println!(stderr; "{place}")
 }
 
 // The line of what failed, as the caller names it, and why, on standard error.
 pub fn fail(stderr: Stderr, what: &[u8], why: io::Error) -> io::Result<()> {
     stderr.write_all(what)?;
-    stderr.write_all(b": ")?;
-    stderr.println(why)
+    println!(stderr; ": {why}")
 }
 
 // The first n bytes of a buffer, to a stream; an error where it has fewer.
 pub fn front(to: &impl Print, bytes: &[u8], n: usize) -> io::Result<()> {
-    if n <= bytes.len() {
-        return to.write_all(&bytes[0..n]);
+    match bytes.get(..n) {
+        Some(first) => to.write_all(first),
+        None => Err(io::Error::from(ErrorKind::InvalidInput)),
     }
-    Err(io::Error::from(ErrorKind::InvalidInput))
 }

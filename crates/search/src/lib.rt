@@ -9,6 +9,7 @@ mod split;
 mod tables;
 
 // The first valid order, where one is found: its first len places; unused places 0.
+// An array and its length: the project has no heap, and its memory is fixed.
 #[derive(Clone, Copy)]
 pub struct Order {
     pub found: bool,

@@ -4,6 +4,7 @@
 --   joined-opens   == the longer trace opens where the shorter one did
 --   joined-allowed == and the pairs that stood may stand
 --   joined-stands  == so may what a session keeps of them
+use Rattle.std.specs.Prelude.{Option, Some, None}
 use mathlib.Core.Path.{◌≡◌, refl, sym, subst}
 use mathlib.Core.Bool.{So, not, false≢true}
 use mathlib.Core.List.{List}
@@ -17,7 +18,7 @@ use Rattle.trace.specs.Fault.{fault_of}
 use Rattle.trace.specs.Meaning.{frame_of}
 use Rattle.trace.specs.declared.Op.{Op}
 use Rattle.trace.specs.declared.Fault.{Fault}
-use Rattle.trace.specs.declared.Fault.TheVariants.{Nothing, PastBound, FirstValue, TooMany, Twice}
+use Rattle.trace.specs.declared.Fault.TheVariants.{PastBound, FirstValue, TooMany, Twice}
 use Rattle.trace.specs.declared.Trace.{Trace}
 use Rattle.trace.proofs.Meaning.{operation-iff}
 use Rattle.trace.proofs.Faults.{fault-none}
@@ -32,16 +33,16 @@ use Rattle.session.proofs.Pairs.{supposable-iff}
 use Rattle.session.proofs.Openings.{openable-iff}
 
 module _ (t : Trace) (o : Op) (d : So (joins t o)) where
-  pub joins-none : fault_of t o ≡ Nothing
+  pub joins-none : fault_of t o ≡ None
   unfolding joins
   joins-none = go (fault_of t o) d
     where
-      go : (f : Fault) → So (is_done (fault_answer f)) → f ≡ Nothing
-      go Nothing s = refl
-      go PastBound s = absurd (false≢true s)
-      go FirstValue s = absurd (false≢true s)
-      go TooMany s = absurd (false≢true s)
-      go Twice s = absurd (false≢true s)
+      go : (f : Option Fault) → So (is_done (fault_answer f)) → f ≡ None
+      go None s = refl
+      go (Some PastBound) s = absurd (false≢true s)
+      go (Some FirstValue) s = absurd (false≢true s)
+      go (Some TooMany) s = absurd (false≢true s)
+      go (Some Twice) s = absurd (false≢true s)
 
   -- there is room, and it may follow
   pub joined-follows : (t.len < RECORDS) × So (follows t t.len o)

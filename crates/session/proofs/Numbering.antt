@@ -21,8 +21,8 @@ use Rattle.trace.proofs.Faults.{fault-exactly}
 use Rattle.rows.specs.Rows.{bit}
 use Rattle.pairs.specs.Kept.{modelled}
 use Rattle.pairs.specs.MissingOf.{missing_of}
-use Rattle.pairs.specs.declared.sources.Found.{Found}
-use Rattle.pairs.specs.declared.sources.Found.TheVariants.{At, Nothing}
+use Rattle.pairs.specs.Found.{Found}
+use Rattle.std.specs.Prelude.{Some, None, Option}
 use Rattle.session.specs.Bounds.{PAIRS}
 use Rattle.session.specs.Stack.{standing, stands, Stands}
 use Rattle.session.specs.Opening.{opening_of, is_done, openable}
@@ -239,25 +239,25 @@ module _ (C : Closings) (s : Session) where
 
   module _ (o : Op) (i : So (intact C s)) where
     -- no number below that of a fault, where no lower one's case holds
-    from-fault : (f : Fault) → Lower f s.trace o → (n : ℕ) → Applies C (does s (adds o)) n → fault_number f ≤ n
+    from-fault : (f : Option Fault) → Lower f s.trace o → (n : ℕ) → Applies C (does s (adds o)) n → fault_number f ≤ n
     from-fault f l n (twelve h) = absurd (h ((intact-iff C s).0 i))
     from-fault f l n (faulty g _ w) = elim (dec_lt (fault_number g) (fault_number f)) [ yes h ↦ absurd (l g h w) | no h ↦ omega arith ]
     from-fault f l n (thirteen h _) = elim h [ ]
     from-fault f l n (fourteen h) = elim h [ ]
 
-    none-adds : ((f : Fault) → Wrong f s.trace o → ⊥) → (n : ℕ) → Applies C (does s (adds o)) n → ⊥
+    none-adds : ((f : Option Fault) → Wrong f s.trace o → ⊥) → (n : ℕ) → Applies C (does s (adds o)) n → ⊥
     none-adds e n (twelve h) = h ((intact-iff C s).0 i)
     none-adds e n (faulty g _ w) = e g w
     none-adds e n (thirteen h _) = elim h [ ]
     none-adds e n (fourteen h) = elim h [ ]
 
     -- what a record earns is what it gets
-    fault-right : (f : Fault) → Earns f s.trace o → Right C (does s (adds o)) (fault_answer f)
-    fault-right fault.Nothing e = none-adds e
-    fault-right fault.PastBound e = (faulty fault.PastBound ((intact-iff C s).0 i) e.0, from-fault fault.PastBound e.1)
-    fault-right fault.FirstValue e = (faulty fault.FirstValue ((intact-iff C s).0 i) e.0, from-fault fault.FirstValue e.1)
-    fault-right fault.TooMany e = (faulty fault.TooMany ((intact-iff C s).0 i) e.0, from-fault fault.TooMany e.1)
-    fault-right fault.Twice e = (faulty fault.Twice ((intact-iff C s).0 i) e.0, from-fault fault.Twice e.1)
+    fault-right : (f : Option Fault) → Earns f s.trace o → Right C (does s (adds o)) (fault_answer f)
+    fault-right None e = none-adds e
+    fault-right (Some fault.PastBound) e = (faulty (Some fault.PastBound) ((intact-iff C s).0 i) e.0, from-fault (Some fault.PastBound) e.1)
+    fault-right (Some fault.FirstValue) e = (faulty (Some fault.FirstValue) ((intact-iff C s).0 i) e.0, from-fault (Some fault.FirstValue) e.1)
+    fault-right (Some fault.TooMany) e = (faulty (Some fault.TooMany) ((intact-iff C s).0 i) e.0, from-fault (Some fault.TooMany) e.1)
+    fault-right (Some fault.Twice) e = (faulty (Some fault.Twice) ((intact-iff C s).0 i) e.0, from-fault (Some fault.Twice) e.1)
 
   add_right : (o : Op) → Right C (does s (adds o)) (add_turn C s o)
   add_right o = elim (test (intact C s)) [
@@ -278,8 +278,8 @@ module _ (C : Closings) (s : Session) where
   ]
     where
       waited : (found : Found) → So (intact C s) → Right C (does s awaits) (waits_of found)
-      waited (At x) i = none-awaits i
-      waited Nothing i = none-awaits i
+      waited (Some x) i = none-awaits i
+      waited None i = none-awaits i
 
 pub number-lowest : (C : Closings) (c : Call) → Lowest (Applies C c) (refusal_number (answer_of C c))
 unfolding open_of suppose_of take_back_of add_of

@@ -11,7 +11,7 @@
 --   next a s' s         == the session after a call: s' where nothing was turned back, otherwise the session as given
 --   open_of, suppose_of, take_back_of, ask_of, add_of, waiting_of == the calls
 --   afresh_of C t m k    == the session on a trace and a model with the pairs that a stack keeps; 12 where none such can be opened
-use Rattle.std.specs.Prelude.{Bool, cond, ◌&&◌, [], ◌∷◌, ◌++◌, ℕ, ◌-◌, eqb, leb, length, take}
+use Rattle.std.specs.Prelude.{Bool, cond, ◌&&◌, [], ◌∷◌, ◌++◌, ℕ, ◌-◌, eqb, leb, length, take, Some, None, Option}
 use Rattle.trace.specs.Trace.{pushed}
 use Rattle.trace.specs.Fault.{fault_of}
 use Rattle.trace.specs.Meaning.{frame_of}
@@ -21,8 +21,7 @@ use Rattle.trace.specs.declared.Fault.TheVariants as fault
 use Rattle.trace.specs.declared.Trace.{Trace}
 use Rattle.rows.specs.Rows.{bit}
 use Rattle.pairs.specs.MissingOf.{missing_of}
-use Rattle.pairs.specs.declared.sources.Found.{Found}
-use Rattle.pairs.specs.declared.sources.Found.TheVariants.{At, Nothing}
+use Rattle.pairs.specs.Found.{Found}
 use Rattle.session.specs.Bounds.{PAIRS}
 use Rattle.session.specs.Stack.{standing, stands}
 use Rattle.session.specs.Opening.{opening_of, is_done, openable}
@@ -48,12 +47,12 @@ suppose_turn C s x y =
 unfoldable pub take_back_turn : Closings → Session → Answer
 take_back_turn C s = cond (intact C s) (cond (eqb s.stack.count 0) (Refused NoPair) Done) (Refused Unlike)
 
-abbrev pub fault_answer : Fault → Answer
-fault_answer fault.Nothing = Done
-fault_answer fault.PastBound = Refused PastBound
-fault_answer fault.FirstValue = Refused FirstValue
-fault_answer fault.TooMany = Refused TooMany
-fault_answer fault.Twice = Refused Twice
+abbrev pub fault_answer : Option Fault → Answer
+fault_answer None = Done
+fault_answer (Some fault.PastBound) = Refused PastBound
+fault_answer (Some fault.FirstValue) = Refused FirstValue
+fault_answer (Some fault.TooMany) = Refused TooMany
+fault_answer (Some fault.Twice) = Refused Twice
 
 unfoldable pub joins : Trace → Op → Bool
 joins t o = is_done (fault_answer (fault_of t o))
@@ -62,8 +61,8 @@ unfoldable pub add_turn : Closings → Session → Op → Answer
 add_turn C s o = cond (intact C s) (fault_answer (fault_of s.trace o)) (Refused Unlike)
 
 abbrev pub waits_of : Found → Answer
-waits_of (At x) = Waits x
-waits_of Nothing = Done
+waits_of (Some x) = Waits x
+waits_of None = Done
 
 unfoldable pub told_of : Session → ℕ → ℕ → Answer
 told_of s x y = cond s.contradicted Contradicted (cond (bit s.held x y) Held NotHeld)

@@ -12,6 +12,7 @@
 --   answer_of C c  == what a call is answered
 use Rattle.std.specs.Prelude.{◌≡◌, ℕ, ◌≤◌}
 use Rattle.std.proofs.Math.Bool.{So}
+use Rattle.std.specs.Prelude as prelude
 use Rattle.std.proofs.Math.Option.{Option, none, some}
 use Rattle.trace.specs.WellFormed.{well_formed}
 use Rattle.trace.specs.Fault as fault
@@ -91,7 +92,7 @@ pub data Applies (C : Closings) : Call → ℕ → Type 0 where
   fourteen : {s : Session} {a : Act} {x : ℕ} → Names a x x → Applies C (does s a) 14
   fifteen : {s : Session} {x y : ℕ} → PAIRS ≤ s.stack.count → Applies C (does s (supposes x y)) 15
   sixteen : {s : Session} → s.stack.count ≡ 0 → Applies C (does s takes_back) 16
-  faulty : {s : Session} {o : Op} (f : Fault) → Intact C s → fault.Wrong f s.trace o → Applies C (does s (adds o)) (fault.fault_number f)
+  faulty : {s : Session} {o : Op} (f : prelude.Option Fault) → Intact C s → fault.Wrong f s.trace o → Applies C (does s (adds o)) (fault.fault_number f)
 
 abbrev pub reply_of : Closings → Session → Act → Reply
 reply_of C s (supposes x y) = suppose_of C s x y

@@ -1,6 +1,9 @@
 // A session on a trace and a model: records are added, pairs are supposed and taken back, and the edges that the rules force from them are held.
 #![tactic(auto)]
 
+ghost use Rattle.std.specs.Prelude.{◌≡◌};
+ghost use Rattle.session.specs.Numbers.{reason_number};
+
 pub mod calls;
 
 use trace::Trace;
@@ -9,21 +12,23 @@ use trace::Trace;
 pub const PAIRS: usize = 16;
 
 // A supposed pair: the first record before the second.
-#[derive(Clone, Copy)]
+#[derive(Clone, Copy, PartialEq, Eq)]
 pub struct Pair {
     pub first: usize,
     pub second: usize,
 }
 
 // The pairs that stand, the latest last; unused places hold the pair 0, 0.
-#[derive(Clone, Copy)]
+// An array and its length: the project has no heap, and its memory is fixed.
+#[derive(Clone, Copy, PartialEq, Eq)]
 pub struct Stack {
     pub pairs: [Pair; PAIRS],
     pub count: usize,
 }
 
 // A session as a whole. The table of held edges is empty while contradicted.
-#[derive(Clone, Copy)]
+// The flag is no Option: a forged session may be contradicted and have a table too, and comes back as it was.
+#[derive(Clone, Copy, PartialEq, Eq)]
 pub struct Session {
     pub trace: Trace,
     pub model: u8,
@@ -46,6 +51,27 @@ pub enum Reason {
     FirstValue,
     TooMany,
     Twice,
+}
+
+// Document 01's number of a reason.
+impl From<Reason> for u8 {
+    ghost from_gives = { λ reason n. n ≡ reason_number reason };
+
+    fn from(reason: Reason) -> u8 {
+        match reason {
+            Reason::NoModel => 9,
+            Reason::NotWellFormed => 10,
+            Reason::Unlike => 12,
+            Reason::NoOperation => 13,
+            Reason::OneRecord => 14,
+            Reason::TooManyPairs => 15,
+            Reason::NoPair => 16,
+            Reason::PastBound => 4,
+            Reason::FirstValue => 6,
+            Reason::TooMany => 7,
+            Reason::Twice => 8,
+        }
+    }
 }
 
 // What a call gets. A load or swap that waits for its source is told by its record.

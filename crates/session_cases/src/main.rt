@@ -5,24 +5,23 @@
 
 ghost use Rattle.std.specs.Prelude.{◌≤◌, IfOk, length};
 
-use pairs::kind;
+use reader::Raw;
 use reader::forms::form;
-use reader::{Form, Raw};
 use saying::args::{arg, arg_count};
 use saying::input::fill_file;
-use saying::{say, say_number, say_usize};
+use saying::say;
 use session::calls::{add, ask, open, suppose, take_back, waiting};
-use session::{Answer, PAIRS, Pair, Reason, Session, Stack};
+use session::{Answer, PAIRS, Pair, Session, Stack};
 use std::env::Env;
 use std::io;
 use std::io::Stdout;
 use std::rt::Files;
 use text::templates::fit;
-use text::walk::line_end;
-use trace::{FIRSTS, Op, RECORDS, Record, Trace};
+use trace::{Op, RECORDS, Trace};
 
 // A talk: the records that should be there, the pairs that should stand, the latest answer and the session. Of a forged session nothing is expected but that
 // it comes back as it was.
+// The flag is no Option: a forged session is compared by all of it too.
 #[derive(Clone, Copy)]
 struct Talk {
     trace: Trace,
@@ -34,7 +33,7 @@ struct Talk {
 }
 
 // How many calls were answered how, and how many sessions were as they should be.
-#[derive(Clone, Copy)]
+#[derive(Clone, Copy, Default)]
 struct Counts {
     right: u64,
     done: u64,
@@ -44,131 +43,31 @@ struct Counts {
     refused: u64,
 }
 
-fn long(x: usize) -> u64 {
-    x as u64
-}
-
-fn size(x: u64) -> usize {
-    x as usize
-}
-
-fn wide(x: u32) -> usize {
-    x as usize
-}
-
-fn wide64(x: u32) -> u64 {
-    x as u64
-}
-
 // A model's number; what no byte holds is no model either way.
 fn model_of(n: u32) -> u8 {
-    if n < 256 { n as u8 } else { 255 }
-}
-
-// Document 01's number of a reason.
-fn number(r: Reason) -> u64 {
-    match r {
-        Reason::NoModel => 9,
-        Reason::NotWellFormed => 10,
-        Reason::Unlike => 12,
-        Reason::NoOperation => 13,
-        Reason::OneRecord => 14,
-        Reason::TooManyPairs => 15,
-        Reason::NoPair => 16,
-        Reason::PastBound => 4,
-        Reason::FirstValue => 6,
-        Reason::TooMany => 7,
-        Reason::Twice => 8,
-    }
+    u8::try_from(n).unwrap_or(u8::MAX)
 }
 
 fn say_answer(stdout: Stdout, a: Answer) -> io::Result<()> {
     match a {
-        Answer::Done => say(stdout, b": done"),
-        Answer::Held => say(stdout, b": held"),
-        Answer::NotHeld => say(stdout, b": not held"),
-        Answer::Contradicted => say(stdout, b": contradicted"),
-        Answer::Waits(x) => say_usize(stdout, b": waits record ", x),
-        Answer::Refused(r) => say_number(stdout, b": refused ", number(r)),
+        Answer::Done => print!(stdout; ": done"),
+        Answer::Held => print!(stdout; ": held"),
+        Answer::NotHeld => print!(stdout; ": not held"),
+        Answer::Contradicted => print!(stdout; ": contradicted"),
+        Answer::Waits(x) => print!(stdout; ": waits record {x}"),
+        Answer::Refused(r) => print!(stdout; ": refused {}", u8::from(r)),
     }
 }
 
 fn done(a: Answer) -> bool {
-    if let Answer::Done = a { true } else { false }
-}
-
-fn same_pair(a: Pair, b: Pair) -> bool {
-    (a.first == b.first) & (a.second == b.second)
-}
-
-fn same_stack(a: Stack, b: Stack) -> bool {
-    let mut i: usize = 0;
-    while i < PAIRS {
-        let p = a.pairs[i];
-        let q = b.pairs[i];
-        if !same_pair(p, q) {
-            return false;
-        }
-        i += 1;
-    }
-    a.count == b.count
-}
-
-fn same_op(a: Op, b: Op) -> bool {
-    let place = (kind(a) == kind(b)) & (a.thread() == b.thread()) & (a.address() == b.address());
-    place & (a.read() == b.read()) & (a.written() == b.written())
-}
-
-// Whether two traces begin with the same values.
-fn same_firsts(a: Trace, b: Trace) -> bool {
-    let mut i: usize = 0;
-    while i < FIRSTS {
-        let first = a.firsts[i];
-        let other = b.firsts[i];
-        if first != other {
-            return false;
-        }
-        i += 1;
-    }
-    true
-}
-
-fn same_trace(a: Trace, b: Trace) -> bool {
-    let mut i: usize = 0;
-    while i < RECORDS {
-        let record = a.records[i];
-        let other = b.records[i];
-        let p = record.op;
-        let q = other.op;
-        if !same_op(p, q) {
-            return false;
-        }
-        i += 1;
-    }
-    (a.len == b.len) & same_firsts(a, b)
-}
-
-// Whether two sessions are equal throughout.
-fn same(a: Session, b: Session) -> bool {
-    let held = a.held;
-    let other = b.held;
-    let table = rows::equal(&held, &other) & (a.contradicted == b.contradicted);
-    table & (a.model == b.model) & same_stack(a.stack, b.stack) & same_trace(a.trace, b.trace)
+    matches!(a, Answer::Done)
 }
 
 // The session that the library opens afresh, with the pairs of a stack supposed in turn.
 fn afresh(t: Trace, model: u8, k: Stack) -> Session {
-    let n = k.count;
-    let r = open(t, model);
-    let mut s = r.session;
-    let mut i: usize = 0;
-    while i < PAIRS {
-        if i < n {
-            let p = k.pairs[i];
-            let r = suppose(s, p.first, p.second);
-            s = r.session;
-        }
-        i += 1;
+    let mut s = open(t, model).session;
+    for p in k.pairs.iter().take(k.count) {
+        s = suppose(s, p.first, p.second).session;
     }
     s
 }
@@ -185,132 +84,98 @@ fn none() -> Stack {
 
 // One pair more.
 fn pushed(k: Stack, x: usize, y: usize) -> Stack {
-    let n = k.count;
-    if n < PAIRS {
-        let next = n + 1;
-        let mut more = k;
-        more.pairs[n] = Pair {
+    let mut more = k;
+    if k.count < PAIRS {
+        more.pairs[k.count] = Pair {
             first: x,
             second: y,
         };
-        more.count = next;
-        return more;
+        more.count += 1;
     }
-    k
+    more
 }
 
 // Without the latest pair.
 fn popped(k: Stack) -> Stack {
-    let n = k.count;
-    if 0 < n {
-        let last = n - 1;
-        if last < PAIRS {
-            let mut rest = k;
-            rest.pairs[last] = Pair {
-                first: 0,
-                second: 0,
-            };
-            rest.count = last;
-            return rest;
-        }
+    let mut rest = k;
+    if 0 < k.count && k.count <= PAIRS {
+        rest.count -= 1;
+        rest.pairs[rest.count] = Pair {
+            first: 0,
+            second: 0,
+        };
     }
-    k
+    rest
 }
 
 // Whether a session is what it should be after a call.
 fn right(talk: Talk, before: Session) -> bool {
     if talk.forged {
-        return same(talk.session, before);
+        return talk.session == before;
     }
-    same(talk.session, afresh(talk.trace, talk.model, talk.due))
+    talk.session == afresh(talk.trace, talk.model, talk.due)
 }
 
 fn opened(t: Trace, model: u8) -> Talk {
     let r = open(t, model);
-    let answer = r.answer;
-    let session = r.session;
-    if done(answer) {
-        return Talk {
-            trace: t,
-            model,
-            due: none(),
-            answer,
-            session,
-            forged: false,
-        };
-    }
+    let stands = done(r.answer);
     Talk {
-        trace: trace::empty(),
-        model: 1,
+        trace: if stands { t } else { trace::empty() },
+        model: if stands { model } else { 1 },
         due: none(),
-        answer,
-        session,
+        answer: r.answer,
+        session: r.session,
         forged: false,
     }
 }
 
 fn supposed(talk: Talk, x: usize, y: usize) -> Talk {
     let r = suppose(talk.session, x, y);
-    let answer = r.answer;
-    let session = r.session;
-    let trace = talk.trace;
-    let mut due = talk.due;
-    if done(answer) {
-        due = pushed(due, x, y);
-    }
+    let due = if done(r.answer) {
+        pushed(talk.due, x, y)
+    } else {
+        talk.due
+    };
     Talk {
-        trace,
-        model: talk.model,
         due,
-        answer,
-        session,
-        forged: talk.forged,
+        answer: r.answer,
+        session: r.session,
+        ..talk
     }
 }
 
 fn taken_back(talk: Talk) -> Talk {
     let r = take_back(talk.session);
-    let answer = r.answer;
-    let session = r.session;
-    let trace = talk.trace;
-    let mut due = talk.due;
-    if done(answer) {
-        due = popped(due);
-    }
+    let due = if done(r.answer) {
+        popped(talk.due)
+    } else {
+        talk.due
+    };
     Talk {
-        trace,
-        model: talk.model,
         due,
-        answer,
-        session,
-        forged: talk.forged,
+        answer: r.answer,
+        session: r.session,
+        ..talk
     }
 }
 
 fn asked(talk: Talk, x: usize, y: usize) -> Talk {
     let r = ask(talk.session, x, y);
-    let answer = r.answer;
-    let session = r.session;
-    let trace = talk.trace;
-    let due = talk.due;
     Talk {
-        trace,
-        model: talk.model,
-        due,
-        answer,
-        session,
-        forged: talk.forged,
+        answer: r.answer,
+        session: r.session,
+        ..talk
     }
 }
 
 // A number of a line as a byte; what no byte holds is past every bound either way.
 fn byte(n: u32) -> u8 {
-    if n < 256 { n as u8 } else { 255 }
+    u8::try_from(n).unwrap_or(u8::MAX)
 }
 
 // A value of a line; there is none past the largest.
 fn value(n: u32) -> u16 {
-    if n < 65536 { n as u16 } else { 65535 }
+    u16::try_from(n).unwrap_or(u16::MAX)
 }
 
 // The record of a line, its numbers within bounds or not.
@@ -350,63 +215,43 @@ fn record_of(raw: Raw) -> Op {
 
 fn added(talk: Talk, op: Op) -> Talk {
     let r = add(talk.session, op);
-    let answer = r.answer;
-    let session = r.session;
-    let mut trace = talk.trace;
-    let due = talk.due;
-    if done(answer) {
-        trace = trace::pushed(trace, op);
-    }
+    let trace = if done(r.answer) {
+        trace::pushed(talk.trace, op)
+    } else {
+        talk.trace
+    };
     Talk {
         trace,
-        model: talk.model,
-        due,
-        answer,
-        session,
-        forged: talk.forged,
+        answer: r.answer,
+        session: r.session,
+        ..talk
     }
 }
 
 fn looked(talk: Talk) -> Talk {
     let r = waiting(talk.session);
-    let answer = r.answer;
-    let session = r.session;
-    let trace = talk.trace;
-    let due = talk.due;
     Talk {
-        trace,
-        model: talk.model,
-        due,
-        answer,
-        session,
-        forged: talk.forged,
+        answer: r.answer,
+        session: r.session,
+        ..talk
     }
 }
 
 // A trace damaged in one of four ways: a length of 4 billion, a value that nobody wrote, an unused place that is used, a thread past its bound.
 fn damaged(t: Trace, way: usize) -> Trace {
     let mut d = t;
-    if way == 1 {
-        d.len = 4000000000;
-    }
-    if way == 2 {
-        d.records[0] = Record {
-            op: Op::Load {
+    match way {
+        1 => d.len = 4000000000,
+        2 => {
+            d.records[0].op = Op::Load {
                 thread: 0,
                 addr: 15,
                 read: 65535,
-            },
-        };
-    }
-    if way == 3 {
-        d.records[63] = Record {
-            op: Op::Fence { thread: 1 },
-        };
-    }
-    if way == 4 {
-        d.records[0] = Record {
-            op: Op::Fence { thread: 8 },
-        };
+            };
+        }
+        3 => d.records[63].op = Op::Fence { thread: 1 },
+        4 => d.records[0].op = Op::Fence { thread: 8 },
+        _ => {}
     }
     d
 }
@@ -414,28 +259,29 @@ fn damaged(t: Trace, way: usize) -> Trace {
 // A stack damaged in one of four ways: a pair past the count, 17 pairs, a pair of one record, a pair past the end.
 fn disordered(k: Stack, way: usize) -> Stack {
     let mut d = k;
-    if way == 5 {
-        d.pairs[15] = Pair {
-            first: 0,
-            second: 1,
-        };
-    }
-    if way == 6 {
-        d.count = 17;
-    }
-    if way == 7 {
-        d.pairs[0] = Pair {
-            first: 1,
-            second: 1,
-        };
-        d.count = 1;
-    }
-    if way == 8 {
-        d.pairs[0] = Pair {
-            first: 0,
-            second: trace::RECORDS,
-        };
-        d.count = 1;
+    match way {
+        5 => {
+            d.pairs[15] = Pair {
+                first: 0,
+                second: 1,
+            };
+        }
+        6 => d.count = 17,
+        7 => {
+            d.pairs[0] = Pair {
+                first: 1,
+                second: 1,
+            };
+            d.count = 1;
+        }
+        8 => {
+            d.pairs[0] = Pair {
+                first: 0,
+                second: RECORDS,
+            };
+            d.count = 1;
+        }
+        _ => {}
     }
     d
 }
@@ -444,22 +290,14 @@ fn disordered(k: Stack, way: usize) -> Stack {
 fn scribbled(held: [u64; rows::CELLS], way: usize) -> [u64; rows::CELLS] {
     let mut d = held;
     if way == 9 {
-        if d[0] == 0 {
-            d[0] = 2;
-        } else {
-            d[0] = 0;
-        }
+        d[0] = if d[0] == 0 { 2 } else { 0 };
     }
     d
 }
 
 // A session forged in one of twelve ways; the last three are a model of 77, the word on contradictions turned round, and a pair of a fence.
 fn forged(s: Session, way: usize) -> Session {
-    let trace = damaged(s.trace, way);
     let mut stack = disordered(s.stack, way);
-    let held = scribbled(s.held, way);
-    let model = s.model;
-    let contradicted = s.contradicted;
     if way == 12 {
         stack.pairs[0] = Pair {
             first: 0,
@@ -468,29 +306,20 @@ fn forged(s: Session, way: usize) -> Session {
         stack.count = 1;
     }
     Session {
-        trace,
-        model: if way == 10 { 77 } else { model },
+        trace: damaged(s.trace, way),
+        model: if way == 10 { 77 } else { s.model },
         stack,
-        contradicted: if way == 11 {
-            !contradicted
-        } else {
-            contradicted
-        },
-        held,
+        contradicted: s.contradicted != (way == 11),
+        held: scribbled(s.held, way),
     }
 }
 
 fn with_forged(talk: Talk, way: usize) -> Talk {
-    let trace = talk.trace;
-    let due = talk.due;
-    let session = forged(talk.session, way);
     Talk {
-        trace,
-        model: talk.model,
-        due,
         answer: Answer::Done,
-        session,
+        session: forged(talk.session, way),
         forged: true,
+        ..talk
     }
 }
 
@@ -510,19 +339,15 @@ fn pick(seed: u64, n: u64) -> u64 {
 
 // One call by chance: of 16, 5 suppose, 5 take back and 6 ask. Two of the numbers lie past the end.
 fn by_chance(talk: Talk, a: u64, b: u64, c: u64) -> Talk {
-    let t = talk.trace;
-    let n = long(t.len);
-    let bound = if n < 256 { n + 2 } else { 258 };
-    let what = pick(a, 16);
-    let x = size(pick(b, bound));
-    let y = size(pick(c, bound));
-    if what < 5 {
-        return supposed(talk, x, y);
+    let n = talk.trace.len;
+    let bound = if n < 256 { n as u64 + 2 } else { 258 };
+    let x = pick(b, bound) as usize;
+    let y = pick(c, bound) as usize;
+    match pick(a, 16) {
+        0..=4 => supposed(talk, x, y),
+        5..=9 => taken_back(talk),
+        _ => asked(talk, x, y),
     }
-    if what < 10 {
-        return taken_back(talk);
-    }
-    asked(talk, x, y)
 }
 
 fn more(n: u64) -> u64 {
@@ -546,37 +371,31 @@ fn counted(c: Counts, a: Answer, right: bool) -> Counts {
 }
 
 fn say_counts(stdout: Stdout, c: Counts) -> io::Result<()> {
-    say_number(stdout, b": right ", c.right)?;
-    say_number(stdout, b", done ", c.done)?;
-    say_number(stdout, b", held ", c.held)?;
-    say_number(stdout, b", not held ", c.not_held)?;
-    say_number(stdout, b", contradicted ", c.contradicted)?;
-    say_number(stdout, b", refused ", c.refused)
+    let Counts {
+        right,
+        done,
+        held,
+        not_held,
+        contradicted,
+        refused,
+    } = c;
+    print!(stdout;
+        ": right {right}, done {done}, held {held}, not held {not_held}, contradicted {contradicted}, refused {refused}"
+    )
 }
 
 // Some calls by chance, each compared.
 fn chance(stdout: Stdout, talk: Talk, calls: u64, seed: u64) -> io::Result<Talk> {
-    let mut counts = Counts {
-        right: 0,
-        done: 0,
-        held: 0,
-        not_held: 0,
-        contradicted: 0,
-        refused: 0,
-    };
+    let mut counts = Counts::default();
     let mut k = talk;
     let mut s = seed;
-    let mut i: u64 = 0;
-    while i < calls {
+    for _ in 0..calls {
         let a = next(s);
         let b = next(a);
-        let c = next(b);
-        s = c;
+        s = next(b);
         let before = k.session;
-        k = by_chance(k, a, b, c);
-        let answer = k.answer;
-        counts = counted(counts, answer, right(k, before));
-        i += 1;
+        k = by_chance(k, a, b, s);
+        counts = counted(counts, k.answer, right(k, before));
     }
     say_counts(stdout, counts)?;
     Ok(k)
@@ -584,14 +403,12 @@ fn chance(stdout: Stdout, talk: Talk, calls: u64, seed: u64) -> io::Result<Talk>
 
 // Prints the answer of a call, whether the session is contradicted after a change, and whether it is another than it should be.
 fn told(stdout: Stdout, talk: Talk, before: Session) -> io::Result<Talk> {
-    let s = talk.session;
-    let answer = talk.answer;
-    say_answer(stdout, answer)?;
-    if done(answer) & s.contradicted {
-        say(stdout, b", contradicted")?;
+    say_answer(stdout, talk.answer)?;
+    if done(talk.answer) && talk.session.contradicted {
+        print!(stdout; ", contradicted")?;
     }
     if !right(talk, before) {
-        say(stdout, b", another session")?;
+        print!(stdout; ", another session")?;
     }
     Ok(talk)
 }
@@ -599,29 +416,22 @@ fn told(stdout: Stdout, talk: Talk, before: Session) -> io::Result<Talk> {
 // A call that names two numbers, one that asks who waits, or a record.
 fn pair_call(stdout: Stdout, talk: Talk, line: &[u8]) -> io::Result<Talk> {
     let before = talk.session;
-    let f = fit(b"suppose # #", line, 0);
-    if f.fits {
-        let n = f.numbers;
-        return told(stdout, supposed(talk, wide(n[0]), wide(n[1])), before);
+    if let Some(n) = fit(b"suppose # #", line, 0) {
+        return told(stdout, supposed(talk, n[0] as usize, n[1] as usize), before);
     }
-    let f = fit(b"ask # #", line, 0);
-    if f.fits {
-        let n = f.numbers;
-        return told(stdout, asked(talk, wide(n[0]), wide(n[1])), before);
+    if let Some(n) = fit(b"ask # #", line, 0) {
+        return told(stdout, asked(talk, n[0] as usize, n[1] as usize), before);
     }
-    let f = fit(b"chance # #", line, 0);
-    if f.fits {
-        let n = f.numbers;
-        return chance(stdout, talk, wide64(n[0]), wide64(n[1]));
+    if let Some(n) = fit(b"chance # #", line, 0) {
+        return chance(stdout, talk, n[0] as u64, n[1] as u64);
     }
-    let f = fit(b"waiting", line, 0);
-    if f.fits {
+    if fit(b"waiting", line, 0).is_some() {
         return told(stdout, looked(talk), before);
     }
     match form(line) {
-        Form::Of(raw) => told(stdout, added(talk, record_of(raw)), before),
-        Form::Nothing => {
-            say(stdout, b": no such call")?;
+        Some(raw) => told(stdout, added(talk, record_of(raw)), before),
+        None => {
+            print!(stdout; ": no such call")?;
             Ok(talk)
         }
     }
@@ -631,28 +441,21 @@ fn pair_call(stdout: Stdout, talk: Talk, line: &[u8]) -> io::Result<Talk> {
 fn call(stdout: Stdout, talk: Talk, t: Trace, line: &[u8]) -> io::Result<Talk> {
     let before = talk.session;
     say(stdout, line)?;
-    let f = fit(b"open #", line, 0);
-    if f.fits {
-        let n = f.numbers;
+    if let Some(n) = fit(b"open #", line, 0) {
         return told(stdout, opened(t, model_of(n[0])), before);
     }
-    let f = fit(b"open damaged # #", line, 0);
-    if f.fits {
-        let n = f.numbers;
+    if let Some(n) = fit(b"open damaged # #", line, 0) {
         return told(
             stdout,
-            opened(damaged(t, wide(n[1])), model_of(n[0])),
+            opened(damaged(t, n[1] as usize), model_of(n[0])),
             before,
         );
     }
-    let f = fit(b"take back", line, 0);
-    if f.fits {
+    if fit(b"take back", line, 0).is_some() {
         return told(stdout, taken_back(talk), before);
     }
-    let f = fit(b"forge #", line, 0);
-    if f.fits {
-        let n = f.numbers;
-        return Ok(with_forged(talk, wide(n[0])));
+    if let Some(n) = fit(b"forge #", line, 0) {
+        return Ok(with_forged(talk, n[0] as usize));
     }
     pair_call(stdout, talk, line)
 }
@@ -660,51 +463,42 @@ fn call(stdout: Stdout, talk: Talk, t: Trace, line: &[u8]) -> io::Result<Talk> {
 // A script, line by line.
 fn conversation(stdout: Stdout, t: Trace, script: &[u8]) -> io::Result<()> {
     let mut talk = opened(trace::empty(), 1);
-    let mut at: usize = 0;
-    while at < script.len() {
-        let end = line_end(script, at);
-        talk = call(stdout, talk, t, &script[at..end])?;
-        say(stdout, b"\n")?;
-        at = end + 1;
+    for ended in script.split_inclusive(|b| *b == b'\n') {
+        let line = ended.strip_suffix(b"\n").unwrap_or(ended);
+        talk = call(stdout, talk, t, line)?;
+        println!(stdout; "")?;
     }
     Ok(())
 }
 
-// What the file that argument i names has, in lent memory; its name is printed.
+// What the file that word i of the arguments names has, in lent memory; its name is printed.
 fn named(rt: &(impl Files + Env), stdout: Stdout, i: usize, buf: &mut [u8]) -> io::Result<usize>
     ensures { IfOk result (λ n. n ≤ length buf.new) }
 {
-    let mut name = [0u8; 64];
-    let n = arg(rt, i, &mut name);
-    let path = &name[..n];
-    say(stdout, path)?;
-    fill_file(rt, path, buf)
+    let mut word = [0u8; 64];
+    let n = arg(rt, i, &mut word);
+    let name = &word[..n];
+    say(stdout, name)?;
+    fill_file(rt, name, buf)
 }
 
-// The trace that argument i names, and the script that argument j names.
+// The trace that word i of the arguments names, and the script that word j names.
 fn case(rt: &(impl Files + Env), stdout: Stdout, i: usize, j: usize) -> io::Result<()> {
     let mut text = [0u8; 32769];
     let n = named(rt, stdout, i, &mut text)?;
-    say(stdout, b" ")?;
+    print!(stdout; " ")?;
     let mut script = [0u8; 32769];
     let m = named(rt, stdout, j, &mut script)?;
-    say(stdout, b"\n")?;
+    println!(stdout; "")?;
     let r = reader::read(&text[..n]);
     conversation(stdout, r.trace, &script[..m])
 }
 
-// The arguments in twos: a trace, and a script.
+// The words in twos: a trace, and a script.
 fn main(rt: HostRuntime) -> io::Result<()> {
     let count = arg_count(&rt);
-    let mut i: usize = 1;
-    while i < count {
-        let j = i + 1;
-        if j < count {
-            case(&rt, rt.stdout(), i, j)?;
-            i = j + 1;
-        } else {
-            i = j;
-        }
+    for k in 0..(count.max(1) - 1) / 2 {
+        case(&rt, rt.stdout(), 2 * k + 1, 2 * k + 2)?;
     }
     Ok(())
 }

@@ -11,7 +11,7 @@ use reader::Answer;
 use report::render::{RENDER, render};
 use saying::args::{arg, arg_count};
 use saying::input::fill;
-use saying::{fail, front, tell_u8, tell_u16, tell_usize};
+use saying::{fail, front};
 use smaller::Smaller;
 use smaller::cut::smaller;
 use std::env::Env;
@@ -24,29 +24,19 @@ const ROOM: usize = 32769;
 
 // The old number of each record that is left.
 fn say_olds(stderr: Stderr, olds: &[u16], left: usize) -> io::Result<()> {
-    let mut i: usize = 0;
-    while i < olds.len() {
-        if i < left {
-            tell_usize(stderr, b"", i)?;
-            tell_u16(stderr, b" was ", olds[i])?;
-            saying::tell(stderr, b"\n")?;
-        }
-        i += 1;
+    for (i, old) in olds.iter().enumerate().take(left) {
+        eprintln!(stderr; "{i} was {old}")?;
     }
     Ok(())
 }
 
 // Each core that gets another number.
 fn say_cores(stderr: Stderr, t: Trace) -> io::Result<()> {
-    let mut old: u8 = 0;
-    while old < THREADS {
+    for old in 0..THREADS {
         let new = numbered(t, old);
         if used(t, old) && new < old {
-            tell_u8(stderr, b"core ", new)?;
-            tell_u8(stderr, b" was ", old)?;
-            saying::tell(stderr, b"\n")?;
+            eprintln!(stderr; "core {new} was {old}")?;
         }
-        old += 1;
     }
     Ok(())
 }
@@ -60,10 +50,10 @@ fn say_answer(stderr: Stderr, text: &[u8]) -> io::Result<()> {
 
 // The same for the first bytes of a buffer.
 fn say_verdicts(stderr: Stderr, text: &[u8], n: usize) -> io::Result<()> {
-    if n <= text.len() {
-        return say_answer(stderr, &text[0..n]);
+    match text.get(..n) {
+        Some(part) => say_answer(stderr, part),
+        None => Ok(()),
     }
-    Ok(())
 }
 
 // The text of a trace, and its verdicts, also where the text could not be written.
@@ -78,53 +68,44 @@ fn hand_over(stdout: Stdout, stderr: Stderr, t: Trace) -> io::Result<()> {
 // What is left.
 fn leave(stdout: Stdout, stderr: Stderr, s: Smaller) -> io::Result<()> {
     let part = s.trace;
-    let olds = s.olds;
-    say_olds(stderr, &olds, part.len)?;
+    say_olds(stderr, &s.olds, part.len)?;
     say_cores(stderr, part)?;
     hand_over(stdout, stderr, closed_up(part))
 }
 
 // What came of cutting a trace down.
 fn tell(stdout: Stdout, stderr: Stderr, s: Smaller) -> io::Result<()> {
-    let answer = s.answer;
-    match answer {
+    match s.answer {
         smaller::Answer::Cut => leave(stdout, stderr, s),
-        smaller::Answer::NothingWrong => saying::tell(stderr, b"nothing wrong\n"),
-        smaller::Answer::NoSource(x) => {
-            tell_usize(stderr, b"no source ", x)?;
-            saying::tell(stderr, b"\n")
-        }
-        smaller::Answer::NoModel => Ok(()),
-        smaller::Answer::NotWellFormed => Ok(()),
+        smaller::Answer::NothingWrong => eprintln!(stderr; "nothing wrong"),
+        smaller::Answer::NoSource(x) => eprintln!(stderr; "no source {x}"),
+        smaller::Answer::NoModel | smaller::Answer::NotWellFormed => Ok(()),
     }
 }
 
 // Cuts the trace of a text down.
 fn answered(stdout: Stdout, stderr: Stderr, text: &[u8], model: u8) -> io::Result<()> {
     let reading = reader::read_whole(text);
-    let answer = reading.answer;
-    match answer {
+    match reading.answer {
         Answer::Good => tell(stdout, stderr, smaller(reading.trace, model)),
-        Answer::Refused { reason: _, line: _ } => say_answer(stderr, text),
-        Answer::Lost => say_answer(stderr, text),
+        Answer::Refused { .. } | Answer::Lost => say_answer(stderr, text),
     }
 }
 
 // The same, or the line of what failed.
 fn answer(stdout: Stdout, stderr: Stderr, text: &[u8], model: u8) -> io::Result<()> {
-    match answered(stdout, stderr, text, model) {
-        Ok(()) => Ok(()),
-        Err(why) => fail(stderr, b"shrink: standard output", why),
-    }
+    answered(stdout, stderr, text, model).or_else(|why| fail(
+        stderr,
+        b"shrink: standard output",
+        why,
+    ))
 }
 
 // Reads the text and cuts it down. Where a read failed nothing is cut: half a trace may be good where the whole one is not.
 fn watch(mut stdin: Stdin, stdout: Stdout, stderr: Stderr, model: u8) -> io::Result<()> {
-    let mut text: [u8; ROOM] = [0; 32769];
-    let got = fill(&mut stdin, &mut text);
-    let n = got.count;
-    match got.whole {
-        Ok(()) => answer(stdout, stderr, &text[..n], model),
+    let mut text = [0u8; ROOM];
+    match fill(&mut stdin, &mut text) {
+        Ok(n) => answer(stdout, stderr, &text[..n], model),
         Err(why) => fail(stderr, b"shrink: standard input", why),
     }
 }
@@ -132,10 +113,7 @@ fn watch(mut stdin: Stdin, stdout: Stdout, stderr: Stderr, model: u8) -> io::Res
 // The number that a digit names; 0, which is no model's, for any other byte.
 fn digit(b: u8) -> u8 {
     match b {
-        b'1' => 1,
-        b'2' => 2,
-        b'3' => 3,
-        b'4' => 4,
+        b'1'..=b'4' => b - b'0',
         _ => 0,
     }
 }
@@ -147,10 +125,7 @@ fn asked(rt: &impl Env) -> u8 {
     }
     let mut word = [0u8; 2];
     let n = arg(rt, 1, &mut word);
-    if n != 1 {
-        return 0;
-    }
-    digit(word[0])
+    if n == 1 { digit(word[0]) } else { 0 }
 }
 
 fn main(rt: HostRuntime) -> io::Result<()> {
@@ -158,9 +133,6 @@ fn main(rt: HostRuntime) -> io::Result<()> {
     if modelled(model) {
         watch(rt.stdin(), rt.stdout(), rt.stderr(), model)
     } else {
-        saying::tell(
-            rt.stderr(),
-            b"usage: shrink MODEL < TRACE (1 is SC, 2 TSO, 3 PSO, 4 WMO)\n",
-        )
+        eprintln!(rt; "usage: shrink MODEL < TRACE (1 is SC, 2 TSO, 3 PSO, 4 WMO)")
     }
 }

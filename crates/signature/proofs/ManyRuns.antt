@@ -19,6 +19,7 @@ use native.Mathlib.Omega.{arith}
 use borrow.Author.Tests.{eq-eqb, ne_eqb}
 use lib.ListN.{length, take, drop, length-append, length-drop}
 use lib.Seq.{length-take-le, take_at, drop_at, take_all, take-append-le, drop-append-le}
+use Rattle.std.specs.Prelude.{Result, Ok, Err}
 use Rattle.laws.specs.Lowest.{lowest}
 use Rattle.laws.proofs.Tests.{eq?}
 use Rattle.trace.specs.WellFormed.{well_formed}
@@ -28,8 +29,8 @@ use Rattle.signature.specs.Signature.{tops}
 use Rattle.signature.specs.Unpack.{read_of, reads_of}
 use Rattle.signature.specs.SignatureAnswers.{unpack_next}
 use Rattle.signature.specs.ManyRuns.{words_at, read_runs, large_in_runs, all_reads, unpack_runs_of, unpack_runs_then, unpack_runs_left}
-use Rattle.signature.specs.declared.Answer.{Answer}
-use Rattle.signature.specs.declared.Answer.TheVariants.{Done, NotWellFormed, WrongLength, TooLarge}
+use Rattle.signature.specs.declared.Reason.{Reason}
+use Rattle.signature.specs.declared.Reason.TheVariants.{NotWellFormed, WrongLength, TooLarge}
 use Rattle.signature.proofs.Lists.{each_long}
 
 pub some_words : (k n : ℕ) → 0 < k * n → 0 < n
@@ -119,33 +120,33 @@ module _ (t : Trace) (ws : List ℕ) where
 
 -- what is answered, by the tests that lead there
 module _ (t : Trace) (ws b : List ℕ) where
-  pair : (a : Answer) (now : List ℕ) → a ≡ unpack_runs_of t ws (length b) → now ≡ unpack_runs_then a t ws b → (a ≡ unpack_runs_of t ws (length b)) × (now ≡ unpack_runs_left t ws b)
+  pair : (a : Result (Unit {0}) Reason) (now : List ℕ) → a ≡ unpack_runs_of t ws (length b) → now ≡ unpack_runs_then a t ws b → (a ≡ unpack_runs_of t ws (length b)) × (now ≡ unpack_runs_left t ws b)
   unfolding unpack_runs_left
-  pair a now e f = (e, f ∙ ap (λ (a : Answer). unpack_runs_then a t ws b) e)
+  pair a now e f = (e, f ∙ ap (λ (a : Result (Unit {0}) Reason). unpack_runs_then a t ws b) e)
 
-  pub runs-ten : well_formed t ≡ false → (NotWellFormed ≡ unpack_runs_of t ws (length b)) × (b ≡ unpack_runs_left t ws b)
+  pub runs-ten : well_formed t ≡ false → (Err NotWellFormed ≡ unpack_runs_of t ws (length b)) × (b ≡ unpack_runs_left t ws b)
   unfolding unpack_runs_of
-  runs-ten e = pair NotWellFormed b (rw e refl) refl
+  runs-ten e = pair (Err NotWellFormed) b (rw e refl) refl
 
   module _ (w : So (well_formed t)) where
-    pub runs-reads : length b ≢ read_runs t (length b) * length (loads t) → (WrongLength ≡ unpack_runs_of t ws (length b)) × (b ≡ unpack_runs_left t ws b)
+    pub runs-reads : length b ≢ read_runs t (length b) * length (loads t) → (Err WrongLength ≡ unpack_runs_of t ws (length b)) × (b ≡ unpack_runs_left t ws b)
     unfolding unpack_runs_of
-    runs-reads d = pair WrongLength b (rw (w, ne_eqb (length b) (read_runs t (length b) * length (loads t)) d) refl) refl
+    runs-reads d = pair (Err WrongLength) b (rw (w, ne_eqb (length b) (read_runs t (length b) * length (loads t)) d) refl) refl
 
     module _ (m : length b ≡ read_runs t (length b) * length (loads t)) where
-      pub runs-words : length ws ≢ read_runs t (length b) * length (tops t) → (WrongLength ≡ unpack_runs_of t ws (length b)) × (b ≡ unpack_runs_left t ws b)
+      pub runs-words : length ws ≢ read_runs t (length b) * length (tops t) → (Err WrongLength ≡ unpack_runs_of t ws (length b)) × (b ≡ unpack_runs_left t ws b)
       unfolding unpack_runs_of
-      runs-words d = pair WrongLength b (rw (w, eq-eqb (length b) (read_runs t (length b) * length (loads t)) m, ne_eqb (length ws) (read_runs t (length b) * length (tops t)) d) refl) refl
+      runs-words d = pair (Err WrongLength) b (rw (w, eq-eqb (length b) (read_runs t (length b) * length (loads t)) m, ne_eqb (length ws) (read_runs t (length b) * length (tops t)) d) refl) refl
 
       module _ (l : length ws ≡ read_runs t (length b) * length (tops t)) where
         pub runs-answer : unpack_runs_of t ws (length b) ≡ unpack_next (lowest (large_in_runs t ws) (length ws) 0)
         unfolding unpack_runs_of
         runs-answer = rw (w, eq-eqb (length b) (read_runs t (length b) * length (loads t)) m, eq-eqb (length ws) (read_runs t (length b) * length (tops t)) l) refl
 
-        pub runs-large : (k : ℕ) → lowest (large_in_runs t ws) (length ws) 0 ≡ some k → (TooLarge k ≡ unpack_runs_of t ws (length b)) × (b ≡ unpack_runs_left t ws b)
+        pub runs-large : (k : ℕ) → lowest (large_in_runs t ws) (length ws) 0 ≡ some k → (Err (TooLarge k) ≡ unpack_runs_of t ws (length b)) × (b ≡ unpack_runs_left t ws b)
         unfolding unpack_runs_of
-        runs-large k e = pair (TooLarge k) b (rw (w, eq-eqb (length b) (read_runs t (length b) * length (loads t)) m, eq-eqb (length ws) (read_runs t (length b) * length (tops t)) l, e) refl) refl
+        runs-large k e = pair (Err (TooLarge k)) b (rw (w, eq-eqb (length b) (read_runs t (length b) * length (loads t)) m, eq-eqb (length ws) (read_runs t (length b) * length (tops t)) l, e) refl) refl
 
-        pub runs_done : lowest (large_in_runs t ws) (length ws) 0 ≡ none → (now : List ℕ) → now ≡ all_reads t ws (read_runs t (length b)) → (Done ≡ unpack_runs_of t ws (length b)) × (now ≡ unpack_runs_left t ws b)
+        pub runs_done : lowest (large_in_runs t ws) (length ws) 0 ≡ none → (now : List ℕ) → now ≡ all_reads t ws (read_runs t (length b)) → (Ok tt ≡ unpack_runs_of t ws (length b)) × (now ≡ unpack_runs_left t ws b)
         unfolding unpack_runs_of
-        runs_done e now f = pair Done now (rw (w, eq-eqb (length b) (read_runs t (length b) * length (loads t)) m, eq-eqb (length ws) (read_runs t (length b) * length (tops t)) l, e) refl) f
+        runs_done e now f = pair (Ok tt) now (rw (w, eq-eqb (length b) (read_runs t (length b) * length (loads t)) m, eq-eqb (length ws) (read_runs t (length b) * length (tops t)) l, e) refl) f

@@ -18,6 +18,7 @@ use lib.Dec.{ltb}
 use lib.ListN.{length, get_or}
 use lib.Seq.{get_or-take}
 use borrow.Author.Tests.{eq-eqb, ne_eqb}
+use Rattle.std.specs.Prelude.{Some, None, Result, Ok, Err}
 use Rattle.laws.specs.Lowest.{Lowest, lowest}
 use Rattle.laws.proofs.Lowest.{lowest-iff, lowest-one}
 use Rattle.laws.proofs.Tests.{off, and-iff, same-iff, so-eq}
@@ -35,9 +36,8 @@ use Rattle.signature.specs.SignatureAnswers.{words_in, size_in, loads_in, read_i
 use Rattle.signature.specs.ManyRuns.{large_in_runs}
 use Rattle.signature.specs.inner.WordsLaid.{choice, thread_of, all_from, none_laid, laid_words}
 use Rattle.signature.specs.inner.LoadLists.{found_of, DigitsBelow, over}
-use Rattle.signature.specs.declared.Answer.{Answer}
-use Rattle.signature.specs.declared.Answer.TheVariants.{Done, NotWellFormed, WrongLength, NotListed, TooLarge}
-use Rattle.signature.specs.declared.Found.TheVariants.{At, Nothing}
+use Rattle.signature.specs.declared.Reason.{Reason}
+use Rattle.signature.specs.declared.Reason.TheVariants.{NotWellFormed, WrongLength, NotListed, TooLarge}
 use Rattle.signature.proofs.Signature.{up-long, top-chosen}
 use Rattle.signature.proofs.Laid.{tops-laid, tops-count, thread-count}
 
@@ -49,11 +49,11 @@ module _ (q : ℕ → Bool) (n : ℕ) where
   pub none-fails : lowest q n 0 ≡ none → (k : ℕ) → k < n → q k ≡ false
   none-fails e k h = off (λ s. subst (λ (o : Option ℕ). Lowest (λ k. (k < n) × So (q k)) o) e passes k (h, s))
 
-pub found_some : (x : Option ℕ) (i : ℕ) → found_of x ≡ At i → x ≡ some i
+pub found_some : (x : Option ℕ) (i : ℕ) → found_of x ≡ Some i → x ≡ some i
 found_some (some j) i e = let q : j ≡ i = cc in ap some q
 found_some none i e = let z : ◌≡◌ {A = ℕ} 0 1 = cc in absurd (omega arith)
 
-pub found_none : (x : Option ℕ) → found_of x ≡ Nothing → x ≡ none
+pub found_none : (x : Option ℕ) → found_of x ≡ None → x ≡ none
 found_none (some j) e = let z : ◌≡◌ {A = ℕ} 0 1 = cc in absurd (omega arith)
 found_none none e = refl
 
@@ -97,63 +97,63 @@ module _ (t : Trace) where
   loads-some w = ap (λ (b : Bool). cond b (length (loads t)) 0) (sym w)
 
   -- an answer settles what the words hold
-  left_as : (b : List ℕ) (a : Answer) → a ≡ pack_of t (length b) → pack_then a t b ≡ pack_left t b
+  left_as : (b : List ℕ) (a : Result (Unit {0}) Reason) → a ≡ pack_of t (length b) → pack_then a t b ≡ pack_left t b
   unfolding pack_left
-  left_as b a e = ap (λ (a : Answer). pack_then a t b) e
+  left_as b a e = ap (λ (a : Result (Unit {0}) Reason). pack_then a t b) e
 
   module _ (b : List ℕ) where
-    both : (a : Answer) (now : List ℕ) → a ≡ pack_of t (length b) → now ≡ pack_then a t b → (a ≡ pack_of t (length b)) × (now ≡ pack_left t b)
+    both : (a : Result (Unit {0}) Reason) (now : List ℕ) → a ≡ pack_of t (length b) → now ≡ pack_then a t b → (a ≡ pack_of t (length b)) × (now ≡ pack_left t b)
     both a now e f = (e, f ∙ left_as b a e)
 
-    pub pack-ten : well_formed t ≡ false → (NotWellFormed ≡ pack_of t (length b)) × (b ≡ pack_left t b)
+    pub pack-ten : well_formed t ≡ false → (Err NotWellFormed ≡ pack_of t (length b)) × (b ≡ pack_left t b)
     unfolding pack_of
-    pack-ten e = both NotWellFormed b (rw e refl) refl
+    pack-ten e = both (Err NotWellFormed) b (rw e refl) refl
 
     module _ (w : So (well_formed t)) where
-      pub pack-length : length b ≢ length (tops t) → (WrongLength ≡ pack_of t (length b)) × (b ≡ pack_left t b)
+      pub pack-length : length b ≢ length (tops t) → (Err WrongLength ≡ pack_of t (length b)) × (b ≡ pack_left t b)
       unfolding pack_of
-      pack-length d = both WrongLength b (rw (w, ne_eqb (length b) (length (tops t)) d) refl) refl
+      pack-length d = both (Err WrongLength) b (rw (w, ne_eqb (length b) (length (tops t)) d) refl) refl
 
       module _ (l : length b ≡ length (tops t)) where
-        pub pack-unlisted : (L : ℕ) → lowest (unlisted t (read_in t)) t.len 0 ≡ some L → (NotListed L ≡ pack_of t (length b)) × (b ≡ pack_left t b)
+        pub pack-unlisted : (L : ℕ) → lowest (unlisted t (read_in t)) t.len 0 ≡ some L → (Err (NotListed L) ≡ pack_of t (length b)) × (b ≡ pack_left t b)
         unfolding pack_of
-        pack-unlisted L e = both (NotListed L) b (rw (w, eq-eqb (length b) (length (tops t)) l, e) refl) refl
+        pack-unlisted L e = both (Err (NotListed L)) b (rw (w, eq-eqb (length b) (length (tops t)) l, e) refl) refl
 
-        pub pack-done : lowest (unlisted t (read_in t)) t.len 0 ≡ none → (now : List ℕ) → now ≡ signature t (read_in t) → (Done ≡ pack_of t (length b)) × (now ≡ pack_left t b)
+        pub pack-done : lowest (unlisted t (read_in t)) t.len 0 ≡ none → (now : List ℕ) → now ≡ signature t (read_in t) → (Ok tt ≡ pack_of t (length b)) × (now ≡ pack_left t b)
         unfolding pack_of
-        pack-done e now f = both Done now (rw (w, eq-eqb (length b) (length (tops t)) l, e) refl) f
+        pack-done e now f = both (Ok tt) now (rw (w, eq-eqb (length b) (length (tops t)) l, e) refl) f
 
   -- the same of unpacking
   module _ (ws b : List ℕ) where
-    then-as : (a : Answer) → a ≡ unpack_of t ws (length b) → unpack_then a t ws b ≡ unpack_left t ws b
+    then-as : (a : Result (Unit {0}) Reason) → a ≡ unpack_of t ws (length b) → unpack_then a t ws b ≡ unpack_left t ws b
     unfolding unpack_left
-    then-as a e = ap (λ (a : Answer). unpack_then a t ws b) e
+    then-as a e = ap (λ (a : Result (Unit {0}) Reason). unpack_then a t ws b) e
 
-    pair : (a : Answer) (now : List ℕ) → a ≡ unpack_of t ws (length b) → now ≡ unpack_then a t ws b → (a ≡ unpack_of t ws (length b)) × (now ≡ unpack_left t ws b)
+    pair : (a : Result (Unit {0}) Reason) (now : List ℕ) → a ≡ unpack_of t ws (length b) → now ≡ unpack_then a t ws b → (a ≡ unpack_of t ws (length b)) × (now ≡ unpack_left t ws b)
     pair a now e f = (e, f ∙ then-as a e)
 
-    pub unpack-ten : well_formed t ≡ false → (NotWellFormed ≡ unpack_of t ws (length b)) × (b ≡ unpack_left t ws b)
+    pub unpack-ten : well_formed t ≡ false → (Err NotWellFormed ≡ unpack_of t ws (length b)) × (b ≡ unpack_left t ws b)
     unfolding unpack_of
-    unpack-ten e = pair NotWellFormed b (rw e refl) refl
+    unpack-ten e = pair (Err NotWellFormed) b (rw e refl) refl
 
     module _ (w : So (well_formed t)) where
-      pub unpack-words : length ws ≢ length (tops t) → (WrongLength ≡ unpack_of t ws (length b)) × (b ≡ unpack_left t ws b)
+      pub unpack-words : length ws ≢ length (tops t) → (Err WrongLength ≡ unpack_of t ws (length b)) × (b ≡ unpack_left t ws b)
       unfolding unpack_of
-      unpack-words d = pair WrongLength b (rw (w, ne_eqb (length ws) (length (tops t)) d) refl) refl
+      unpack-words d = pair (Err WrongLength) b (rw (w, ne_eqb (length ws) (length (tops t)) d) refl) refl
 
       module _ (l : length ws ≡ length (tops t)) where
-        pub unpack-reads : length b ≢ length (loads t) → (WrongLength ≡ unpack_of t ws (length b)) × (b ≡ unpack_left t ws b)
+        pub unpack-reads : length b ≢ length (loads t) → (Err WrongLength ≡ unpack_of t ws (length b)) × (b ≡ unpack_left t ws b)
         unfolding unpack_of
-        unpack-reads d = pair WrongLength b (rw (w, eq-eqb (length ws) (length (tops t)) l, ne_eqb (length b) (length (loads t)) d) refl) refl
+        unpack-reads d = pair (Err WrongLength) b (rw (w, eq-eqb (length ws) (length (tops t)) l, ne_eqb (length b) (length (loads t)) d) refl) refl
 
         module _ (m : length b ≡ length (loads t)) where
-          pub unpack-large : (k : ℕ) → lowest (too_large t ws) (length ws) 0 ≡ some k → (TooLarge k ≡ unpack_of t ws (length b)) × (b ≡ unpack_left t ws b)
+          pub unpack-large : (k : ℕ) → lowest (too_large t ws) (length ws) 0 ≡ some k → (Err (TooLarge k) ≡ unpack_of t ws (length b)) × (b ≡ unpack_left t ws b)
           unfolding unpack_of
-          unpack-large k e = pair (TooLarge k) b (rw (w, eq-eqb (length ws) (length (tops t)) l, eq-eqb (length b) (length (loads t)) m, e) refl) refl
+          unpack-large k e = pair (Err (TooLarge k)) b (rw (w, eq-eqb (length ws) (length (tops t)) l, eq-eqb (length b) (length (loads t)) m, e) refl) refl
 
-          pub unpack-done : lowest (too_large t ws) (length ws) 0 ≡ none → (now : List ℕ) → now ≡ reads_of t ws → (Done ≡ unpack_of t ws (length b)) × (now ≡ unpack_left t ws b)
+          pub unpack-done : lowest (too_large t ws) (length ws) 0 ≡ none → (now : List ℕ) → now ≡ reads_of t ws → (Ok tt ≡ unpack_of t ws (length b)) × (now ≡ unpack_left t ws b)
           unfolding unpack_of
-          unpack-done e now f = pair Done now (rw (w, eq-eqb (length ws) (length (tops t)) l, eq-eqb (length b) (length (loads t)) m, e) refl) f
+          unpack-done e now f = pair (Ok tt) now (rw (w, eq-eqb (length ws) (length (tops t)) l, eq-eqb (length b) (length (loads t)) m, e) refl) f
 
 -- two tests that agree have the same lowest place
 pub lowest-like : (p q : ℕ → Bool) (n : ℕ) → ((k : ℕ) → k < n → p k ≡ q k) → lowest p n 0 ≡ lowest q n 0

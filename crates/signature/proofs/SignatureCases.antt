@@ -13,6 +13,7 @@ use native.Mathlib.Omega.{arith}
 use lib.Dec.{ltb}
 use lib.ListN.{length, get_or}
 use borrow.Author.Tests.{ltb-false}
+use Rattle.std.specs.Prelude.{Result}
 use Rattle.laws.specs.Lowest.{Lowest, lowest}
 use Rattle.laws.proofs.Lowest.{lowest-iff, lowest-one}
 use Rattle.laws.proofs.Tests.{off, test, eq?, and-iff, same-iff, so-eq, so-lt}
@@ -28,7 +29,7 @@ use Rattle.signature.specs.Unpack.{reads_of}
 use Rattle.signature.specs.SignatureAnswers.{read_in, pack_of, unpack_of}
 use Rattle.signature.specs.SignatureCases as cases
 use Rattle.signature.specs.SignatureCases.{Lists, Packs, Unpacks}
-use Rattle.signature.specs.declared.Answer.{Answer}
+use Rattle.signature.specs.declared.Reason.{Reason}
 use Rattle.signature.proofs.SignatureAnswers.{pack-ten, pack-length, pack-unlisted, pack-done, unpack-ten, unpack-words, unpack-reads, unpack-large, unpack-done}
 
 -- a lowest place is the place that it is said to be
@@ -54,7 +55,7 @@ module _ (t : Trace) where
       equal L d = elim (eq? (digit_of t L (read_in t L)) (range_of t L)) [ inl e ↦ e | inr n ↦ absurd (d (omega (arith, pos-le (values t L) (read_in t L)))) ]
 
   module _ (b : List ℕ) where
-    pub pack-told : (a : Answer) → Packs t b a → pack_of t (length b) ≡ a
+    pub pack-told : (a : Result (Unit {0}) Reason) → Packs t b a → pack_of t (length b) ≡ a
     pack-told _ (cases.ten n) = sym (pack-ten t b (off (λ s. n ((form-iff t).0 s)))).0
     pack-told _ (cases.wrong f d) = sym (pack-length t b ((form-iff t).1 f) d).0
     pack-told _ (cases.outside L f l h s n low) = sym (pack-unlisted t b ((form-iff t).1 f) l L (lowest-told (unlisted t (read_in t)) t.len (some L) ((h, (unlisted-iff L).1 (s, n)), λ y p. least y p.1))).0
@@ -83,11 +84,11 @@ module _ (t : Trace) where
             (cases.outside L ((form-iff t).0 w) l h.0.0 ((unlisted-iff L).0 h.0.1).0 ((unlisted-iff L).0 h.0.1).1 (λ j k s. lists j (λ u. omega (arith, k, h.1 j (omega (arith, k, h.0.0), u))) s))
         go w l none e h = subst (Packs t b) (pack-done t b w l e (signature t (read_in t)) refl).0 (cases.done ((form-iff t).0 w) l (λ L k s. lists L (λ u. h L (k, u)) s))
 
-    pub pack-exactly : (a : Answer) → (pack_of t (length b) ≡ a) ↔ Packs t b a
+    pub pack-exactly : (a : Result (Unit {0}) Reason) → (pack_of t (length b) ≡ a) ↔ Packs t b a
     pack-exactly a = (λ e. subst (Packs t b) e pack-case, pack-told a)
 
   module _ (ws b : List ℕ) where
-    pub unpack-told : (a : Answer) → Unpacks t ws b a → unpack_of t ws (length b) ≡ a
+    pub unpack-told : (a : Result (Unit {0}) Reason) → Unpacks t ws b a → unpack_of t ws (length b) ≡ a
     unfolding too_large
     unpack-told _ (cases.ten n) = sym (unpack-ten t ws b (off (λ s. n ((form-iff t).0 s)))).0
     unpack-told _ (cases.wrong f (inl d)) = sym (unpack-words t ws b ((form-iff t).1 f) d).0
@@ -122,5 +123,5 @@ module _ (t : Trace) where
             (cases.large k ((form-iff t).0 w) l m h.0.0 (so-lt.0 h.0.1) (λ j i. small j (λ u. omega (arith, i, h.1 j (omega (arith, i, h.0.0), u)))))
         go w l m none e h = subst (Unpacks t ws b) (unpack-done t ws b w l m e (reads_of t ws) refl).0 (cases.done ((form-iff t).0 w) l m (λ k i. small k (λ u. h k (i, u))))
 
-    pub unpack-exactly : (a : Answer) → (unpack_of t ws (length b) ≡ a) ↔ Unpacks t ws b a
+    pub unpack-exactly : (a : Result (Unit {0}) Reason) → (unpack_of t ws (length b) ≡ a) ↔ Unpacks t ws b a
     unpack-exactly a = (λ e. subst (Unpacks t ws b) e unpack-case, unpack-told a)

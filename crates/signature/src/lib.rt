@@ -9,21 +9,13 @@ mod products;
 pub mod runs;
 pub mod unpacking;
 
-// What packing and unpacking answer: a read that is not in its list is told with its record, a word that is too large with its place.
+// Why packing and unpacking are refused: a read that is not in its list is told with its record, a word that is too large with its place.
 #[derive(Clone, Copy)]
-pub enum Answer {
-    Done,
+pub enum Reason {
     NotWellFormed,
     WrongLength,
     NotListed(usize),
     TooLarge(usize),
-}
-
-// The lowest place of a kind, if there is one.
-#[derive(Clone, Copy)]
-enum Found {
-    At(usize),
-    Nothing,
 }
 
 // Words laid down so far, and the open one: the product of its ranges is q + 1, which may be 2 to the 64th.

@@ -16,8 +16,8 @@ use Rattle.pairs.proofs.KeptPairs.{kept-joins}
 use Rattle.rules.specs.Verdict.{Verdict, no_source, circle, order, none_left, Says}
 use Rattle.rules.proofs.ComputedVerdict.{verdict?}
 use Rattle.pairs.specs.MissingOf.{record?, missing_of}
-use Rattle.pairs.specs.declared.sources.Found.{Found}
-use Rattle.pairs.specs.declared.sources.Found.TheVariants.{At, Nothing}
+use Rattle.pairs.specs.Found.{Found}
+use Rattle.std.specs.Prelude.{Some, None}
 use Rattle.pairs.proofs.MissingOf.{missing-lowest}
 use Rattle.rules.proofs.Says.{circle-none}
 use Rattle.rules.proofs.VerdictComputed.{verdict-says}
@@ -43,10 +43,10 @@ module _ (t : Trace) (m : ℕ) where
       given : Says (frame_of t) (kept_of m t) (verdict? (frame_of t) (kept_of m t))
       given = verdict-says (frame_of t) (good t w) (kept_of m t) (kept-joins m t)
 
-      pub told-source : (x : ℕ) → missing_of t ≡ At x → ToldSmaller t m (bare_smaller (NoSource x))
+      pub told-source : (x : ℕ) → missing_of t ≡ Some x → ToldSmaller t m (bare_smaller (NoSource x))
       told-source x e = by (no_source x) (subst (λ (a : Found). Lowest (Missing (frame_of t)) (record? a)) e (missing-lowest t w)) (bare_smaller (NoSource x)) refl
 
-      module _ (e : missing_of t ≡ Nothing) where
+      module _ (e : missing_of t ≡ None) where
         sourced : Sourced (frame_of t)
         sourced = subst (λ (a : Found). Lowest (Missing (frame_of t)) (record? a)) e (missing-lowest t w)
 

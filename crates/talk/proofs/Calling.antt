@@ -4,15 +4,16 @@
 --   suppose-makes, ask-makes, model-makes, back-makes, waiting-makes == the makers of the five calls
 --   call-taken == a template that gives the line makes the call
 --   call-left  == one that does not leaves the line to the others
+--   fit-told, fit-untold == what `is_some` says of a template that takes no numbers
 use mathlib.Core.Path.{◌≡◌, refl, sym, ap, ◌∙◌}
-use mathlib.Core.Bool.{true, false, true≢false}
-use mathlib.Core.List.{List}
+use mathlib.Core.Bool.{true, false, false≢true}
+use mathlib.Core.List.{List, []}
 use Prim.Native.Nat.{ℕ, ◌<◌}
 use native.Mathlib.Omega.{arith}
 use lib.ListN.{get_or, replicate}
+use Rattle.std.specs.Prelude.{Option, Some, None, unwrap_or, is_some}
 use Rattle.text.specs.Number.{cut}
 use Rattle.text.specs.Template.{NUMBERS, Hit, hit, miss, found, fit_from, fitted}
-use Rattle.text.specs.declared.Fit.{Fit}
 use Rattle.text.proofs.Fits.{number_is}
 use Rattle.talk.specs.Command.{or_command, cut_command, suppose_from, ask_from, model_from, back_from, waiting_from}
 use Rattle.talk.specs.declared.asking.Command.{Command}
@@ -40,19 +41,27 @@ pub waiting-makes : Makes waiting_from
 unfolding Makes
 waiting-makes ns ms h = refl
 
-module _ (ts line : List ℕ) (r : Fit) (e : r ≡ fitted ts line) (make : List ℕ → Command) (other : Command) where
-  pub call-taken : Makes make → r.fits ≡ true → make r.numbers ≡ cut_command (or_command (found ts line) make other)
+module _ (ts line : List ℕ) (make : List ℕ → Command) (other : Command) where
+  pub call-taken : (places : List ℕ) → Makes make → Some places ≡ fitted ts line → make places ≡ cut_command (or_command (found ts line) make other)
   unfolding Makes fitted
-  call-taken m t = go (found ts line) e
+  call-taken places m e = go (found ts line) e
     where
-      go : (f : Hit) → r ≡ fit_from 0 (replicate NUMBERS 0) f → make r.numbers ≡ cut_command (or_command f make other)
-      go (hit ns) q = m ns r.numbers (λ i b. ap (λ (r : Fit). get_or r.numbers i 0) q ∙ number_is ns i b)
-      go miss q = absurd (true≢false (sym t ∙ ap (λ (r : Fit). r.fits) q))
+      go : (f : Hit) → Some places ≡ fit_from 0 (replicate NUMBERS 0) f → make places ≡ cut_command (or_command f make other)
+      go (hit ns) q = m ns places (λ i b. ap (λ (r : Option (List ℕ)). get_or (unwrap_or r []) i 0) q ∙ number_is ns i b)
+      go miss q = let z : ◌≡◌ {A = ℕ} 0 1 = cc in absurd (omega arith)
 
-  pub call-left : r.fits ≡ false → other ≡ or_command (found ts line) make other
+  pub call-left : None ≡ fitted ts line → other ≡ or_command (found ts line) make other
   unfolding fitted
-  call-left t = go (found ts line) e
+  call-left e = go (found ts line) e
     where
-      go : (f : Hit) → r ≡ fit_from 0 (replicate NUMBERS 0) f → other ≡ or_command f make other
-      go (hit ns) q = absurd (true≢false (sym (ap (λ (r : Fit). r.fits) q) ∙ t))
+      go : (f : Hit) → None ≡ fit_from 0 (replicate NUMBERS 0) f → other ≡ or_command f make other
+      go (hit ns) q = let z : ◌≡◌ {A = ℕ} 0 1 = cc in absurd (omega arith)
       go miss q = refl
+
+pub fit-told : (r : Option (List ℕ)) → is_some r ≡ true → (places : List ℕ) × (Some places ≡ r)
+fit-told (Some places) e = (places, refl)
+fit-told None e = absurd (false≢true e)
+
+pub fit-untold : (r : Option (List ℕ)) → is_some r ≡ false → None ≡ r
+fit-untold (Some places) e = absurd (false≢true (sym e))
+fit-untold None e = refl

@@ -13,16 +13,17 @@ use lib.Dec.{eqb, ltb}
 use lib.ListN.{length, set}
 use borrow.Author.Tests.{eqb-true}
 use Rattle.laws.proofs.Tests.{and-iff, same-iff}
+use Rattle.std.specs.Prelude.{Option, Some, None, Result, Ok, Err}
 use Rattle.trace.specs.Trace.{empty, started}
+use Rattle.trace.specs.declared.Op.{Op}
 use Rattle.trace.proofs.Growth.{started-well}
 use Rattle.pairs.specs.Kept.{modelled}
 use Rattle.text.specs.Lines.{Line}
 use Rattle.reader.specs.Bounds.{LINE}
 use Rattle.reader.specs.Answer.{turned, init_given}
+use Rattle.reader.specs.LineForms.{init}
 use Rattle.reader.specs.declared.Init.{Init}
-use Rattle.reader.specs.declared.Init.TheVariants as init
-use Rattle.reader.specs.declared.Turn.{Turn}
-use Rattle.reader.specs.declared.Turn.TheVariants as turn
+use Rattle.reader.specs.declared.Reason.{Reason}
 use Rattle.reader.proofs.Begins.{begins-good}
 use Rattle.session.specs.Stack.{stacked, stands}
 use Rattle.session.specs.Opening.{openable}
@@ -74,25 +75,25 @@ module _ (q : Notes) (s : Sound q) where
       go false e = s
 
   -- what an init line that gives a first value says
-  first-opens : (bytes : List ℕ) (a v : ℕ) → first_noted q bytes ≡ init.Of a v → So (openable (started q.trace a v) q.model)
+  first-opens : (bytes : List ℕ) (a v : ℕ) → first_noted q bytes ≡ Some (init a v) → So (openable (started q.trace a v) q.model)
   first-opens bytes a v = go (eqb q.trace.len 0) refl
     where
-      go : (b : Bool) → eqb q.trace.len 0 ≡ b → cond b (init_given q.given (whole bytes)) init.Nothing ≡ init.Of a v → So (openable (started q.trace a v) q.model)
+      go : (b : Bool) → eqb q.trace.len 0 ≡ b → cond b (init_given q.given (whole bytes)) None ≡ Some (init a v) → So (openable (started q.trace a v) q.model)
       go true e f =
           let o = (openable-iff q.trace q.model).0 s.opens in
           (openable-iff (started q.trace a v) q.model).1 (record { model = o.model; form = started-well q.trace a v (eqb-true _ _ e) (begins-good q.given (whole bytes) a v f).value o.form })
       go false e f = let z : ◌≡◌ {A = ℕ} 0 1 = cc in absurd (omega arith)
 
-  turn-sound : (r : Turn) → Sound (turn_noted q r)
-  turn-sound (turn.Taken o) = acted-sound (adds o)
-  turn-sound (turn.Refused r) = s
+  turn-sound : (r : Result Op Reason) → Sound (turn_noted q r)
+  turn-sound (Ok o) = acted-sound (adds o)
+  turn-sound (Err r) = s
 
   line-sound : (bytes : List ℕ) → Sound (line_noted q bytes)
   line-sound bytes = go (first_noted q bytes) refl
     where
-      go : (i : Init) → first_noted q bytes ≡ i → Sound (first_or q bytes i)
-      go (init.Of a v) e = record { opens = first-opens bytes a v e; allowed = none_allowed (started q.trace a v) }
-      go init.Nothing e = turn-sound (turned q.trace (whole bytes))
+      go : (i : Option Init) → first_noted q bytes ≡ i → Sound (first_or q bytes i)
+      go (Some i) e = record { opens = first-opens bytes i.addr i.value e; allowed = none_allowed (started q.trace i.addr i.value) }
+      go None e = turn-sound (turned q.trace (whole bytes))
 
   asked-sound : (bytes : List ℕ) (c : Command) → Sound (asked_noted q bytes c)
   asked-sound bytes (Suppose x y) = acted-sound (supposes x y)
@@ -129,17 +130,17 @@ module _ (q : Notes) (s : Sound q) where
             ap (λ (r : Reply). with_given q.given (left r)) (sym (afresh-done C q.trace n (stacked q.pairs) d (afresh C q.trace n q.pairs) (ap (afresh C q.trace n) (sym (standing-stacked q.trace q.pairs)))))
         go false e = refl
 
-    turn-afresh : (r : Turn) → after (turn_said C here r) ≡ talk_of C (turn_noted q r)
-    turn-afresh (turn.Taken o) = kept_by (adds o)
-    turn-afresh (turn.Refused r) = refl
+    turn-afresh : (r : Result Op Reason) → after (turn_said C here r) ≡ talk_of C (turn_noted q r)
+    turn-afresh (Ok o) = kept_by (adds o)
+    turn-afresh (Err r) = refl
 
     line-afresh : (bytes : List ℕ) → after (line_said C here bytes) ≡ talk_of C (line_noted q bytes)
     unfolding line_said first_value afresh
     line-afresh bytes = go (first_noted q bytes) refl
       where
-        go : (i : Init) → first_noted q bytes ≡ i → after (begun_or C here bytes i) ≡ talk_of C (first_or q bytes i)
-        go (init.Of a v) e = ap (with_given (set q.given a true)) (opened C (started q.trace a v) q.model (first-opens bytes a v e))
-        go init.Nothing e = turn-afresh (turned q.trace (whole bytes))
+        go : (i : Option Init) → first_noted q bytes ≡ i → after (begun_or C here bytes i) ≡ talk_of C (first_or q bytes i)
+        go (Some i) e = ap (with_given (set q.given i.addr true)) (opened C (started q.trace i.addr i.value) q.model (first-opens bytes i.addr i.value e))
+        go None e = turn-afresh (turned q.trace (whole bytes))
 
     asked-afresh : (bytes : List ℕ) (c : Command) → after (asked_of C here bytes c) ≡ talk_of C (asked_noted q bytes c)
     asked-afresh bytes (Suppose x y) = kept_by (supposes x y)

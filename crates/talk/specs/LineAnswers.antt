@@ -16,7 +16,7 @@
 --   line_said C k bytes  == a line that makes no call
 --   asked_of C k bytes c == a line that makes the call c, if any
 --   talk_answer C k l    == any line whatever: 2 where it is too long, 3 where it has no line feed
-use Rattle.std.specs.Prelude.{true, cond, List, ℕ, eqb, ltb, length, set}
+use Rattle.std.specs.Prelude.{true, cond, List, ℕ, eqb, ltb, length, set, Option, Some, None, Result, Ok, Err}
 use Rattle.trace.specs.Trace.{started}
 use Rattle.trace.specs.declared.Op.{Op}
 use Rattle.pairs.specs.Kept.{modelled}
@@ -25,10 +25,8 @@ use Rattle.reader.specs.Bounds.{LINE}
 use Rattle.reader.specs.Answer.{number_of, turned, init_given}
 use Rattle.reader.specs.Read.{none}
 use Rattle.reader.specs.declared.Init.{Init}
-use Rattle.reader.specs.declared.Init.TheVariants as init
+use Rattle.reader.specs.declared.Reason.{Reason}
 use Rattle.reader.specs.declared.Reason.TheVariants as reason
-use Rattle.reader.specs.declared.Turn.{Turn}
-use Rattle.reader.specs.declared.Turn.TheVariants as turn
 use Rattle.session.specs.Opening.{is_done}
 use Rattle.session.specs.Closings.{Closings}
 use Rattle.session.specs.Session.{blank}
@@ -100,15 +98,15 @@ added k r = said k (record_told k.session.trace.len r.answer) r.session
 abbrev pub addition_of : Closings → Talk → Op → Said
 addition_of C k o = added k (add_of C k.session o)
 
-abbrev pub turn_said : Closings → Talk → Turn → Said
-turn_said C k (turn.Taken o) = addition_of C k o
-turn_said C k (turn.Refused r) = refused_of k (number_of r)
+abbrev pub turn_said : Closings → Talk → Result Op Reason → Said
+turn_said C k (Ok o) = addition_of C k o
+turn_said C k (Err r) = refused_of k (number_of r)
 
 abbrev pub whole : List ℕ → Line
 whole bytes = record { bytes = bytes; ended = true }
 
-unfoldable pub first_value : Talk → List ℕ → Init
-first_value k bytes = cond (eqb k.session.trace.len 0) (init_given k.given (whole bytes)) init.Nothing
+unfoldable pub first_value : Talk → List ℕ → Option Init
+first_value k bytes = cond (eqb k.session.trace.len 0) (init_given k.given (whole bytes)) None
 
 abbrev pub begun_with : Talk → ℕ → Told → Session → Said
 begun_with k a d s = record { told = d; talk = record { session = s; given = set k.given a true } }
@@ -119,9 +117,9 @@ begun k a r = begun_with k a (answer_told r.answer) r.session
 abbrev pub beginning_of : Closings → Talk → ℕ → ℕ → Said
 beginning_of C k a v = begun k a (open_of C (started k.session.trace a v) k.session.model)
 
-abbrev pub begun_or : Closings → Talk → List ℕ → Init → Said
-begun_or C k bytes (init.Of a v) = beginning_of C k a v
-begun_or C k bytes init.Nothing = turn_said C k (turned k.session.trace (whole bytes))
+abbrev pub begun_or : Closings → Talk → List ℕ → Option Init → Said
+begun_or C k bytes (Some i) = beginning_of C k i.addr i.value
+begun_or C k bytes None = turn_said C k (turned k.session.trace (whole bytes))
 
 unfoldable pub line_said : Closings → Talk → List ℕ → Said
 line_said C k bytes = begun_or C k bytes (first_value k bytes)

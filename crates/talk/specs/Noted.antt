@@ -11,9 +11,10 @@
 --   asked_noted q bytes c == after a line that makes the call c, if any
 --   noted q l          == after any line
 --   talk_after C k ls, noted_after q ls == the talk, and the notes, after any lines
-use Rattle.std.specs.Prelude.{Bool, true, cond, List, [], ◌∷◌, ℕ, eqb, ltb, length, set}
+use Rattle.std.specs.Prelude.{Bool, true, cond, List, [], ◌∷◌, ℕ, eqb, ltb, length, set, Option, Some, None, Result, Ok, Err}
 use Rattle.std.proofs.Math.Bool.{So}
 use Rattle.trace.specs.Trace.{empty, started}
+use Rattle.trace.specs.declared.Op.{Op}
 use Rattle.trace.specs.declared.Trace.{Trace}
 use Rattle.pairs.specs.Kept.{SC, modelled}
 use Rattle.text.specs.Lines.{Line}
@@ -21,9 +22,7 @@ use Rattle.reader.specs.Bounds.{LINE}
 use Rattle.reader.specs.Answer.{turned, init_given}
 use Rattle.reader.specs.Read.{none}
 use Rattle.reader.specs.declared.Init.{Init}
-use Rattle.reader.specs.declared.Init.TheVariants as init
-use Rattle.reader.specs.declared.Turn.{Turn}
-use Rattle.reader.specs.declared.Turn.TheVariants as turn
+use Rattle.reader.specs.declared.Reason.{Reason}
 use Rattle.session.specs.Stack.{Allowed}
 use Rattle.session.specs.Opening.{openable}
 use Rattle.session.specs.Closings.{Closings}
@@ -61,16 +60,16 @@ talk_of C q = with_given q.given (afresh C q.trace q.model q.pairs)
 abbrev pub acted : Notes → Act → Notes
 acted q a = record { trace = recorded q.trace a; model = q.model; pairs = pairs_after q.trace q.pairs a; given = q.given }
 
-abbrev pub first_noted : Notes → List ℕ → Init
-first_noted q bytes = cond (eqb q.trace.len 0) (init_given q.given (whole bytes)) init.Nothing
+abbrev pub first_noted : Notes → List ℕ → Option Init
+first_noted q bytes = cond (eqb q.trace.len 0) (init_given q.given (whole bytes)) None
 
-abbrev pub turn_noted : Notes → Turn → Notes
-turn_noted q (turn.Taken o) = acted q (adds o)
-turn_noted q (turn.Refused r) = q
+abbrev pub turn_noted : Notes → Result Op Reason → Notes
+turn_noted q (Ok o) = acted q (adds o)
+turn_noted q (Err r) = q
 
-abbrev pub first_or : Notes → List ℕ → Init → Notes
-first_or q bytes (init.Of a v) = record { trace = started q.trace a v; model = q.model; pairs = []; given = set q.given a true }
-first_or q bytes init.Nothing = turn_noted q (turned q.trace (whole bytes))
+abbrev pub first_or : Notes → List ℕ → Option Init → Notes
+first_or q bytes (Some i) = record { trace = started q.trace i.addr i.value; model = q.model; pairs = []; given = set q.given i.addr true }
+first_or q bytes None = turn_noted q (turned q.trace (whole bytes))
 
 abbrev pub line_noted : Notes → List ℕ → Notes
 line_noted q bytes = first_or q bytes (first_noted q bytes)

@@ -9,8 +9,8 @@ mod asking;
 mod telling;
 
 use saying::args::arg_count;
+use saying::fail;
 use saying::input::interrupted;
-use saying::{fail, say, say_u8, say_usize, tell};
 use std::io;
 use std::io::{Read, Stderr, Stdin, Stdout};
 use telling::{Said, Talk, Told, answer, fresh};
@@ -22,9 +22,9 @@ const ROOM: usize = 81;
 const PIECE: usize = 4096;
 
 // How often input is waited for at the most: a loop has to end.
-const TURNS: u64 = 18446744073709551615;
+const TURNS: u64 = u64::MAX;
 
-const FEED: u8 = 10;
+const FEED: u8 = b'\n';
 
 // A talk after a piece of the input: how many bytes of the line that has not ended are kept, and whether all answers could be written; if not, why.
 #[derive(Clone, Copy)]
@@ -34,47 +34,19 @@ struct Heard {
     spoke: io::Result<()>,
 }
 
-// The words of an answer, without its line feed.
-fn say_told(stdout: Stdout, told: Told) -> io::Result<()> {
-    match told {
-        Told::Done => say(stdout, b"done"),
-        Told::Record(x) => say_usize(stdout, b"record ", x),
-        Told::Held => say(stdout, b"held"),
-        Told::NotHeld => say(stdout, b"not held"),
-        Told::Contradicted => say(stdout, b"contradicted"),
-        Told::Waits(x) => {
-            say_usize(stdout, b"record ", x)?;
-            say(stdout, b" waits")
-        }
-        Told::NoneWaits => say(stdout, b"none waits"),
-        Told::Refused(n) => say_u8(stdout, b"refused ", n),
-    }
-}
-
 // Whether an answer is one to a change of the session.
 fn changed(told: Told) -> bool {
-    match told {
-        Told::Done => true,
-        Told::Record(_) => true,
-        Told::Held => false,
-        Told::NotHeld => false,
-        Told::Contradicted => false,
-        Told::Waits(_) => false,
-        Told::NoneWaits => false,
-        Told::Refused(_) => false,
-    }
+    matches!(told, Told::Done | Told::Record(_))
 }
 
 // The line of an answer; behind a change, whether the session is contradicted now.
 fn spoken(stdout: Stdout, said: Said) -> io::Result<()> {
     let told = said.told;
-    let talk = said.talk;
-    let session = talk.session;
-    say_told(stdout, told)?;
-    if changed(told) && session.contradicted {
-        return say(stdout, b", contradicted\n");
+    if changed(told) && said.talk.session.contradicted {
+        println!(stdout; "{told}, contradicted")
+    } else {
+        println!(stdout; "{told}")
     }
-    say(stdout, b"\n")
 }
 
 // Takes a piece of the input: each line that ends in it is answered, and what is left is kept for the next piece; of a line that is too long, one byte
@@ -85,25 +57,22 @@ fn hear(stdout: Stdout, from: Talk, line: &mut [u8], had: usize, came: &[u8]) ->
 {
     let mut talk = from;
     let mut count = had;
-    let mut i: usize = 0;
-    while i < came.len() {
-        let b = came[i];
-        if b == FEED {
+    for b in came {
+        if *b == FEED {
             let said = answer(talk, &line[..count], true);
             talk = said.talk;
             count = 0;
             if let Err(why) = spoken(stdout, said) {
                 return Heard {
                     talk,
-                    count: 0,
+                    count,
                     spoke: Err(why),
                 };
             }
         } else if count < line.len() {
-            line[count] = b;
+            line[count] = *b;
             count += 1;
         }
-        i += 1;
     }
     Heard {
         talk,
@@ -114,12 +83,14 @@ fn hear(stdout: Stdout, from: Talk, line: &mut [u8], had: usize, came: &[u8]) ->
 
 // Answers a last line that has no line feed, where there is one.
 fn last(stdout: Stdout, stderr: Stderr, talk: Talk, line: &[u8]) -> io::Result<()> {
-    if 0 < line.len() {
-        if let Err(why) = spoken(stdout, answer(talk, line, false)) {
-            return fail(stderr, b"talk: standard output", why);
-        }
+    if line.is_empty() {
+        return Ok(());
     }
-    Ok(())
+    spoken(stdout, answer(talk, line, false)).or_else(|why| fail(
+        stderr,
+        b"talk: standard output",
+        why,
+    ))
 }
 
 // Waits for input and answers it, until it has ended.
@@ -130,10 +101,8 @@ fn listen(mut stdin: Stdin, stdout: Stdout, stderr: Stderr) -> io::Result<()> {
     let mut came = [0u8; PIECE];
     for _ in 0..TURNS {
         match stdin.read(&mut came) {
+            Ok(0) => return last(stdout, stderr, talk, &line[..count]),
             Ok(n) => {
-                if n == 0 {
-                    return last(stdout, stderr, talk, &line[..count]);
-                }
                 let heard = hear(stdout, talk, &mut line, count, &came[..n]);
                 talk = heard.talk;
                 count = heard.count;
@@ -141,11 +110,8 @@ fn listen(mut stdin: Stdin, stdout: Stdout, stderr: Stderr) -> io::Result<()> {
                     return fail(stderr, b"talk: standard output", why);
                 }
             }
-            Err(why) => {
-                if !interrupted(&why) {
-                    return fail(stderr, b"talk: standard input", why);
-                }
-            }
+            Err(why) if interrupted(&why) => {}
+            Err(why) => return fail(stderr, b"talk: standard input", why),
         }
     }
     Ok(())
@@ -153,7 +119,7 @@ fn listen(mut stdin: Stdin, stdout: Stdout, stderr: Stderr) -> io::Result<()> {
 
 fn main(rt: HostRuntime) -> io::Result<()> {
     if arg_count(&rt) > 1 {
-        tell(rt.stderr(), b"usage: talk < LINES (it takes no words)\n")
+        eprintln!(rt; "usage: talk < LINES (it takes no words)")
     } else {
         listen(rt.stdin(), rt.stdout(), rt.stderr())
     }

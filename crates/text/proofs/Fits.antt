@@ -18,11 +18,11 @@ use lib.Dec.{eqb}
 use native.Mathlib.Decide.{dec_lt}
 use lib.ListN.{length, drop, get_or, set, length-drop, drop_of_length-le, length-set, replicate, get_or-replicate, get_or-map, get_or-eq_default}
 use lib.Seq.{drop-cons, drop-drop, sets, get_or-set_other, get_or-set_same}
+use Rattle.std.specs.Prelude.{Some, None, Option}
 use Rattle.laws.proofs.Tests.{eq?}
-use Rattle.text.specs.Number.{digits, value, is_number, cut, number_at}
-use Rattle.text.specs.Template.{HOLE, NUMBERS, Hit, hit, miss, also, begins, found, step_at, fit_from, missed}
-use Rattle.text.specs.declared.Number.{Number}
-use Rattle.text.specs.declared.Number.TheVariants.{At, Missing}
+use Rattle.text.specs.Number.{digits, value, is_number, cut, number_at, run}
+use Rattle.text.specs.Template.{HOLE, NUMBERS, Hit, hit, miss, also, begins, found, step_at, fit_from}
+use Rattle.text.specs.declared.Run.{Run}
 
 -- what a text begins with from a place on
 pub begins-at : (t : ℕ) (s : List ℕ) (i : ℕ) → i < length s → begins t (drop i s) ≡ eqb (get_or s i 0) t
@@ -34,23 +34,23 @@ unfolding begins
 begins-past t s i h = rw (drop_of_length-le s h)
 
 -- the two answers of a step differ
-apart {ℓ} : {A : Type ℓ} {v e : ℕ} → Missing ≡ At v e → A
+apart {ℓ} : {A : Type ℓ} {v e : ℕ} → None ≡ Some (run v e) → A
 apart q = let z : ◌≡◌ {A = ℕ} 0 1 = cc in absurd (omega arith)
 
-miss-if : (b : Bool) (n : Number) (h : Hit) → ((v e : ℕ) × (n ≡ At v e)) → Missing ≡ cond b n Missing → cond b h miss ≡ miss
+miss-if : (b : Bool) (n : Option Run) (h : Hit) → ((v e : ℕ) × (n ≡ Some (run v e))) → None ≡ cond b n None → cond b h miss ≡ miss
 miss-if true n h w q = apart (q ∙ w.2)
 miss-if false n h w q = refl
 
-hit-if : (b : Bool) {v e v' e' : ℕ} (h : Hit) → At v e ≡ cond b (At v' e') Missing → (cond b h miss ≡ h) × (v ≡ v') × (e ≡ e')
-hit-if true h q = (refl, cc, cc)
+hit-if : (b : Bool) {v e v' e' : ℕ} (h : Hit) → Some (run v e) ≡ cond b (Some (run v' e')) None → (cond b h miss ≡ h) × (v ≡ v') × (e ≡ e')
+hit-if true {v} {e} {v'} {e'} h q = let r : run v e ≡ run v' e' = cc in (refl, ap (λ (r : Run). r.value) r, ap (λ (r : Run). r.end) r)
 hit-if false h q = apart (sym q)
 
 module _ (t : ℕ) (line : List ℕ) (at : ℕ) where
-  hole-step : t ≡ HOLE → step_at t line at ≡ cond (is_number (digits (drop at line))) (At (cut (value 0 (digits (drop at line)))) (at + length (digits (drop at line)))) Missing
+  hole-step : t ≡ HOLE → step_at t line at ≡ cond (is_number (digits (drop at line))) (Some (run (cut (value 0 (digits (drop at line)))) (at + length (digits (drop at line))))) None
   unfolding step_at number_at
   hole-step h = rw (eq-eqb t HOLE h)
 
-  byte_step : (t ≡ HOLE → ⊥) → step_at t line at ≡ cond (begins t (drop at line)) (At 0 (at + 1)) Missing
+  byte_step : (t ≡ HOLE → ⊥) → step_at t line at ≡ cond (begins t (drop at line)) (Some (run 0 (at + 1))) None
   unfolding step_at
   byte_step h = rw (ne_eqb t HOLE h)
 
@@ -58,13 +58,13 @@ module _ (t : ℕ) (line : List ℕ) (at : ℕ) where
   unfolding step_at
   step-number h = rw (eq-eqb t HOLE h)
 
-  pub step-there : (t ≡ HOLE → ⊥) → at < length line → get_or line at 0 ≡ t → At 0 (at + 1) ≡ step_at t line at
+  pub step-there : (t ≡ HOLE → ⊥) → at < length line → get_or line at 0 ≡ t → Some (run 0 (at + 1)) ≡ step_at t line at
   step-there h b e = rw (byte_step h, begins-at t line at b, eq-eqb (get_or line at 0) t e)
 
-  pub step_other : (t ≡ HOLE → ⊥) → at < length line → (get_or line at 0 ≡ t → ⊥) → Missing ≡ step_at t line at
+  pub step_other : (t ≡ HOLE → ⊥) → at < length line → (get_or line at 0 ≡ t → ⊥) → None ≡ step_at t line at
   step_other h b e = rw (byte_step h, begins-at t line at b, ne_eqb (get_or line at 0) t e)
 
-  pub step_past : (t ≡ HOLE → ⊥) → length line ≤ at → Missing ≡ step_at t line at
+  pub step_past : (t ≡ HOLE → ⊥) → length line ≤ at → None ≡ step_at t line at
   step_past h b = rw (byte_step h, begins-past t line at b)
 
 module _ (t : ℕ) (ts line : List ℕ) (at : ℕ) where
@@ -76,15 +76,15 @@ module _ (t : ℕ) (ts line : List ℕ) (at : ℕ) where
   unfolding found
   byte-found h = rw (ne_eqb t HOLE h)
 
-  pub step-missing : Missing ≡ step_at t line at → found (t ∷ ts) (drop at line) ≡ miss
+  pub step-missing : None ≡ step_at t line at → found (t ∷ ts) (drop at line) ≡ miss
   step-missing q =
       elim (eq? t HOLE) [
-        | inl h ↦ hole-found h ∙ miss-if (is_number (digits (drop at line))) (At (cut (value 0 (digits (drop at line)))) (at + length (digits (drop at line)))) _ (_, _, refl) (q ∙ hole-step t line at h)
-        | inr h ↦ byte-found h ∙ miss-if (begins t (drop at line)) (At 0 (at + 1)) _ (_, _, refl) (q ∙ byte_step t line at h)
+        | inl h ↦ hole-found h ∙ miss-if (is_number (digits (drop at line))) (Some (run (cut (value 0 (digits (drop at line)))) (at + length (digits (drop at line))))) _ (_, _, refl) (q ∙ hole-step t line at h)
+        | inr h ↦ byte-found h ∙ miss-if (begins t (drop at line)) (Some (run 0 (at + 1))) _ (_, _, refl) (q ∙ byte_step t line at h)
       ]
 
   -- a hole: the number goes into the next place
-  pub step-hole : t ≡ HOLE → (n : ℕ) (places : List ℕ) {v e : ℕ} → At v e ≡ step_at t line at
+  pub step-hole : t ≡ HOLE → (n : ℕ) (places : List ℕ) {v e : ℕ} → Some (run v e) ≡ step_at t line at
       → fit_from (n + 1) (set places n v) (found ts (drop e line)) ≡ fit_from n places (found (t ∷ ts) (drop at line))
   step-hole h n places {v} {e} q =
       let p = hit-if (is_number (digits (drop at line))) (also (value 0 (digits (drop at line))) (found ts (drop (length (digits (drop at line))) (drop at line)))) (q ∙ hole-step t line at h) in
@@ -95,17 +95,17 @@ module _ (t : ℕ) (ts line : List ℕ) (at : ℕ) where
       place miss = refl
 
   -- any other byte stands for itself
-  pub step-byte : (t ≡ HOLE → ⊥) → {v e : ℕ} → At v e ≡ step_at t line at → found ts (drop e line) ≡ found (t ∷ ts) (drop at line)
+  pub step-byte : (t ≡ HOLE → ⊥) → {v e : ℕ} → Some (run v e) ≡ step_at t line at → found ts (drop e line) ≡ found (t ∷ ts) (drop at line)
   step-byte h {v} {e} q =
       let p = hit-if (begins t (drop at line)) (found ts (drop 1 (drop at line))) (q ∙ byte_step t line at h) in
       rw (p.2, byte-found h, p.0, drop-drop 1 at line) refl
 
 module _ (line : List ℕ) (at n : ℕ) (places : List ℕ) where
-  pub fit-end : length line ≤ at → record { fits = true; numbers = places } ≡ fit_from n places (found [] (drop at line))
+  pub fit-end : length line ≤ at → Some places ≡ fit_from n places (found [] (drop at line))
   unfolding found
   fit-end h = rw (eq-eqb (length (drop at line)) 0 (omega (arith, length-drop at line)))
 
-  pub fit-over : at < length line → missed ≡ fit_from n places (found [] (drop at line))
+  pub fit-over : at < length line → None ≡ fit_from n places (found [] (drop at line))
   unfolding found
   fit-over h = rw (ne_eqb (length (drop at line)) 0 (λ e. omega (arith, length-drop at line)))
 

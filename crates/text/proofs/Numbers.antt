@@ -18,10 +18,10 @@ use native.Mathlib.Omega.{arith}
 use borrow.Author.Tests.{eq-eqb, ne_eqb}
 use lib.ListN.{length, drop, get_or, drop_of_length-le}
 use lib.Seq.{drop-cons}
+use Rattle.std.specs.Prelude.{Some, None}
 use Rattle.trace.specs.Bounds.{VALUES}
-use Rattle.text.specs.Number.{is_digit, digits, value, is_number, cut, run_at, number_at}
+use Rattle.text.specs.Number.{is_digit, digits, value, is_number, cut, run_at, number_at, run}
 use Rattle.text.specs.declared.Run.{Run}
-use Rattle.text.specs.declared.Number.TheVariants.{At, Missing}
 
 module _ (s : List ℕ) (i : ℕ) where
   pub digits-on : i < length s → is_digit (get_or s i 0) ≡ true → digits (drop i s) ≡ get_or s i 0 ∷ digits (drop (i + 1) s)
@@ -97,29 +97,31 @@ module _ (s : List ℕ) (at : ℕ) where
       go (yes h) = (h, here h (is_digit (get_or s at 0)) refl)
       go (no h) = let z = ap length (digits-none s at (omega arith)) in absurd (omega arith)
 
-  pub number-missing : (length (digits (drop at s)) ≡ 0) ⊎ ((1 < length (digits (drop at s))) × (get_or (digits (drop at s)) 0 0 ≡ 48)) → Missing ≡ number_at s at
+  pub number-missing : (length (digits (drop at s)) ≡ 0) ⊎ ((1 < length (digits (drop at s))) × (get_or (digits (drop at s)) 0 0 ≡ 48)) → None ≡ number_at s at
   unfolding number_at
   number-missing w = rw (no_number (digits (drop at s)) w)
 
   pub number-there : (r : Run) → r ≡ run_at s at → 0 < length (digits (drop at s)) → (get_or (digits (drop at s)) 0 0 ≡ 48 → ⊥) ⊎ (length (digits (drop at s)) ≤ 1)
-      → At r.value r.end ≡ number_at s at
+      → Some (run r.value r.end) ≡ number_at s at
   unfolding number_at
-  number-there r e h w = rw (a-number (digits (drop at s)) h w) (ap₂ At (ap (λ (r : Run). r.value) e) (ap (λ (r : Run). r.end) e))
+  number-there r e h w = rw (a-number (digits (drop at s)) h w) (ap₂ (λ (n e : ℕ). Some (run n e)) (ap (λ (r : Run). r.value) e) (ap (λ (r : Run). r.end) e))
 
   -- and what each answer says of the run
-  pub number-known : {v e : ℕ} → At v e ≡ number_at s at → (is_number (digits (drop at s)) ≡ true) × (v ≡ cut (value 0 (digits (drop at s)))) × (e ≡ at + length (digits (drop at s)))
+  pub number-known : {v e : ℕ} → Some (run v e) ≡ number_at s at → (is_number (digits (drop at s)) ≡ true) × (v ≡ cut (value 0 (digits (drop at s)))) × (e ≡ at + length (digits (drop at s)))
   unfolding number_at
   number-known {v} {e} q = go (is_number (digits (drop at s))) refl q
     where
-      go : (b : Bool) → is_number (digits (drop at s)) ≡ b → At v e ≡ cond b (At (cut (value 0 (digits (drop at s)))) (at + length (digits (drop at s)))) Missing
+      go : (b : Bool) → is_number (digits (drop at s)) ≡ b → Some (run v e) ≡ cond b (Some (run (cut (value 0 (digits (drop at s)))) (at + length (digits (drop at s))))) None
           → (is_number (digits (drop at s)) ≡ true) × (v ≡ cut (value 0 (digits (drop at s)))) × (e ≡ at + length (digits (drop at s)))
-      go true h q = (h, cc, cc)
+      go true h q =
+          let r : run v e ≡ run (cut (value 0 (digits (drop at s)))) (at + length (digits (drop at s))) = cc in
+          (h, ap (λ (r : Run). r.value) r, ap (λ (r : Run). r.end) r)
       go false h q = let z : ◌≡◌ {A = ℕ} 0 1 = cc in absurd (omega arith)
 
-  pub number-unknown : Missing ≡ number_at s at → is_number (digits (drop at s)) ≡ false
+  pub number-unknown : None ≡ number_at s at → is_number (digits (drop at s)) ≡ false
   unfolding number_at
   number-unknown q = go (is_number (digits (drop at s))) refl q
     where
-      go : (b : Bool) → is_number (digits (drop at s)) ≡ b → Missing ≡ cond b (At (cut (value 0 (digits (drop at s)))) (at + length (digits (drop at s)))) Missing → is_number (digits (drop at s)) ≡ false
+      go : (b : Bool) → is_number (digits (drop at s)) ≡ b → None ≡ cond b (Some (run (cut (value 0 (digits (drop at s)))) (at + length (digits (drop at s))))) None → is_number (digits (drop at s)) ≡ false
       go true h q = let z : ◌≡◌ {A = ℕ} 0 1 = cc in absurd (omega arith)
       go false h q = h

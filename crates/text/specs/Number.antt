@@ -7,13 +7,12 @@
 --   decimal n       == the digits of n
 --   cut n           == n, or the first number past every bound where n is past it
 --   run_at text at  == the digits at a place as the code holds them: their value, cut, and where they end
+--   run n end       == the digits that are n and end there
 --   number_at text at == the number at a place, cut, and where it ends
-use Rattle.std.specs.Prelude.{Bool, true, false, cond, List, [], ◌∷◌, ◌++◌, ℕ, zero, suc, ◌+◌, ◌*◌, ◌-◌, ◌/◌, ◌%◌, min, eqb, ltb, length, drop}
+use Rattle.std.specs.Prelude.{Bool, true, false, cond, List, [], ◌∷◌, ◌++◌, ℕ, zero, suc, ◌+◌, ◌*◌, ◌-◌, ◌/◌, ◌%◌, min, eqb, ltb, length, drop, Option, Some, None}
 use Rattle.trace.specs.Bounds.{VALUES}
 use Rattle.text.specs.Class.{within}
 use Rattle.text.specs.declared.Run.{Run}
-use Rattle.text.specs.declared.Number.{Number}
-use Rattle.text.specs.declared.Number.TheVariants.{At, Missing}
 
 abbrev pub is_digit : ℕ → Bool
 is_digit b = within 48 57 b
@@ -45,6 +44,9 @@ cut n = min VALUES n
 abbrev pub run_at : List ℕ → ℕ → Run
 run_at text at = record { value = cut (value 0 (digits (drop at text))); end = at + length (digits (drop at text)) }
 
-unfoldable pub number_at : List ℕ → ℕ → Number
+abbrev pub run : ℕ → ℕ → Run
+run n end = record { value = n; end = end }
+
+unfoldable pub number_at : List ℕ → ℕ → Option Run
 number_at text at =
-    cond (is_number (digits (drop at text))) (At (cut (value 0 (digits (drop at text)))) (at + length (digits (drop at text)))) Missing
+    cond (is_number (digits (drop at text))) (Some (run (cut (value 0 (digits (drop at text)))) (at + length (digits (drop at text))))) None

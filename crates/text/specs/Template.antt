@@ -6,14 +6,11 @@
 --   Hit               == the numbers that were found, or that the line is another
 --   found ts text     == the numbers with which the template gives the text
 --   step_at t text at == one byte of a template against a place: the number that a hole takes, 0 for any other byte, and where it ends
---   missed            == a line of another form as the code holds it
---   fitted ts text    == the same as the code holds it: the numbers cut, unused places 0
-use Rattle.std.specs.Prelude.{Bool, true, false, cond, List, [], ◌∷◌, ◌++◌, map, ℕ, ◌+◌, eqb, length, get_or, drop, replicate}
+--   fitted ts text    == the numbers found as the code holds them: cut, unused places 0
+use Rattle.std.specs.Prelude.{Bool, false, cond, List, [], ◌∷◌, ◌++◌, map, ℕ, ◌+◌, eqb, length, get_or, drop, replicate, Option, Some, None}
 use Rattle.std.proofs.lemmas.List.Edits.{sets}
-use Rattle.text.specs.Number.{digits, value, is_number, decimal, cut, number_at}
-use Rattle.text.specs.declared.Fit.{Fit}
-use Rattle.text.specs.declared.Number.{Number}
-use Rattle.text.specs.declared.Number.TheVariants.{At, Missing}
+use Rattle.text.specs.Number.{digits, value, is_number, decimal, cut, number_at, run}
+use Rattle.text.specs.declared.Run.{Run}
 
 abbrev pub HOLE : ℕ
 HOLE = 0x23
@@ -47,16 +44,13 @@ found (t ∷ ts) text =
     (cond (is_number (digits text)) (also (value 0 (digits text)) (found ts (drop (length (digits text)) text))) miss)
     (cond (begins t text) (found ts (drop 1 text)) miss)
 
-unfoldable pub step_at : ℕ → List ℕ → ℕ → Number
-step_at t text at = cond (eqb t HOLE) (number_at text at) (cond (begins t (drop at text)) (At 0 (at + 1)) Missing)
-
-abbrev pub missed : Fit
-missed = record { fits = false; numbers = replicate NUMBERS 0 }
+unfoldable pub step_at : ℕ → List ℕ → ℕ → Option Run
+step_at t text at = cond (eqb t HOLE) (number_at text at) (cond (begins t (drop at text)) (Some (run 0 (at + 1))) None)
 
 -- numbers put into places from the n-th on
-abbrev pub fit_from : ℕ → List ℕ → Hit → Fit
-fit_from n places (hit ns) = record { fits = true; numbers = sets places n (map cut ns) }
-fit_from n places miss = missed
+abbrev pub fit_from : ℕ → List ℕ → Hit → Option (List ℕ)
+fit_from n places (hit ns) = Some (sets places n (map cut ns))
+fit_from n places miss = None
 
-unfoldable pub fitted : List ℕ → List ℕ → Fit
+unfoldable pub fitted : List ℕ → List ℕ → Option (List ℕ)
 fitted ts text = fit_from 0 (replicate NUMBERS 0) (found ts text)

@@ -28,17 +28,3 @@ pub struct Run {
     pub value: u32,
     pub end: usize,
 }
-
-// The number at a place, or that none stands there.
-#[derive(Clone, Copy)]
-pub enum Number {
-    At { value: u32, end: usize },
-    Missing,
-}
-
-// Whether a line is of a form, and its numbers; unused places are 0.
-#[derive(Clone, Copy)]
-pub struct Fit {
-    pub fits: bool,
-    pub numbers: [u32; 4],
-}

@@ -6,7 +6,7 @@
 --   lost-iff    == of a well formed trace: no core is lost exactly where each lower thread appears
 use mathlib.Core.Path.{◌≡◌, refl, sym, ap, ◌∙◌}
 use mathlib.Core.Logic.{◌↔◌, inl, inr}
-use mathlib.Core.Bool.{Bool, true, false, not, ◌&&◌, So, false≢true}
+use mathlib.Core.Bool.{Bool, true, false, ◌&&◌, So, false≢true}
 use Prim.Native.Nat.{ℕ, ◌+◌, ◌<◌, ◌≤◌}
 use native.Mathlib.Omega.{arith}
 use native.Mathlib.Numerals.{add-one}

@@ -17,7 +17,6 @@ use lib.Bits.{bit_or}
 use lib.Dec.{eqb}
 use lib.ListN.{length, get_or, replicate, length-set}
 use lib.Seq.{get_or-set_same, get_or-set_other}
-use Rattle.laws.specs.Bits.{bit_of}
 use Rattle.laws.proofs.Bits.{bit_of-or, bit_of-power}
 use Rattle.laws.proofs.Tests.{off, eq?}
 use Rattle.trace.specs.Bounds.{ADDRESSES}

@@ -21,7 +21,7 @@ pub const FIRSTS: usize = 16;
 pub const VALUES: u32 = 65536;
 
 // One recorded step of a core, carrying only its own numbers.
-#[derive(Clone, Copy)]
+#[derive(Clone, Copy, PartialEq, Eq)]
 pub enum Op {
     Load {
         thread: u8,
@@ -132,15 +132,14 @@ impl Op {
 }
 
 // One place of a trace. It stands around its operation because arrays hold structs.
-#[derive(Clone, Copy)]
+#[derive(Clone, Copy, PartialEq, Eq)]
 pub struct Record {
     pub op: Op,
 }
 
 // What is wrong with one record more, by document 01's numbers 4, 6, 7 and 8, in order.
-#[derive(Clone, Copy)]
+#[derive(Clone, Copy, PartialEq, Eq)]
 pub enum Fault {
-    Nothing,
     PastBound,
     FirstValue,
     TooMany,
@@ -149,7 +148,8 @@ pub enum Fault {
 
 // The first len places are used; the others hold a fence of thread 0, so that equal traces are equal throughout. Beside them, the value that each
 // address begins with.
-#[derive(Clone, Copy)]
+// An array and its length: the project has no heap, and its memory is fixed.
+#[derive(Clone, Copy, PartialEq, Eq)]
 pub struct Trace {
     pub records: [Record; RECORDS],
     pub len: usize,

@@ -7,7 +7,7 @@ use packed::{Answer, number};
 use report::render::{RENDER, render};
 use saying::args::arg_count;
 use saying::input::fill;
-use saying::{fail, front, refuse_at, tell};
+use saying::{fail, front, refuse_at};
 use std::io;
 use std::io::{Stderr, Stdin, Stdout};
 use trace::Trace;
@@ -18,10 +18,7 @@ const ROOM: usize = 525054;
 
 // Prints the first n bytes of a text.
 fn show(stdout: Stdout, stderr: Stderr, text: &[u8], n: usize) -> io::Result<()> {
-    match front(&stdout, text, n) {
-        Ok(()) => Ok(()),
-        Err(why) => fail(stderr, b"unpack: standard output", why),
-    }
+    front(&stdout, text, n).or_else(|why| fail(stderr, b"unpack: standard output", why))
 }
 
 // Prints the text of a trace.
@@ -34,8 +31,7 @@ fn print(stdout: Stdout, stderr: Stderr, t: Trace) -> io::Result<()> {
 // Prints the text of a file's trace, or why there is none.
 fn answer(stdout: Stdout, stderr: Stderr, file: &[u8]) -> io::Result<()> {
     let reading = read_whole(file);
-    let answer = reading.answer;
-    match answer {
+    match reading.answer {
         Answer::Good => print(stdout, stderr, reading.trace),
         Answer::Refused { reason, line } => refuse_at(stderr, number(reason), b" line ", line),
     }
@@ -43,26 +39,21 @@ fn answer(stdout: Stdout, stderr: Stderr, file: &[u8]) -> io::Result<()> {
 
 // Reads the file into lent memory and unpacks it. Where a read failed nothing is told: half a file is none.
 fn unpack_in(mut stdin: Stdin, stdout: Stdout, stderr: Stderr, file: &mut [u8]) -> io::Result<()> {
-    let got = fill(&mut stdin, file);
-    let n = got.count;
-    match got.whole {
-        Ok(()) => answer(stdout, stderr, &file[..n]),
+    match fill(&mut stdin, file) {
+        Ok(n) => answer(stdout, stderr, &file[..n]),
         Err(why) => fail(stderr, b"unpack: standard input", why),
     }
 }
 
 // The same with memory for it.
 fn unpack(stdin: Stdin, stdout: Stdout, stderr: Stderr) -> io::Result<()> {
-    let mut file: [u8; ROOM] = [0; 525054];
+    let mut file = [0u8; ROOM];
     unpack_in(stdin, stdout, stderr, &mut file)
 }
 
 fn main(rt: HostRuntime) -> io::Result<()> {
     if arg_count(&rt) > 1 {
-        tell(
-            rt.stderr(),
-            b"usage: unpack < FILE > TRACE (it takes no words)\n",
-        )
+        eprintln!(rt; "usage: unpack < FILE > TRACE (it takes no words)")
     } else {
         unpack(rt.stdin(), rt.stdout(), rt.stderr())
     }

@@ -38,8 +38,8 @@ use Rattle.circle.specs.declared.show.Circle as ring
 use Rattle.circle.proofs.ShownIn.{zeros}
 use Rattle.rules.specs.Verdict as said
 use Rattle.pairs.specs.MissingOf.{record?, missing_of}
-use Rattle.pairs.specs.declared.sources.Found.{Found}
-use Rattle.pairs.specs.declared.sources.Found.TheVariants.{At, Nothing}
+use Rattle.pairs.specs.Found.{Found}
+use Rattle.std.specs.Prelude.{Some, None}
 use Rattle.pairs.proofs.MissingOf.{missing-lowest}
 use Rattle.rules.proofs.Says.{order-says}
 use Rattle.search.specs.FirstOrder.{found?, FirstOrderBy}
@@ -85,7 +85,7 @@ module _ (t : Trace) (K : Table) where
     pub told-says : (v : said.Verdict) → said.Says (frame_of t) K v → (r : Verdict) → r ≡ laid v → r.len ≤ RECORDS → ToldBy t K r
     told-says v s r e h = record { ten = λ n. absurd (false≢true (sym n ∙ w)); says = λ _. (v, s, e); fits = h }
 
-    pub told-source : (x : ℕ) → At x ≡ missing_of t → ToldBy t K (bare (NoSource x))
+    pub told-source : (x : ℕ) → Some x ≡ missing_of t → ToldBy t K (bare (NoSource x))
     told-source x e = told-says (said.no_source x) (subst (λ (a : Found). Lowest (Missing (frame_of t)) (record? a)) (sym e) (missing-lowest t w)) (bare (NoSource x)) refl (omega arith)
 
 -- with a circle there is one to show
@@ -128,7 +128,7 @@ module _ (t : Trace) (K : Table) (o : first.Order) (q : FirstOrderBy t K o) wher
   pub orderless : o.found ≡ false → Orderless t K
   orderless e w = sought w false e
 
-module _ (t : Trace) (K : Table) (w : So (well_formed t)) (lacks : missing_of t ≡ Nothing) where
+module _ (t : Trace) (K : Table) (w : So (well_formed t)) (lacks : missing_of t ≡ None) where
   -- no source is missing
   sourced : Sourced (frame_of t)
   sourced = subst (λ (a : Found). Lowest (Missing (frame_of t)) (record? a)) lacks (missing-lowest t w)

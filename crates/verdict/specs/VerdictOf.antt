@@ -9,7 +9,7 @@
 --   Orderless t K    == no list is a valid order of the trace with the kept pairs K, if that can be asked
 --   ToldBy t K r     == what `verdict_by` promises of any trace with any kept pairs K: 10, then the verdict that `Says` allows; its operations have places
 --   Told t m r       == what `verdict_of` promises of any trace under any model: 9 before 10, then the verdict that `Says` allows; its operations have places
-use Rattle.std.specs.Prelude.{◌≡◌, false, List, ℕ, ◌≤◌, ◌<◌, length, get_or, take, replicate}
+use Rattle.std.specs.Prelude.{◌≡◌, false, List, ℕ, ◌≤◌, ◌<◌, length, get_or, take, replicate, None}
 use Rattle.std.proofs.Math.Bool.{So}
 use Rattle.std.proofs.Math.Option.{Option, none, some}
 use Rattle.laws.specs.Relation.{Table}
@@ -21,7 +21,6 @@ use Rattle.trace.specs.WellFormed.{well_formed}
 use Rattle.trace.specs.declared.Trace.{Trace}
 use Rattle.pairs.specs.Kept.{modelled, kept_of}
 use Rattle.pairs.specs.MissingOf.{missing_of}
-use Rattle.pairs.specs.declared.sources.Found.TheVariants.{Nothing}
 use Rattle.rules.specs.Verdict as said
 use Rattle.verdict.specs.declared.Outcome.{Outcome}
 use Rattle.verdict.specs.declared.Outcome.TheVariants.{NoSource, Circle, Order, NoneLeft, NoModel, NotWellFormed}
@@ -61,7 +60,7 @@ ordered r = ordered_as r.outcome (take r.len r.operations)
 pub record Reaches (t : Trace) (m : ℕ) : Type 0 where
   pub model : So (modelled m)
   pub well : So (well_formed t)
-  pub sourced : missing_of t ≡ Nothing
+  pub sourced : missing_of t ≡ None
 
 abbrev pub Orderless : Trace → Table → Type 0
 Orderless t K = So (well_formed t) → (xs : List ℕ) → Valid (frame_of t) K xs → ⊥

@@ -17,6 +17,7 @@ pub enum Outcome {
 }
 
 // The outcome with its operations: those of the circle or of the order, and for a circle the rule of each edge. Unused places are 0.
+// An array and its length: the project has no heap, and its memory is fixed.
 #[derive(Clone, Copy)]
 pub struct Verdict {
     pub outcome: Outcome,

@@ -3,8 +3,8 @@
 #![tactic(auto)]
 
 use saying::args::arg_count;
+use saying::fail;
 use saying::input::fill;
-use saying::{fail, tell};
 use std::io;
 use std::io::{Stderr, Stdin, Stdout};
 
@@ -15,29 +15,23 @@ const ROOM: usize = 32769;
 fn answer(stdout: Stdout, stderr: Stderr, text: &[u8]) -> io::Result<()> {
     let mut out = [0u8; report::REPORT];
     let n = report::report(text, &mut out);
-    match stdout.write_all(&out[..n]) {
-        Ok(()) => Ok(()),
-        Err(why) => fail(stderr, b"wheelotter: standard output", why),
-    }
+    stdout
+        .write_all(&out[..n])
+        .or_else(|why| fail(stderr, b"wheelotter: standard output", why))
 }
 
 // Reads the text and answers it. Where a read failed nothing is judged: half a trace may be good where the whole one is not.
 fn judge(mut stdin: Stdin, stdout: Stdout, stderr: Stderr) -> io::Result<()> {
-    let mut text: [u8; ROOM] = [0; 32769];
-    let got = fill(&mut stdin, &mut text);
-    let n = got.count;
-    match got.whole {
-        Ok(()) => answer(stdout, stderr, &text[..n]),
+    let mut text = [0u8; ROOM];
+    match fill(&mut stdin, &mut text) {
+        Ok(n) => answer(stdout, stderr, &text[..n]),
         Err(why) => fail(stderr, b"wheelotter: standard input", why),
     }
 }
 
 fn main(rt: HostRuntime) -> io::Result<()> {
     if arg_count(&rt) > 1 {
-        tell(
-            rt.stderr(),
-            b"usage: wheelotter < TRACE (it takes no words)\n",
-        )
+        eprintln!(rt; "usage: wheelotter < TRACE (it takes no words)")
     } else {
         judge(rt.stdin(), rt.stdout(), rt.stderr())
     }

@@ -10,7 +10,7 @@ use reader::LOST;
 use reader::turns::number;
 use saying::args::{arg, arg_count};
 use saying::input::fill;
-use saying::{fail, refuse, refuse_at, say, say_number, say_u16, tell};
+use saying::{fail, refuse, refuse_at};
 use signature::packing::{loads_of, pack, words_in, words_of};
 use signature::unpacking::unpack;
 use std::env::Env;
@@ -23,118 +23,76 @@ const ROOM: usize = 65537;
 
 // Prints words with spaces between, and ends the line.
 fn print_line(stdout: Stdout, words: &[u64]) -> io::Result<()> {
-    let mut i: usize = 0;
-    while i < words.len() {
+    for (i, word) in words.iter().enumerate() {
         if 0 < i {
-            say(stdout, b" ")?;
+            print!(stdout; " ")?;
         }
-        say_number(stdout, b"", words[i])?;
-        i += 1;
+        print!(stdout; "{word}")?;
     }
-    say(stdout, b"\n")
+    println!(stdout; "")
 }
 
 // Prints the words of each thread, a line each.
 fn print_threads(stdout: Stdout, t: Trace, words: &[u64]) -> io::Result<()> {
-    let mut at: usize = 0;
-    let mut core: u8 = 0;
-    while core < THREADS {
-        let count = words_in(t, core);
-        if count <= words.len() - at {
-            let end = at + count;
-            print_line(stdout, &words[at..end])?;
-            at = end;
+    let mut rest = words;
+    for core in 0..THREADS {
+        if let Some((line, others)) = rest.split_at_checked(words_in(t, core)) {
+            print_line(stdout, line)?;
+            rest = others;
         }
-        core += 1;
     }
     Ok(())
 }
 
 // Prints reads, a line each.
 fn print_reads(stdout: Stdout, reads: &[u16]) -> io::Result<()> {
-    let mut i: usize = 0;
-    while i < reads.len() {
-        say_u16(stdout, b"", reads[i])?;
-        say(stdout, b"\n")?;
-        i += 1;
+    for read in reads {
+        println!(stdout; "{read}")?;
     }
     Ok(())
 }
 
 // Tells why nothing is printed.
-fn refused(stderr: Stderr, answer: signature::Answer) -> io::Result<()> {
-    match answer {
-        signature::Answer::Done => Ok(()),
-        signature::Answer::NotWellFormed => refuse(stderr, 10),
-        signature::Answer::WrongLength => refuse(stderr, 26),
-        signature::Answer::NotListed(load) => refuse_at(stderr, 23, b" record ", load),
-        signature::Answer::TooLarge(word) => refuse_at(stderr, 24, b" word ", word),
+fn refused(stderr: Stderr, reason: signature::Reason) -> io::Result<()> {
+    match reason {
+        signature::Reason::NotWellFormed => refuse(stderr, 10),
+        signature::Reason::WrongLength => refuse(stderr, 26),
+        signature::Reason::NotListed(load) => refuse_at(stderr, 23, b" record ", load),
+        signature::Reason::TooLarge(word) => refuse_at(stderr, 24, b" word ", word),
     }
 }
 
-fn done(answer: signature::Answer) -> bool {
-    match answer {
-        signature::Answer::Done => true,
-        signature::Answer::NotWellFormed => false,
-        signature::Answer::WrongLength => false,
-        signature::Answer::NotListed(_) => false,
-        signature::Answer::TooLarge(_) => false,
-    }
-}
-
-// The words of a trace's reads, in lent memory of their number.
-fn forth_into(stdout: Stdout, stderr: Stderr, t: Trace, words: &mut [u64]) -> io::Result<()> {
-    let answer = pack(t, words);
-    if done(answer) {
-        return print_threads(stdout, t, words);
-    }
-    refused(stderr, answer)
-}
-
-// The same with memory for them.
+// The words of a trace's reads.
 fn forth(stdout: Stdout, stderr: Stderr, t: Trace) -> io::Result<()> {
-    let n = words_of(t);
-    if RECORDS < n {
+    let mut room = [0u64; RECORDS];
+    let Some(words) = room.get_mut(..words_of(t)) else {
         return Ok(());
+    };
+    match pack(t, words) {
+        Ok(()) => print_threads(stdout, t, words),
+        Err(reason) => refused(stderr, reason),
     }
-    let mut words = [0u64; RECORDS];
-    forth_into(stdout, stderr, t, &mut words[..n])
 }
 
-// The reads that words stand for, in lent memory of their number.
-fn back_into(
-    stdout: Stdout,
-    stderr: Stderr,
-    t: Trace,
-    words: &[u64],
-    reads: &mut [u16],
-) -> io::Result<()> {
-    let answer = unpack(t, words, reads);
-    if done(answer) {
-        return print_reads(stdout, reads);
-    }
-    refused(stderr, answer)
-}
-
-// The same with memory for them.
+// The reads that words stand for.
 fn back(stdout: Stdout, stderr: Stderr, t: Trace, words: &[u64]) -> io::Result<()> {
-    let n = loads_of(t);
-    if RECORDS < n {
+    let mut room = [0u16; RECORDS];
+    let Some(reads) = room.get_mut(..loads_of(t)) else {
         return Ok(());
+    };
+    match unpack(t, words, reads) {
+        Ok(()) => print_reads(stdout, reads),
+        Err(reason) => refused(stderr, reason),
     }
-    let mut reads = [0u16; RECORDS];
-    back_into(stdout, stderr, t, words, &mut reads[..n])
 }
 
 // The same where the words are still to be read.
 fn back_listed(stdout: Stdout, stderr: Stderr, t: Trace, bytes: &[u8]) -> io::Result<()> {
     let mut list = [0u64; 257];
-    let listed = numbers(bytes, &mut list);
-    let count = listed.count;
-    if listed.good {
-        return back(stdout, stderr, t, &list[..count]);
+    match numbers(bytes, &mut list) {
+        Some(count) => back(stdout, stderr, t, &list[..count]),
+        None => eprintln!(stderr; "no list of words"),
     }
-    tell(stderr, b"no list of words\n")
 }
 
 // What a text and the words behind it come to, with words or back.
@@ -146,8 +104,7 @@ fn answered(
     backwards: bool,
 ) -> io::Result<()> {
     let reading = reader::read_whole(text);
-    let answer = reading.answer;
-    match answer {
+    match reading.answer {
         reader::Answer::Good => {
             if backwards {
                 back_listed(stdout, stderr, reading.trace, bytes)
@@ -167,25 +124,25 @@ fn answered(
 
 // What an input comes to: all of it is the text, or backwards what stands before the first empty line.
 fn split(stdout: Stdout, stderr: Stderr, input: &[u8], backwards: bool) -> io::Result<()> {
-    let n = input.len();
     if !backwards {
         return answered(stdout, stderr, input, b"", false);
     }
-    let end = empty_line(input);
-    answered(stdout, stderr, &input[..end], &input[end..n], true)
+    let (text, bytes) = input.split_at(empty_line(input));
+    answered(stdout, stderr, text, bytes, true)
 }
 
 // Reads the input and answers it. Where a read failed nothing is told: half a text is another one.
 fn watch(mut stdin: Stdin, stdout: Stdout, stderr: Stderr, backwards: bool) -> io::Result<()> {
-    let mut buffer: [u8; ROOM] = [0; 65537];
-    let got = fill(&mut stdin, &mut buffer);
-    let n = got.count;
-    if let Err(why) = got.whole {
-        return fail(stderr, b"words: standard input", why);
-    }
-    match split(stdout, stderr, &buffer[..n], backwards) {
-        Ok(()) => Ok(()),
-        Err(why) => fail(stderr, b"words: standard output", why),
+    let mut buffer = [0u8; ROOM];
+    match fill(&mut stdin, &mut buffer) {
+        Ok(n) => {
+            split(stdout, stderr, &buffer[..n], backwards).or_else(|why| fail(
+                stderr,
+                b"words: standard output",
+                why,
+            ))
+        }
+        Err(why) => fail(stderr, b"words: standard input", why),
     }
 }
 
@@ -193,19 +150,13 @@ fn watch(mut stdin: Stdin, stdout: Stdout, stderr: Stderr, backwards: bool) -> i
 fn asked_back(rt: &impl Env) -> bool {
     let mut word = [0u8; 5];
     let n = arg(rt, 1, &mut word);
-    (n == 4) & (word[0] == b'b') & (word[1] == b'a') & (word[2] == b'c') & (word[3] == b'k')
+    &word[..n] == b"back".as_slice()
 }
 
 fn main(rt: HostRuntime) -> io::Result<()> {
-    let count = arg_count(&rt);
-    if count == 1 {
-        watch(rt.stdin(), rt.stdout(), rt.stderr(), false)
-    } else if (count == 2) & asked_back(&rt) {
-        watch(rt.stdin(), rt.stdout(), rt.stderr(), true)
-    } else {
-        tell(
-            rt.stderr(),
-            b"usage: words < TRACE, or words back < TRACE, an empty line and words\n",
-        )
+    match arg_count(&rt) {
+        1 => watch(rt.stdin(), rt.stdout(), rt.stderr(), false),
+        2 if asked_back(&rt) => watch(rt.stdin(), rt.stdout(), rt.stderr(), true),
+        _ => eprintln!(rt; "usage: words < TRACE, or words back < TRACE, an empty line and words"),
     }
 }

@@ -15,6 +15,7 @@ use ruling::lowest_rule_by;
 use trace::{RECORDS, Trace};
 
 // The circle that is shown: the first len operations, each with the rule of the edge that leads on from it. Unused places are 0.
+// An array and its length: the project has no heap, and its memory is fixed.
 #[derive(Clone, Copy)]
 pub struct Circle {
     pub len: usize,
@@ -45,11 +46,9 @@ fn name_rules(
     requires { (len ≤ length operations.now) × (len ≤ length rules.old) }
     ensures { RulesNamed (frame_of t) (lent_of t kept.now) (bit chains.now) (take len operations.now) len rules.old rules.new }
 {
-    let mut i: usize = 0;
-    while i < len {
+    for i in 0..len {
         let x = operations[i] as usize;
         rules[i] = lowest_rule_by(t, kept, chains, x, next_of(operations, len, i));
-        i += 1;
     }
 }
 
@@ -63,13 +62,10 @@ pub fn circle_by(t: Trace, kept: &[u64]) -> Circle
     let supposed = [0u64; rows::CELLS];
     let last = last_round_by(t, kept, &supposed);
     if last.circle {
-        let edges = last.edges;
-        let chains = last.chains;
-        let before = last.before;
         let mut ring = [0u64; rows::CELLS];
-        lay_ring(&edges, &chains, &mut ring);
+        lay_ring(&last.edges, &last.chains, &mut ring);
         let len = shown(&ring, &mut operations);
-        name_rules(t, kept, &before, len, &operations, &mut rules);
+        name_rules(t, kept, &last.before, len, &operations, &mut rules);
         return Circle {
             len,
             operations,

@@ -35,10 +35,8 @@ fn off_circles(chains: &[u64]) -> [u64; rows::WORDS]
     ensures { Others chains.now result }
 {
     let mut others = [0u64; rows::WORDS];
-    let mut x: usize = 0;
-    while x < trace::RECORDS {
+    for x in 0..trace::RECORDS {
         rows::put_if(&mut others, !rows::test(chains, x, x), 0, x);
-        x += 1;
     }
     others
 }
@@ -50,13 +48,11 @@ pub(crate) fn lay_ring(edges: &[u64], chains: &[u64], ring: &mut [u64])
 {
     let others = off_circles(chains);
     rows::clear(ring);
-    let mut x: usize = 0;
-    while x < trace::RECORDS {
+    for x in 0..trace::RECORDS {
         if rows::test(chains, x, x) {
             add_row(edges, x, ring, x);
             rows::drop_row(&others, 0, ring, x);
         }
-        x += 1;
     }
 }
 
@@ -66,10 +62,8 @@ fn further(edges: &[u64], walks: &[u64], next: &mut [u64])
     ensures { Exactly next.new (StepThen (Edges edges.now) (Edges walks.now)) }
 {
     rows::clear(next);
-    let mut x: usize = 0;
-    while x < trace::RECORDS {
+    for x in 0..trace::RECORDS {
         add_rows(edges, walks, next, x);
-        x += 1;
     }
 }
 
@@ -80,14 +74,12 @@ fn least(edges: &[u64], walks: &mut [u64], next: &mut [u64]) -> usize
     ensures { LeastWalk (Edges edges.now) result walks.new }
 {
     rows::copy(edges, walks);
-    let mut k: usize = 1;
-    while k <= trace::RECORDS {
+    for k in 1..=trace::RECORDS {
         if rows::reflexive(walks) {
             return k;
         }
         further(edges, walks, next);
         rows::copy(next, walks);
-        k += 1;
     }
     0
 }
@@ -96,14 +88,12 @@ fn least(edges: &[u64], walks: &mut [u64], next: &mut [u64]) -> usize
 fn closed_at(walks: &[u64]) -> usize
     ensures { LowestBelow RECORDS (λ x. Edges walks.now x x) result }
 {
-    let mut s: usize = 0;
-    while s < trace::RECORDS {
+    for s in 0..trace::RECORDS {
         if rows::test(walks, s, s) {
             return s;
         }
-        s += 1;
     }
-    s
+    trace::RECORDS
 }
 
 // The lowest number that x has an edge to and that row j has; RECORDS where there is none.
@@ -125,12 +115,10 @@ fn back(edges: &[u64], reach: &mut [u64], j: usize)
     requires { (j + 1 < RECORDS) × (length reach.old ≡ CELLS) }
     ensures { Widened reach.old (StepBack (Edges edges.now) (Edges reach.old) j) reach.new }
 {
-    let mut x: usize = 0;
-    while x < trace::RECORDS {
+    for x in 0..trace::RECORDS {
         if rows::meets(edges, x, reach, j) {
             rows::put(reach, j + 1, x);
         }
-        x += 1;
     }
 }
 
@@ -141,10 +129,8 @@ fn reach(edges: &[u64], s: usize, k: usize, rows: &mut [u64])
 {
     rows::clear(rows);
     rows::put(rows, 0, s);
-    let mut j: usize = 0;
-    while j + 1 < k {
+    for j in 0..k - 1 {
         back(edges, rows, j);
-        j += 1;
     }
 }
 
@@ -155,11 +141,9 @@ fn follow(edges: &[u64], reach: &[u64], s: usize, k: usize, out: &mut [u16])
 {
     out[0] = s as u16;
     let mut x = s;
-    let mut i: usize = 1;
-    while i < k {
+    for i in 1..k {
         x = step_to(edges, reach, x, k - i);
         out[i] = x as u16;
-        i += 1;
     }
 }
 
@@ -167,11 +151,7 @@ fn follow(edges: &[u64], reach: &[u64], s: usize, k: usize, out: &mut [u16])
 fn wipe(out: &mut [u16])
     ensures { out.new ≡ replicate (length out.old) 0 }
 {
-    let mut i: usize = 0;
-    while i < out.len() {
-        out[i] = 0;
-        i += 1;
-    }
+    out.fill(0);
 }
 
 // The circle that is shown of these edges, laid into `out`, and its length: 0 where there is none. Rows that are not of the full length
@@ -180,10 +160,7 @@ pub fn shown(edges: &[u64], out: &mut [u16]) -> usize
     ensures { ShownIn edges.now (length out.old) result out.new }
 {
     wipe(out);
-    if edges.len() != rows::CELLS {
-        return 0;
-    }
-    if out.len() != trace::RECORDS {
+    if edges.len() != rows::CELLS || out.len() != trace::RECORDS {
         return 0;
     }
     let mut walks = [0u64; rows::CELLS];

@@ -109,7 +109,6 @@ pub fn plain_search(t: Trace, model: u8, limit: u64) -> Counted
             len: total,
             operations: list,
         },
-        Walked::End(_) => bare(walked),
-        Walked::Over => bare(walked),
+        Walked::End(_) | Walked::Over => bare(walked),
     }
 }

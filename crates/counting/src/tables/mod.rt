@@ -27,11 +27,9 @@ pub(crate) fn lay_sets(
     rows::clear(reads);
     rows::clear(served);
     let n = t.len;
-    let mut total: usize = 0;
-    let mut x: usize = 0;
-    while x < n {
-        let record = t.records[x];
-        let op = record.op;
+    let mut total = 0;
+    for x in 0..n {
+        let op = t.records[x].op;
         let begins = first(t, op.address());
         rows::put_if(operations, !op.fence(), 0, x);
         rows::put_if(reads, op.reads(), 0, x);
@@ -39,7 +37,6 @@ pub(crate) fn lay_sets(
         if !op.fence() {
             total += 1;
         }
-        x += 1;
     }
     total
 }
@@ -50,17 +47,13 @@ fn lay_partners(t: Trace, model: u8, x: usize, partners: &mut [u64])
     ensures { Added partners.old (Union t.len (λ y. Only (kept_of model t x y) y x)) partners.new }
 {
     let n = t.len;
-    let record = t.records[x];
-    let a = record.op;
+    let a = t.records[x].op;
     let mut passed = false;
-    let mut y: usize = 0;
-    while y < n {
-        let record = t.records[y];
-        let b = record.op;
+    for y in 0..n {
+        let b = t.records[y].op;
         let kept = kept_pair(model, a, b, (x < y) & (y < n), passed);
         rows::put_if(partners, kept, y, x);
         passed = passed | (b.fence() & (x < y) & (b.thread() == a.thread()));
-        y += 1;
     }
 }
 
@@ -81,12 +74,9 @@ fn lay_writer(
     ensures rival { Added rivals.old (Union t.len (λ y. Only (writer? (frame_of t) x y) x y)) rivals.new }
 {
     let n = t.len;
-    let record = t.records[x];
-    let a = record.op;
-    let mut y: usize = 0;
-    while y < n {
-        let record = t.records[y];
-        let b = record.op;
+    let a = t.records[x].op;
+    for y in 0..n {
+        let b = t.records[y].op;
         let writer = writer_by(n, a, x, b, y);
         let earlier = earlier_by(a, x, b, y);
         let read = rows::test(reads, 0, y) & (b.read() == a.written());
@@ -94,7 +84,6 @@ fn lay_writer(
         rows::put_if(own, writer & earlier, y, x);
         rows::put_if(fed, source, x, y);
         rows::put_if(rivals, writer, x, y);
-        y += 1;
     }
 }
 
@@ -117,10 +106,8 @@ pub(crate) fn lay(
     rows::clear(fed);
     rows::clear(rivals);
     let n = t.len;
-    let mut x: usize = 0;
-    while x < n {
+    for x in 0..n {
         lay_partners(t, model, x, partners);
         lay_writer(t, reads, served, x, own, fed, rivals);
-        x += 1;
     }
 }

@@ -24,12 +24,10 @@ fn last_waiting(n: usize, own: &[u64], placed: &[u64], c: usize) -> usize
     ensures { result ≡ last_waiting n own.now placed.now c }
 {
     let mut last = RECORDS;
-    let mut s: usize = 0;
-    while s < n {
+    for s in 0..n {
         if rows::test(own, c, s) & !rows::test(placed, 0, s) {
             last = s;
         }
-        s += 1;
     }
     last
 }
@@ -61,19 +59,10 @@ fn next(
     requires { n ≤ RECORDS }
     ensures { So result ↔ Nexts n operations.now reads.now partners.now own.now fed.now placed.now served.now c }
 {
-    if !rows::test(operations, 0, c) {
-        return false;
-    }
-    if rows::test(placed, 0, c) {
-        return false;
-    }
-    if !rows::within(partners, c, placed, 0) {
-        return false;
-    }
-    if !rows::test(reads, 0, c) {
-        return true;
-    }
-    right(n, own, fed, placed, served, c)
+    rows::test(operations, 0, c)
+        && !rows::test(placed, 0, c)
+        && rows::within(partners, c, placed, 0)
+        && (!rows::test(reads, 0, c) || right(n, own, fed, placed, served, c))
 }
 
 // Makes `next` the set with y in it.
@@ -100,11 +89,9 @@ fn serve(fed: &[u64], rivals: &[u64], placed: &[u64], served: &[u64], y: usize, 
 fn mix(seed: u64, set: &[u64]) -> u64
     ensures { result < LISTS }
 {
-    let mut fold: u64 = seed % (SLOTS as u64);
-    let mut i: usize = 0;
-    while i < set.len() {
-        fold = (fold % (SLOTS as u64)) * 31 + set[i] % (SLOTS as u64);
-        i += 1;
+    let mut fold = seed % (SLOTS as u64);
+    for x in set {
+        fold = (fold % (SLOTS as u64)) * 31 + *x % (SLOTS as u64);
     }
     fold % (SLOTS as u64)
 }
@@ -166,12 +153,11 @@ pub(crate) fn count(
         return Walked::Order(0);
     }
     let h = mix(mix(0, placed), served) as usize;
-    if (0 < k) & same_at(sets, h, placed) & same_at(serves, h, served) {
+    if 0 < k && same_at(sets, h, placed) && same_at(serves, h, served) {
         return recalled(counts[h], left);
     }
     let mut used: u64 = 0;
-    let mut y: usize = 0;
-    while y < n {
+    for y in 0..n {
         if next(n, operations, reads, partners, own, fed, placed, served, y) {
             if used == left {
                 return Walked::Over;
@@ -211,7 +197,6 @@ pub(crate) fn count(
                 }
             }
         }
-        y += 1;
     }
     put_at(sets, h, placed);
     put_at(serves, h, served);

@@ -38,11 +38,8 @@ fn heading(answer: Answer, left: usize) -> usize
     ensures { result ≡ heading answer left }
 {
     match answer {
-        Answer::NoModel => left,
-        Answer::NotWellFormed => left,
         Answer::NoSource(x) => x,
-        Answer::NothingWrong => left,
-        Answer::Cut => left,
+        _ => left,
     }
 }
 
@@ -81,8 +78,7 @@ pub fn wheelotter_smaller(text: &[u8], model: u8, out: &mut [u8]) -> u8
     ensures { CutAnswered text.now model out.old out.new result }
 {
     let reading = read_whole(text);
-    let answer = reading.answer;
-    let wrong = number_in(answer);
+    let wrong = number_in(reading.answer);
     if 0 < wrong {
         return wrong;
     }

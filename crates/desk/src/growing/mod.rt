@@ -13,8 +13,8 @@ use crate::answers::NO_ROOM;
 use crate::runs::PLACE;
 use crate::sessions::{UNLIKE, code, kept, placed};
 use crate::verdicts::put_wide;
+use packed::RECORD;
 use packed::entries::op_in;
-use packed::{Entry, RECORD};
 use session::calls::{add, waiting};
 use session::{Answer, Session};
 use trace::Op;
@@ -28,8 +28,7 @@ fn taken(s: Session, op: Op, session: &mut [u8]) -> u8
     ensures { (C : Closings) → (result ≡ code_of (add_of C s op).answer) × (session.new ≡ cond (eqb (code_of (add_of C s op).answer) 0) (put_at (session_bytes (add_of C s op).session) session.old 0) session.old) }
 {
     let reply = add(s, op);
-    let answer = reply.answer;
-    let number = code(answer);
+    let number = code(reply.answer);
     if number != 0 {
         return number;
     }
@@ -58,8 +57,8 @@ pub fn wheelotter_add(
         return UNLIKE;
     }
     match op_in(kind, thread, addr, 0, read, written) {
-        Entry::Of(op) => taken(found.session, op, session),
-        Entry::Nothing => NO_ENTRY,
+        Some(op) => taken(found.session, op, session),
+        None => NO_ENTRY,
     }
 }
 
@@ -68,12 +67,8 @@ fn record_in(a: Answer) -> usize
     ensures { result ≡ record_in a }
 {
     match a {
-        Answer::Done => 0,
-        Answer::Held => 0,
-        Answer::NotHeld => 0,
-        Answer::Contradicted => 0,
         Answer::Waits(x) => x,
-        Answer::Refused(_) => 0,
+        _ => 0,
     }
 }
 

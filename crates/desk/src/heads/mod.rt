@@ -88,10 +88,8 @@ fn lay_front(s: Session, out: &mut [u8])
     requires { Fit s × (FRONT ≤ length out.old) }
     ensures { out.new ≡ row (front_at s) 0 FRONT ++ drop FRONT out.old }
 {
-    let mut i: usize = 0;
-    while i < FRONT {
+    for i in 0..FRONT {
         out[i] = front(s, i);
-        i += 1;
     }
 }
 
@@ -109,10 +107,8 @@ fn lay_table(held: &[u64], out: &mut [u8])
     requires { (CELLS ≤ length held.now) × (TABLE ≤ length out.old) }
     ensures { out.new ≡ row (table_at held.now) 0 TABLE ++ drop TABLE out.old }
 {
-    let mut i: usize = 0;
-    while i < TABLE {
+    for i in 0..TABLE {
         out[i] = byte(held[i / 8], i % 8);
-        i += 1;
     }
 }
 
@@ -145,13 +141,11 @@ pub(crate) fn stack_in(bytes: &[u8]) -> Stack
         first: 0,
         second: 0,
     }; PAIRS];
-    let mut i: usize = 0;
-    while i < PAIRS {
+    for i in 0..PAIRS {
         pairs[i] = Pair {
             first: two(bytes, 2 + 4 * i),
             second: two(bytes, 4 + 4 * i),
         };
-        i += 1;
     }
     let count = wide(bytes[1]);
     Stack { pairs, count }
@@ -161,17 +155,7 @@ pub(crate) fn stack_in(bytes: &[u8]) -> Stack
 fn same(a: &[u8], b: &[u8]) -> bool
     ensures { So result ↔ (a.now ≡ b.now) }
 {
-    if a.len() != b.len() {
-        return false;
-    }
-    let mut i: usize = 0;
-    while i < a.len() {
-        if a[i] != b[i] {
-            return false;
-        }
-        i += 1;
-    }
-    true
+    a == b
 }
 
 // Whether bytes begin with the head of a session.

@@ -5,7 +5,7 @@ ghost use Rattle.desk.specs.JudgeCall.{judgement_number, concerns, second, Judge
 use crate::answers::{BAD_NUMBER, NO_ROOM, OUT_OF_TURN, REPEAT, VALID, WRONG_LENGTH, WRONG_VALUE};
 use crate::texts::number_in;
 use crate::verdicts::put_wide;
-use judge::judging::{Judgement, judge};
+use judge::judging::{Broken, judge};
 use pairs::modelled;
 use reader::read_whole;
 
@@ -13,50 +13,44 @@ use reader::read_whole;
 const JUDGEMENT: usize = 4;
 
 // The answer to a judgement.
-fn judgement_number(j: Judgement) -> u8
+fn judgement_number(j: Result<(), Broken>) -> u8
     ensures { result ≡ judgement_number j }
 {
     match j {
-        Judgement::Yes => VALID,
-        Judgement::NoModel => 9,
-        Judgement::NotWellFormed => 10,
-        Judgement::WrongLength => WRONG_LENGTH,
-        Judgement::BadNumber(_) => BAD_NUMBER,
-        Judgement::Repeat(_) => REPEAT,
-        Judgement::OutOfTurn(_, _) => OUT_OF_TURN,
-        Judgement::WrongValue(_) => WRONG_VALUE,
+        Ok(_) => VALID,
+        Err(Broken::NoModel) => 9,
+        Err(Broken::NotWellFormed) => 10,
+        Err(Broken::WrongLength) => WRONG_LENGTH,
+        Err(Broken::BadNumber(_)) => BAD_NUMBER,
+        Err(Broken::Repeat(_)) => REPEAT,
+        Err(Broken::OutOfTurn(_, _)) => OUT_OF_TURN,
+        Err(Broken::WrongValue(_)) => WRONG_VALUE,
     }
 }
 
 // The place or the record that comes with a judgement, of a pair the first.
-fn concerns(j: Judgement) -> usize
+fn concerns(j: Result<(), Broken>) -> usize
     ensures { result ≡ concerns j }
 {
     match j {
-        Judgement::BadNumber(i) => i,
-        Judgement::Repeat(x) => x,
-        Judgement::OutOfTurn(x, _) => x,
-        Judgement::WrongValue(x) => x,
-        Judgement::Yes => 0,
-        Judgement::NoModel => 0,
-        Judgement::NotWellFormed => 0,
-        Judgement::WrongLength => 0,
+        Err(Broken::BadNumber(i)) => i,
+        Err(Broken::Repeat(x)) => x,
+        Err(Broken::OutOfTurn(x, _)) => x,
+        Err(Broken::WrongValue(x)) => x,
+        Err(Broken::WrongLength) => 0,
+        Err(Broken::NotWellFormed) => 0,
+        Err(Broken::NoModel) => 0,
+        Ok(_) => 0,
     }
 }
 
 // The second record of a pair that is out of turn.
-fn second(j: Judgement) -> usize
+fn second(j: Result<(), Broken>) -> usize
     ensures { result ≡ second j }
 {
     match j {
-        Judgement::OutOfTurn(_, y) => y,
-        Judgement::BadNumber(_) => 0,
-        Judgement::Repeat(_) => 0,
-        Judgement::WrongValue(_) => 0,
-        Judgement::Yes => 0,
-        Judgement::NoModel => 0,
-        Judgement::NotWellFormed => 0,
-        Judgement::WrongLength => 0,
+        Err(Broken::OutOfTurn(_, y)) => y,
+        _ => 0,
     }
 }
 
@@ -66,8 +60,7 @@ pub fn wheelotter_judge(text: &[u8], model: u8, list: &[u16], out: &mut [u8]) ->
     ensures { Judged text.now model list.now out.old out.new result }
 {
     let reading = read_whole(text);
-    let answer = reading.answer;
-    let wrong = number_in(answer);
+    let wrong = number_in(reading.answer);
     if 0 < wrong {
         return wrong;
     }
@@ -77,8 +70,7 @@ pub fn wheelotter_judge(text: &[u8], model: u8, list: &[u16], out: &mut [u8]) ->
     if out.len() < JUDGEMENT {
         return NO_ROOM;
     }
-    let trace = reading.trace;
-    let j = judge(trace, model, list);
+    let j = judge(reading.trace, model, list);
     let one = concerns(j) as u16;
     let other = second(j) as u16;
     let numbers = [one, other];

@@ -71,8 +71,7 @@ pub fn wheelotter_limited(text: &[u8], model: u8, limit: u64, out: &mut [u8]) ->
     ensures { LimitAnswered text.now model limit out.old out.new result }
 {
     let reading = read_whole(text);
-    let answer = reading.answer;
-    let wrong = number_in(answer);
+    let wrong = number_in(reading.answer);
     if 0 < wrong {
         return wrong;
     }
@@ -82,8 +81,7 @@ pub fn wheelotter_limited(text: &[u8], model: u8, limit: u64, out: &mut [u8]) ->
     if out.len() < LIMITED {
         return NO_ROOM;
     }
-    let trace = reading.trace;
-    let limited = limited_verdict(trace, model, limit);
+    let limited = limited_verdict(reading.trace, model, limit);
     let outcome = limited.outcome;
     let steps = limited.steps;
     lay(spelled(shown(limited)), out);

@@ -4,7 +4,7 @@ ghost use Rattle.desk.specs.Nights.{PLACES, with_run, night_code, Nighted};
 
 use crate::signatures::with_place;
 use crate::texts::number_in;
-use night::Answer;
+use night::Reason;
 use night::runs::night;
 use reader::read_whole;
 
@@ -23,15 +23,15 @@ fn with_run(number: usize, run: usize) -> usize
 }
 
 // An answer in one number: 0, or the documents' number, and above 24 the word, and above it the run.
-fn night_code(answer: Answer) -> usize
+fn night_code(answer: Result<(), Reason>) -> usize
     ensures { result ≡ night_code answer }
 {
     match answer {
-        Answer::Done => 0,
-        Answer::NotWellFormed => 10,
-        Answer::NoModel => 9,
-        Answer::WrongLength => 26,
-        Answer::TooLarge(run, word) => with_run(with_place(24, word), run),
+        Ok(()) => 0,
+        Err(Reason::NotWellFormed) => 10,
+        Err(Reason::NoModel) => 9,
+        Err(Reason::WrongLength) => 26,
+        Err(Reason::TooLarge(run, word)) => with_run(with_place(24, word), run),
     }
 }
 
@@ -41,11 +41,9 @@ pub fn wheelotter_night(text: &[u8], model: u8, words: &[u64], out: &mut [u16]) 
     ensures { Nighted text.now model words.now out.old out.new result }
 {
     let reading = read_whole(text);
-    let answer = reading.answer;
-    let wrong = number_in(answer);
+    let wrong = number_in(reading.answer);
     if 0 < wrong {
         return wrong as usize;
     }
-    let trace = reading.trace;
-    night_code(night(trace, model, words, out))
+    night_code(night(reading.trace, model, words, out))
 }

@@ -13,7 +13,7 @@ use crate::files;
 use crate::texts::number_in;
 use crate::verdicts::put_wide;
 use packed::packing::write;
-use packed::{FILE, Wrote, unpacking};
+use packed::{FILE, Unwritten, unpacking};
 use reader::read_whole;
 use report::render::{RENDER, render};
 use text::room::put;
@@ -39,14 +39,14 @@ fn tell(bytes: &[u8], out: &mut [u8]) -> u8
 }
 
 // The length that the packed writer tells; 0 where it tells none.
-fn length_in(wrote: Wrote) -> usize
+fn length_in(wrote: Result<usize, Unwritten>) -> usize
     ensures { result ≡ length_in wrote }
 {
     match wrote {
-        Wrote::Length(n) => n,
-        Wrote::NotWellFormed => 0,
-        Wrote::NoRoom => 0,
-        Wrote::Lost => 0,
+        Ok(n) => n,
+        Err(Unwritten::NotWellFormed) => 0,
+        Err(Unwritten::NoRoom) => 0,
+        Err(Unwritten::Lost) => 0,
     }
 }
 
@@ -73,8 +73,7 @@ pub fn wheelotter_pack(text: &[u8], out: &mut [u8]) -> u8
     ensures { (result ≡ answer_for (text_number text.now) (text_packed text.now) out.old) × (out.new ≡ bytes_for (text_number text.now) (text_packed text.now) out.old) }
 {
     let reading = read_whole(text);
-    let answer = reading.answer;
-    let wrong = number_in(answer);
+    let wrong = number_in(reading.answer);
     if 0 < wrong {
         return wrong;
     }
@@ -89,8 +88,7 @@ pub fn wheelotter_unpack(file: &[u8], out: &mut [u8]) -> u8
     ensures { (result ≡ answer_for (whole_number file.now) (file_unpacked file.now) out.old) × (out.new ≡ bytes_for (whole_number file.now) (file_unpacked file.now) out.old) }
 {
     let reading = unpacking::read_whole(file);
-    let answer = reading.answer;
-    let wrong = files::number_in(answer);
+    let wrong = files::number_in(reading.answer);
     if 0 < wrong {
         return wrong;
     }
@@ -104,8 +102,7 @@ pub fn wheelotter_file_number(file: &[u8]) -> u8
     ensures { result ≡ whole_number file.now }
 {
     let reading = unpacking::read_whole(file);
-    let answer = reading.answer;
-    files::number_in(answer)
+    files::number_in(reading.answer)
 }
 
 // The line that comes with it: the record's number plus 1; 0 where no record is to blame.
@@ -113,6 +110,5 @@ pub fn wheelotter_file_line(file: &[u8]) -> usize
     ensures { result ≡ whole_line file.now }
 {
     let reading = unpacking::read_whole(file);
-    let answer = reading.answer;
-    files::line_in(answer)
+    files::line_in(reading.answer)
 }

@@ -6,22 +6,22 @@ ghost use Rattle.desk.specs.PaperWritten.{LIST, listed_number, list_shown?, leng
 use crate::answers::{ACCEPTED, NO_ROOM, NOT_ACCEPTED, NOTHING_TO_SHOW, SHOWN};
 use crate::texts::number_in;
 use pairs::modelled;
-use papers::reading::{Acceptance, accepts};
+use papers::reading::{Refusal, accepts};
 use reader::read_whole;
-use reasons::listing::{Listed, write};
+use reasons::listing::{Reason, write};
 
 // Where a list begins, behind its length in two numbers.
 const LIST: usize = 2;
 
 // The answer to what the small reader says.
-fn acceptance_number(a: Acceptance) -> u8
+fn acceptance_number(a: Result<bool, Refusal>) -> u8
     ensures { result ≡ acceptance_number a }
 {
     match a {
-        Acceptance::NoModel => 9,
-        Acceptance::NotWellFormed => 10,
-        Acceptance::Accepted => ACCEPTED,
-        Acceptance::NotAccepted => NOT_ACCEPTED,
+        Err(Refusal::NoModel) => 9,
+        Err(Refusal::NotWellFormed) => 10,
+        Ok(true) => ACCEPTED,
+        Ok(false) => NOT_ACCEPTED,
     }
 }
 
@@ -31,52 +31,41 @@ pub fn wheelotter_accepts(text: &[u8], model: u8, list: &[u16]) -> u8
     ensures { Papered text.now model list.now result }
 {
     let reading = read_whole(text);
-    let answer = reading.answer;
-    let wrong = number_in(answer);
+    let wrong = number_in(reading.answer);
     if 0 < wrong {
         return wrong;
     }
-    let trace = reading.trace;
-    let a = accepts(trace, model, list);
+    let a = accepts(reading.trace, model, list);
     acceptance_number(a)
 }
 
 // The answer to what the writer says.
-fn listed_number(w: Listed) -> u8
+fn listed_number(w: Result<Option<usize>, Reason>) -> u8
     ensures { result ≡ listed_number w }
 {
     match w {
-        Listed::NoModel => 9,
-        Listed::NotWellFormed => 10,
-        Listed::Nothing => NOTHING_TO_SHOW,
-        Listed::TooLong => NO_ROOM,
-        Listed::Shown(_) => SHOWN,
+        Err(Reason::NoModel) => 9,
+        Err(Reason::NotWellFormed) => 10,
+        Err(Reason::TooLong) => NO_ROOM,
+        Ok(None) => NOTHING_TO_SHOW,
+        Ok(Some(_)) => SHOWN,
     }
 }
 
 // Whether a list is shown.
-fn shown(w: Listed) -> bool
+fn shown(w: Result<Option<usize>, Reason>) -> bool
     ensures { result ≡ list_shown? w }
 {
-    match w {
-        Listed::NoModel => false,
-        Listed::NotWellFormed => false,
-        Listed::Nothing => false,
-        Listed::TooLong => false,
-        Listed::Shown(_) => true,
-    }
+    matches!(w, Ok(Some(_)))
 }
 
 // How many numbers it has; 0 where there is none.
-fn length_of(w: Listed) -> usize
+fn length_of(w: Result<Option<usize>, Reason>) -> usize
     ensures { result ≡ length_of w }
 {
     match w {
-        Listed::NoModel => 0,
-        Listed::NotWellFormed => 0,
-        Listed::Nothing => 0,
-        Listed::TooLong => 0,
-        Listed::Shown(n) => n,
+        Ok(Some(n)) => n,
+        _ => 0,
     }
 }
 
@@ -96,8 +85,7 @@ pub fn wheelotter_paper(text: &[u8], model: u8, out: &mut [u16]) -> u8
     ensures { PaperAsked text.now model out.old out.new result }
 {
     let reading = read_whole(text);
-    let answer = reading.answer;
-    let wrong = number_in(answer);
+    let wrong = number_in(reading.answer);
     if 0 < wrong {
         return wrong;
     }

@@ -9,7 +9,7 @@ use crate::texts::number_in;
 use crate::verdicts::put_wide;
 use machine::replaying::steps_of;
 use machine::running::{machined, run};
-use machine::{Given, Ran, STEPS, Steps};
+use machine::{Given, Refusal, STEPS, Steps};
 use reader::read_whole;
 use text::room::put;
 
@@ -30,26 +30,24 @@ fn through_number(all: bool) -> u8
 }
 
 // The answer to a run.
-fn ran_number(ran: Ran) -> u8
+fn ran_number(ran: Result<bool, Refusal>) -> u8
     ensures { result ≡ ran_number ran }
 {
     match ran {
-        Ran::NoModel => 9,
-        Ran::NotWellFormed => 10,
-        Ran::Stuck(_) => STUCK,
-        Ran::Through(all) => through_number(all),
+        Err(Refusal::NoModel) => 9,
+        Err(Refusal::NotWellFormed) => 10,
+        Err(Refusal::Stuck(_)) => STUCK,
+        Ok(all) => through_number(all),
     }
 }
 
 // The place that comes with the end of a run.
-fn place_of(ran: Ran) -> usize
+fn place_of(ran: Result<bool, Refusal>) -> usize
     ensures { result ≡ stuck_at ran }
 {
     match ran {
-        Ran::Stuck(i) => i,
-        Ran::NoModel => 0,
-        Ran::NotWellFormed => 0,
-        Ran::Through(_) => 0,
+        Err(Refusal::Stuck(i)) => i,
+        _ => 0,
     }
 }
 
@@ -71,8 +69,7 @@ pub fn wheelotter_run(text: &[u8], model: u8, steps: &[u8], out: &mut [u8]) -> u
     ensures { RunAnswered text.now model steps.now out.old out.new result }
 {
     let reading = read_whole(text);
-    let answer = reading.answer;
-    let wrong = number_in(answer);
+    let wrong = number_in(reading.answer);
     if 0 < wrong {
         return wrong;
     }
@@ -82,8 +79,7 @@ pub fn wheelotter_run(text: &[u8], model: u8, steps: &[u8], out: &mut [u8]) -> u
     if out.len() < PLACE {
         return NO_ROOM;
     }
-    let trace = reading.trace;
-    let ran = run(trace, model, steps);
+    let ran = run(reading.trace, model, steps);
     let place = place_of(ran) as u16;
     let numbers = [place];
     put_wide(&numbers, out, 0);
@@ -108,8 +104,7 @@ pub fn wheelotter_steps(text: &[u8], model: u8, order: &[u16], out: &mut [u8]) -
     ensures { Replayed text.now model order.now out.old out.new result }
 {
     let reading = read_whole(text);
-    let answer = reading.answer;
-    let wrong = number_in(answer);
+    let wrong = number_in(reading.answer);
     if 0 < wrong {
         return wrong;
     }
@@ -119,8 +114,7 @@ pub fn wheelotter_steps(text: &[u8], model: u8, order: &[u16], out: &mut [u8]) -
     if out.len() < REPLAY {
         return NO_ROOM;
     }
-    let trace = reading.trace;
-    let s = steps_of(trace, model, order);
+    let s = steps_of(reading.trace, model, order);
     let given = s.given;
     lay(s, out);
     given_number(given)

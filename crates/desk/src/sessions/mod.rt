@@ -5,7 +5,7 @@ ghost use Rattle.text.specs.Room.{put_at};
 ghost use Rattle.reader.specs.Whole.{read_whole};
 ghost use Rattle.session.specs.Closings.{Closings};
 ghost use Rattle.session.specs.Session.{blank};
-ghost use Rattle.session.specs.Numbers.{reason_number, supposes, takes_back, asks};
+ghost use Rattle.session.specs.Numbers.{supposes, takes_back, asks};
 ghost use Rattle.desk.specs.Text.{text_number};
 ghost use Rattle.desk.specs.Packs.{whole_number, whole_trace};
 ghost use Rattle.desk.specs.SessionHead.{Fit, SESSION-HEAD, session_head, session_bytes};
@@ -18,11 +18,11 @@ use crate::files;
 use crate::heads::{HEAD, agrees, lay, stack_in};
 use crate::texts::number_in;
 use packed::packing::write;
-use packed::{Wrote, unpacking};
+use packed::unpacking;
 use pairs::SC;
 use reader::read_whole;
 use session::calls::{afresh, ask, open, suppose, take_back};
-use session::{Answer, Reason, Reply, Session};
+use session::{Answer, Reply, Session};
 use trace::Trace;
 
 // Document 01's number of a session that is not one.
@@ -42,25 +42,6 @@ struct Opened {
     session: Session,
 }
 
-// Document 01's number of a call that is turned back.
-fn number(r: Reason) -> u8
-    ensures { result ≡ reason_number r }
-{
-    match r {
-        Reason::NoModel => 9,
-        Reason::NotWellFormed => 10,
-        Reason::Unlike => UNLIKE,
-        Reason::NoOperation => 13,
-        Reason::OneRecord => 14,
-        Reason::TooManyPairs => 15,
-        Reason::NoPair => 16,
-        Reason::PastBound => 4,
-        Reason::FirstValue => 6,
-        Reason::TooMany => 7,
-        Reason::Twice => 8,
-    }
-}
-
 // An answer as a number.
 pub(crate) fn code(a: Answer) -> u8
     ensures { result ≡ code_of a }
@@ -71,7 +52,7 @@ pub(crate) fn code(a: Answer) -> u8
         Answer::NotHeld => NOT_HELD,
         Answer::Contradicted => CONTRADICTED,
         Answer::Waits(_) => WAITS,
-        Answer::Refused(r) => number(r),
+        Answer::Refused(reason) => u8::from(reason),
     }
 }
 
@@ -102,13 +83,11 @@ pub(crate) fn kept(bytes: &[u8]) -> Lent
         return unlike();
     }
     let reading = unpacking::read(&bytes[HEAD..]);
-    let told = reading.answer;
-    if files::number_in(told) != 0 {
+    if files::number_in(reading.answer) != 0 {
         return unlike();
     }
     let reply = afresh(reading.trace, bytes[0], stack_in(bytes));
-    let answer = reply.answer;
-    if code(answer) != 0 {
+    if code(reply.answer) != 0 {
         return unlike();
     }
     let session = reply.session;
@@ -127,8 +106,7 @@ fn leave(reply: Reply, session: &mut [u8]) -> u8
     ensures { (result ≡ code_of reply.answer) × (session.new ≡ session_head reply.session ++ drop SESSION-HEAD session.old) }
 {
     lay(reply.session, session);
-    let answer = reply.answer;
-    code(answer)
+    code(reply.answer)
 }
 
 // What opening a session on what was read comes to: the number of what is wrong with it first.
@@ -157,13 +135,11 @@ pub(crate) fn placed(s: Session, out: &mut [u8]) -> bool
         return false;
     }
     match write(s.trace, &mut out[HEAD..]) {
-        Wrote::Length(_) => {
+        Ok(_) => {
             lay(s, out);
             true
         }
-        Wrote::NotWellFormed => false,
-        Wrote::NoRoom => false,
-        Wrote::Lost => false,
+        Err(_) => false,
     }
 }
 
@@ -189,8 +165,7 @@ pub fn wheelotter_open(text: &[u8], model: u8, session: &mut [u8]) -> u8
     ensures { (result ≡ open_answer (text_number text.now) (read_whole text.now).trace model session.old) × ((C : Closings) → session.new ≡ open_bytes C (text_number text.now) (read_whole text.now).trace model session.old) }
 {
     let reading = read_whole(text);
-    let told = reading.answer;
-    let number = number_in(told);
+    let number = number_in(reading.answer);
     open_on(number, reading.trace, model, session)
 }
 
@@ -199,8 +174,7 @@ pub fn wheelotter_open_file(file: &[u8], model: u8, session: &mut [u8]) -> u8
     ensures { (result ≡ open_answer (whole_number file.now) (whole_trace file.now) model session.old) × ((C : Closings) → session.new ≡ open_bytes C (whole_number file.now) (whole_trace file.now) model session.old) }
 {
     let reading = unpacking::read_whole(file);
-    let told = reading.answer;
-    let number = files::number_in(told);
+    let number = files::number_in(reading.answer);
     open_on(number, reading.trace, model, session)
 }
 
@@ -235,6 +209,5 @@ pub fn wheelotter_ask(session: &[u8], x: usize, y: usize) -> u8
         return UNLIKE;
     }
     let reply = ask(found.session, x, y);
-    let answer = reply.answer;
-    code(answer)
+    code(reply.answer)
 }

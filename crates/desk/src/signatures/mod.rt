@@ -4,7 +4,7 @@ ghost use Rattle.desk.specs.Signed.{with_place, signed_code, words_told, loads_t
 
 use crate::texts::number_in;
 use reader::read_whole;
-use signature::Answer;
+use signature::Reason;
 use signature::packing::{loads_of, pack, words_of};
 use signature::unpacking::unpack;
 use trace::RECORDS;
@@ -21,15 +21,15 @@ pub(crate) fn with_place(number: usize, place: usize) -> usize
 }
 
 // An answer in one number: 0, or the documents' number, and above it the record or the word.
-fn code(answer: Answer) -> usize
+fn code(answer: Result<(), Reason>) -> usize
     ensures { result ≡ signed_code answer }
 {
     match answer {
-        Answer::Done => 0,
-        Answer::NotWellFormed => 10,
-        Answer::WrongLength => 26,
-        Answer::NotListed(load) => with_place(23, load),
-        Answer::TooLarge(word) => with_place(24, word),
+        Ok(()) => 0,
+        Err(Reason::NotWellFormed) => 10,
+        Err(Reason::WrongLength) => 26,
+        Err(Reason::NotListed(load)) => with_place(23, load),
+        Err(Reason::TooLarge(word)) => with_place(24, word),
     }
 }
 
@@ -38,8 +38,7 @@ pub fn wheelotter_words(text: &[u8]) -> usize
     ensures { result ≡ words_told text.now }
 {
     let reading = read_whole(text);
-    let trace = reading.trace;
-    words_of(trace)
+    words_of(reading.trace)
 }
 
 // How many reads it has.
@@ -47,8 +46,7 @@ pub fn wheelotter_loads(text: &[u8]) -> usize
     ensures { result ≡ loads_told text.now }
 {
     let reading = read_whole(text);
-    let trace = reading.trace;
-    loads_of(trace)
+    loads_of(reading.trace)
 }
 
 // Packs the reads that a text records into lent words; beside what is wrong with the text and beside a refusal the words stay as they were.
@@ -56,13 +54,11 @@ pub fn wheelotter_signature(text: &[u8], words: &mut [u64]) -> usize
     ensures { (result ≡ pack_code text.now (length words.old)) × (words.new ≡ pack_after text.now words.old) }
 {
     let reading = read_whole(text);
-    let answer = reading.answer;
-    let wrong = number_in(answer);
+    let wrong = number_in(reading.answer);
     if 0 < wrong {
         return wrong as usize;
     }
-    let trace = reading.trace;
-    code(pack(trace, words))
+    code(pack(reading.trace, words))
 }
 
 // Unpacks words of the program that a text writes into lent reads, whatever the text itself records as read.
@@ -70,11 +66,9 @@ pub fn wheelotter_reads(text: &[u8], words: &[u64], reads: &mut [u16]) -> usize
     ensures { (result ≡ unpack_code text.now words.now (length reads.old)) × (reads.new ≡ unpack_after text.now words.now reads.old) }
 {
     let reading = read_whole(text);
-    let answer = reading.answer;
-    let wrong = number_in(answer);
+    let wrong = number_in(reading.answer);
     if 0 < wrong {
         return wrong as usize;
     }
-    let trace = reading.trace;
-    code(unpack(trace, words, reads))
+    code(unpack(reading.trace, words, reads))
 }

@@ -41,8 +41,7 @@ pub fn wheelotter_number(text: &[u8]) -> u8
     ensures { result ≡ text_number text.now }
 {
     let reading = read_whole(text);
-    let answer = reading.answer;
-    number_in(answer)
+    number_in(reading.answer)
 }
 
 // The line that a text is turned back for, counted from 1; 0 where no line is to blame.
@@ -50,8 +49,7 @@ pub fn wheelotter_line(text: &[u8]) -> usize
     ensures { result ≡ bad_line_number text.now }
 {
     let reading = read(text);
-    let answer = reading.answer;
-    line_in(answer)
+    line_in(reading.answer)
 }
 
 // Where the line starts that a text is turned back for; 0 where no line is to blame.

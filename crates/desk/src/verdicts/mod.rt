@@ -62,14 +62,12 @@ pub(crate) fn put_wide(numbers: &[u16], out: &mut [u8], at: usize)
     requires { at + 2 * length numbers.now ≤ length out.old }
     ensures { out.new ≡ put_at (wide numbers.now) out.old at }
 {
-    let mut i: usize = 0;
-    while i < numbers.len() {
+    for i in 0..numbers.len() {
         let n = numbers[i];
         let low = (n % 256) as u8;
         let high = (n / 256) as u8;
         let bytes = [low, high];
         put(&bytes, out, at + 2 * i);
-        i += 1;
     }
 }
 
@@ -93,8 +91,7 @@ pub fn wheelotter_verdict(text: &[u8], model: u8, out: &mut [u8]) -> u8
     ensures { VerdictAnswered text.now model out.old out.new result }
 {
     let reading = read_whole(text);
-    let answer = reading.answer;
-    let wrong = number_in(answer);
+    let wrong = number_in(reading.answer);
     if 0 < wrong {
         return wrong;
     }
@@ -104,8 +101,7 @@ pub fn wheelotter_verdict(text: &[u8], model: u8, out: &mut [u8]) -> u8
     if out.len() < VERDICT {
         return NO_ROOM;
     }
-    let trace = reading.trace;
-    let verdict = verdict_of(trace, model);
+    let verdict = verdict_of(reading.trace, model);
     let outcome = verdict.outcome;
     lay(spelled(verdict), out);
     outcome_number(outcome)

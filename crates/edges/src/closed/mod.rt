@@ -73,11 +73,9 @@ fn take_rows(n: usize, pairs: &[u64], edges: &mut [u64], turned: &mut [u64])
     requires { (n ≤ RECORDS) × Inside n pairs.now × (length edges.old ≡ CELLS) × (length turned.old ≡ CELLS) }
     ensures { TakenIn edges.old turned.old (Edges pairs.now) edges.new turned.new }
 {
-    let mut x: usize = 0;
-    while x < n {
+    for x in 0..n {
         let row = rows::rest(pairs, x, edges, x);
         take_row(edges, turned, x, &row);
-        x += 1;
     }
 }
 
@@ -88,12 +86,10 @@ fn lay_forward(n: usize, edges: &[u64], chains: &mut [u64])
 {
     rows::clear(chains);
     let mut below = [0u64; rows::WORDS];
-    let mut x: usize = 0;
-    while x < n {
+    for x in 0..n {
         rows::put(&mut below, 0, x);
         let row = rows::rest(edges, x, &below, 0);
         rows::add_row(&row, 0, chains, x);
-        x += 1;
     }
 }
 

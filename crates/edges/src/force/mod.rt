@@ -30,6 +30,7 @@ use trace::form::well_formed;
 use trace::{RECORDS, Trace, first};
 
 // Where the rounds end: the number of the round, and whether it has a circle.
+// The flag is no Option: a round has its number with a circle and without.
 #[derive(Clone, Copy)]
 pub struct End {
     pub number: usize,
@@ -37,6 +38,7 @@ pub struct End {
 }
 
 // The round at which the rounds end: its number, whether it has a circle, the chains before it, its edges and its chains, as rows.
+// The flag is no Option: all five stand in either case.
 #[derive(Clone, Copy)]
 pub struct Round {
     pub number: usize,
@@ -60,12 +62,9 @@ fn note_others(t: Trace, others: &mut [u64])
     ensures { Added others.old (Union RECORDS (λ y. Only (not ((frame_of t).operation y)) 0 y)) others.new }
 {
     let n = t.len;
-    let mut y: usize = 0;
-    while y < RECORDS {
-        let record = t.records[y];
-        let a = record.op;
-        rows::put_if(others, (n <= y) | a.fence(), 0, y);
-        y += 1;
+    for y in 0..RECORDS {
+        let op = t.records[y].op;
+        rows::put_if(others, (n <= y) | op.fence(), 0, y);
     }
 }
 
@@ -85,12 +84,10 @@ fn draw_lent(n: usize, lent: &[u64], others: &[u64], edges: &mut [u64])
     requires { (n ≤ RECORDS) × (length edges.old ≡ CELLS) }
     ensures { Added edges.old (Union n (SparedFrom lent.now others.now)) edges.new }
 {
-    let mut x: usize = 0;
-    while x < n {
+    for x in 0..n {
         if !rows::test(others, 0, x) {
             draw_lent_from(lent, others, x, edges);
         }
-        x += 1;
     }
 }
 
@@ -127,12 +124,10 @@ fn draw_values_from(
     requires { (load < t.len) × (t.len ≤ RECORDS) × (length edges.old ≡ CELLS) }
     ensures { Added edges.old (Union load (PassedBy (frame_of t) others.now early source load)) edges.new }
 {
-    let record = t.records[load];
-    let b = record.op;
+    let b = t.records[load].op;
     let mut x = rows::next(others, 0, 0);
     while x < load {
-        let record = t.records[x];
-        let a = record.op;
+        let a = t.records[x].op;
         if a.thread() == b.thread() {
             draw_value(early, source, x, load, edges);
         }
@@ -148,10 +143,8 @@ fn draw_source(t: Trace, source: usize, load: usize, edges: &mut [u64])
     if RECORDS <= source {
         return;
     }
-    let record = t.records[source];
-    let a = record.op;
-    let record = t.records[load];
-    let b = record.op;
+    let a = t.records[source].op;
+    let b = t.records[load].op;
     let earlier = (source < load) & (a.thread() == b.thread());
     rows::put_if(edges, !earlier, source, load);
 }
@@ -194,10 +187,9 @@ fn draw_values_for(
     ensures noted { Added writers.old (Union t.len (λ x. Only (writer? (frame_of t) x load) load x)) writers.new }
     ensures drawn { Added edges.old (Union t.len (ValuedFor (frame_of t) load)) edges.new }
 {
-    let record = t.records[load];
-    let b = record.op;
-    let addr = b.address();
-    let early = b.reads() & (b.read() == first(t, addr));
+    let op = t.records[load].op;
+    let addr = op.address();
+    let early = op.reads() & (op.read() == first(t, addr));
     let others = others_in(stores, addr as usize, load);
     rows::add_row(&others, 0, writers, load);
     draw_source(t, source, load, edges);
@@ -214,15 +206,12 @@ fn draw_values(t: Trace, sources: &mut [usize], writers: &mut [u64], edges: &mut
     let mut stores = [0u64; rows::CELLS];
     note_stores(t, &mut stores);
     lay_sources(t, &stores, sources);
-    let mut load: usize = 0;
-    while load < n {
-        let record = t.records[load];
-        let b = record.op;
-        if b.reads() {
+    for load in 0..n {
+        let op = t.records[load].op;
+        if op.reads() {
             let source = sources[load];
             draw_values_for(t, &stores, load, source, writers, edges);
         }
-        load += 1;
     }
 }
 
@@ -261,13 +250,11 @@ fn draw_settled(n: usize, sources: &[usize], writers: &[u64], chains: &[u64], ed
     requires { (n ≤ RECORDS) × (length sources.now ≡ RECORDS) × (length edges.old ≡ CELLS) }
     ensures { Added edges.old (Union n (SettledFor n sources.now writers.now chains.now)) edges.new }
 {
-    let mut load: usize = 0;
-    while load < n {
+    for load in 0..n {
         let source = sources[load];
         if source < RECORDS {
             draw_settled_for(n, writers, chains, source, load, edges);
         }
-        load += 1;
     }
 }
 
@@ -308,13 +295,11 @@ fn settle(n: usize, sources: &[usize], writers: &[u64], edges: &mut [u64], turne
     requires { (n ≤ RECORDS) × (length sources.now ≡ RECORDS) × (length edges.old ≡ CELLS) × (length turned.old ≡ CELLS) }
     ensures { Takes (AskNoted n sources.now writers.now) edges.old turned.old (Union n (SettledFor n sources.now writers.now edges.old)) edges.new turned.new }
 {
-    let mut load: usize = 0;
-    while load < n {
+    for load in 0..n {
         let source = sources[load];
         if source < RECORDS {
             settle_for(writers, source, load, edges, turned);
         }
-        load += 1;
     }
 }
 
@@ -387,6 +372,7 @@ fn settle_all(
 }
 
 // What the rules force, taken in pass by pass; with a circle no pair, and true.
+// A `loop` and no `for`: the passes end where nothing is added.
 fn grow(t: Trace, kept: &[u64], supposed: &[u64], edges: &mut [u64]) -> bool
     requires { (So (well_formed t)) × (length edges.old ≡ CELLS) }
     ensures { Grew (frame_of t) (lent_of t kept.now) (supposed_of t supposed.now) result edges.new }
@@ -410,6 +396,7 @@ fn grow(t: Trace, kept: &[u64], supposed: &[u64], edges: &mut [u64]) -> bool
 
 // Goes from round to round until one has a circle or adds nothing, and tells which one that is. What is left are the chains before that round,
 // its edges and its chains.
+// A `loop` and no `for`: the rounds end where nothing is added.
 fn run(
     t: Trace,
     kept: &[u64],
@@ -445,6 +432,7 @@ fn run(
 
 // Goes from round to round until the next one is round k or has the edge x, y, and tells which one that is. What is left are its edges and its
 // chains. Once nothing is added any more, round k - 1 is as this one.
+// A `loop` and no `for`: the rounds end where nothing is added, before round k too.
 fn run_before(
     t: Trace,
     kept: &[u64],
@@ -534,7 +522,7 @@ pub fn round_before(t: Trace, model: u8, supposed: &[u64], k: usize, x: usize, y
 {
     let mut edges = [0u64; rows::CELLS];
     let mut chains = [0u64; rows::CELLS];
-    if well_formed(t) & modelled(model) {
+    if well_formed(t) && modelled(model) {
         let kept = kept_rows(t, model);
         let number = run_before(t, &kept, supposed, k, x, y, &mut edges, &mut chains);
         return Prior {

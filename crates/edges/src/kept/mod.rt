@@ -26,15 +26,12 @@ fn note_records(t: Trace, kinds: &mut [u64], places: &mut [u64])
     ensures places_noted { Added places.old (Filed t.len (λ y. address (at t y))) places.new }
 {
     let n = t.len;
-    let mut y: usize = 0;
-    while y < n {
-        let record = t.records[y];
-        let b = record.op;
-        let row = kind(b) as usize;
+    for y in 0..n {
+        let op = t.records[y].op;
+        let row = kind(op) as usize;
         rows::put(kinds, row, y);
-        let addr = b.address() as usize;
+        let addr = op.address() as usize;
         rows::put(places, addr, y);
-        y += 1;
     }
 }
 
@@ -44,12 +41,10 @@ fn let_off_from(model: u8, first: u8, one: bool, kinds: &[u64], off: &mut [u64])
     ensures { Added off.old (Union KINDS (OffRow model one kinds.now first)) off.new }
 {
     let row = first as usize;
-    let mut second: u8 = 0;
-    while second < KINDS {
+    for second in 0..KINDS {
         if !kept_by(model, first, second, one) {
             rows::add_row(kinds, second as usize, off, row);
         }
-        second += 1;
     }
 }
 
@@ -58,10 +53,8 @@ fn let_off(model: u8, one: bool, kinds: &[u64], off: &mut [u64])
     requires { length off.old ≡ SHELF }
     ensures { Added off.old (Cover KINDS (OffRow model one kinds.now)) off.new }
 {
-    let mut first: u8 = 0;
-    while first < KINDS {
+    for first in 0..KINDS {
         let_off_from(model, first, one, kinds, off);
-        first += 1;
     }
 }
 
@@ -108,26 +101,22 @@ fn draw_kept(t: Trace, elsewhere: &[u64], there: &[u64], places: &[u64], kept: &
 {
     let mut later = [0u64; rows::CELLS];
     let mut behind = [0u64; rows::CELLS];
-    let mut k = t.len;
-    while 0 < k {
-        let x = k - 1;
-        let record = t.records[x];
-        let a = record.op;
-        let thread = a.thread() as usize;
-        if a.fence() {
+    for x in (0..t.len).rev() {
+        let op = t.records[x].op;
+        let thread = op.thread() as usize;
+        if op.fence() {
             rows::add_row(&later, thread, &mut behind, thread);
         } else {
             let off = off_for(
                 elsewhere,
                 there,
                 places,
-                kind(a) as usize,
-                a.address() as usize,
+                kind(op) as usize,
+                op.address() as usize,
             );
             draw_kept_from(&later, &behind, &off, thread, x, kept);
             rows::put(&mut later, thread, x);
         }
-        k = x;
     }
 }
 
@@ -152,10 +141,8 @@ pub fn kept_rows(t: Trace, model: u8) -> [u64; rows::CELLS]
     ensures { KeptRows t model result }
 {
     let mut kept = [0u64; rows::CELLS];
-    if t.len <= RECORDS {
-        if modelled(model) {
-            draw_rows(t, model, &mut kept);
-        }
+    if t.len <= RECORDS && modelled(model) {
+        draw_rows(t, model, &mut kept);
     }
     kept
 }

@@ -10,7 +10,6 @@ ghost use Rattle.edges.specs.inner.DrawnEdges.{Stored};
 ghost use Rattle.edges.specs.inner.SourcesLaid.{WrittenLaid, SourceIn, SourcesLaid};
 ghost use Rattle.edges.specs.SourcesOf.{SourcesOf};
 
-use pairs::sources::Found;
 use trace::form::well_formed;
 use trace::{RECORDS, Trace, first};
 
@@ -20,13 +19,10 @@ pub(crate) fn note_stores(t: Trace, stores: &mut [u64])
     ensures { Added stores.old (Union t.len (λ x. Only ((frame_of t).writes x) ((frame_of t).address x) x)) stores.new }
 {
     let n = t.len;
-    let mut x: usize = 0;
-    while x < n {
-        let record = t.records[x];
-        let a = record.op;
-        let addr = a.address() as usize;
-        rows::put_if(stores, a.writes(), addr, x);
-        x += 1;
+    for x in 0..n {
+        let op = t.records[x].op;
+        let addr = op.address() as usize;
+        rows::put_if(stores, op.writes(), addr, x);
     }
 }
 
@@ -34,10 +30,7 @@ pub(crate) fn note_stores(t: Trace, stores: &mut [u64])
 fn value_at(values: &[u16], i: usize) -> u16
     ensures { result ≡ get_or values.now i 0 }
 {
-    if i < values.len() {
-        return values[i];
-    }
-    0
+    values.get(i).copied().unwrap_or(0)
 }
 
 // Lays what each record writes.
@@ -46,12 +39,8 @@ fn lay_values(t: Trace, values: &mut [u16])
     ensures { WrittenLaid t t.len values.new }
 {
     let n = t.len;
-    let mut x: usize = 0;
-    while x < n {
-        let record = t.records[x];
-        let op = record.op;
-        values[x] = op.written();
-        x += 1;
+    for x in 0..n {
+        values[x] = t.records[x].op.written();
     }
 }
 
@@ -81,14 +70,11 @@ pub(crate) fn lay_sources(t: Trace, stores: &[u64], sources: &mut [usize])
     let firsts = t.firsts;
     let mut values = [0u16; RECORDS];
     lay_values(t, &mut values);
-    let mut load: usize = 0;
-    while load < n {
-        let record = t.records[load];
-        let op = record.op;
+    for load in 0..n {
+        let op = t.records[load].op;
         let addr = op.address() as usize;
         let later = op.reads() & (op.read() != value_at(&firsts, addr));
         sources[load] = source_in(stores, addr, &values, load, op.read(), later);
-        load += 1;
     }
 }
 
@@ -108,23 +94,20 @@ pub fn sources_of(t: Trace) -> [usize; RECORDS]
 
 // The lowest record that lacks its source: it reads a value that is neither its address's first one nor written by another. For a trace that is not
 // well formed, nothing.
-pub fn missing(t: Trace) -> Found
+pub fn missing(t: Trace) -> Option<usize>
     ensures { result ≡ missing_of t }
 {
     if !well_formed(t) {
-        return Found::Nothing;
+        return None;
     }
     let n = t.len;
     let sources = sources_of(t);
-    let mut load: usize = 0;
-    while load < n {
-        let record = t.records[load];
-        let op = record.op;
+    for load in 0..n {
+        let op = t.records[load].op;
         let later = op.reads() & (op.read() != first(t, op.address()));
         if later & (RECORDS <= sources[load]) {
-            return Found::At(load);
+            return Some(load);
         }
-        load += 1;
     }
-    Found::Nothing
+    None
 }

@@ -9,7 +9,6 @@ use counting::Walked;
 use counting::steps::plain_search;
 use edges::sources::missing;
 use pairs::modelled;
-use pairs::sources::Found;
 use trace::form::well_formed;
 use trace::{RECORDS, Trace};
 use verdict::Outcome;
@@ -33,21 +32,20 @@ fn circle_or_count(t: Trace, model: u8, limit: u64) -> Limit
     ensures { ToldLimited t model limit result }
 {
     let circle = circle_of(t, model);
-    let len = circle.len;
-    if 0 < len {
+    if 0 < circle.len {
+        // A field that is an array goes into a literal by a variable: the borrow checker covers no other form.
         let operations = circle.operations;
         let rules = circle.rules;
         return Limit {
             outcome: Limited::Decided(Outcome::Circle),
-            len,
+            len: circle.len,
             operations,
             rules,
             steps: 0,
         };
     }
     let counted = plain_search(t, model, limit);
-    let walked = counted.walked;
-    match walked {
+    match counted.walked {
         Walked::Order(steps) => {
             let operations = counted.operations;
             Limit {
@@ -75,7 +73,7 @@ pub fn limited_verdict(t: Trace, model: u8, limit: u64) -> Limit
         return bare(Limited::Decided(Outcome::NotWellFormed), 0);
     }
     match missing(t) {
-        Found::At(x) => bare(Limited::Decided(Outcome::NoSource(x)), 0),
-        Found::Nothing => circle_or_count(t, model, limit),
+        Some(x) => bare(Limited::Decided(Outcome::NoSource(x)), 0),
+        None => circle_or_count(t, model, limit),
     }
 }

@@ -9,7 +9,6 @@ ghost use Rattle.pairs.specs.MissingOf.{as_found};
 ghost use Rattle.machine.specs.Machine.{lands, alone, due, waiting, got, may};
 
 use crate::Machine;
-use pairs::sources::Found;
 use pairs::{SC, op_at};
 use trace::{Op, Trace};
 
@@ -28,39 +27,33 @@ fn alone(op: Op) -> bool
 }
 
 // The next record of a core.
-pub(crate) fn next(t: Trace, m: Machine, core: u8) -> Found
+pub(crate) fn next(t: Trace, m: Machine, core: u8) -> Option<usize>
     requires { t.len ≤ RECORDS }
     ensures { result ≡ as_found (lowest (due t m core) t.len 0) }
 {
     let n = t.len;
-    let mut i: usize = 0;
-    while i < n {
-        let record = t.records[i];
-        let op = record.op;
+    for i in 0..n {
+        let op = t.records[i].op;
         if !m.ran[i] & (op.thread() == core) {
-            return Found::At(i);
+            return Some(i);
         }
-        i += 1;
     }
-    Found::Nothing
+    None
 }
 
 // The oldest entry of a core's buffer.
-pub(crate) fn oldest(t: Trace, m: Machine, core: u8) -> Found
+pub(crate) fn oldest(t: Trace, m: Machine, core: u8) -> Option<usize>
     requires { t.len ≤ RECORDS }
     ensures { result ≡ as_found (lowest (waiting t m core) t.len 0) }
 {
     let n = t.len;
-    let mut i: usize = 0;
-    while i < n {
-        let record = t.records[i];
-        let op = record.op;
+    for i in 0..n {
+        let op = t.records[i].op;
         if m.waits[i] & (op.thread() == core) {
-            return Found::At(i);
+            return Some(i);
         }
-        i += 1;
     }
-    Found::Nothing
+    None
 }
 
 // Whether a core's buffer has an entry.
@@ -69,14 +62,11 @@ fn any_waits(t: Trace, m: Machine, core: u8) -> bool
     ensures { result ≡ any t.len (waiting t m core) }
 {
     let n = t.len;
-    let mut i: usize = 0;
-    while i < n {
-        let record = t.records[i];
-        let op = record.op;
+    for i in 0..n {
+        let op = t.records[i].op;
         if m.waits[i] & (op.thread() == core) {
             return true;
         }
-        i += 1;
     }
     false
 }
@@ -92,14 +82,11 @@ fn got(t: Trace, m: Machine, x: usize) -> u16
     let addr = reader.address();
     let cell = addr as usize;
     let mut value = m.memory[cell];
-    let mut i: usize = 0;
-    while i < n {
-        let record = t.records[i];
-        let op = record.op;
+    for i in 0..n {
+        let op = t.records[i].op;
         if m.waits[i] & (op.thread() == core) & (op.address() == addr) {
             value = op.written();
         }
-        i += 1;
     }
     value
 }

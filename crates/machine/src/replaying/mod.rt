@@ -10,7 +10,7 @@ ghost use Rattle.machine.specs.Replay.{put, swept, placed_next, built_of, yes?, 
 use crate::cores::lands;
 use crate::running::machined;
 use crate::{Built, Given, STEPS, Steps};
-use judge::judging::{Judgement, judge};
+use judge::judging::{Broken, judge};
 use pairs::op_at;
 use trace::form::well_formed;
 use trace::{RECORDS, THREADS, Trace};
@@ -35,16 +35,12 @@ fn swept(t: Trace, every: bool, core: u8, b: Built, n: usize) -> Built
     ensures { result ≡ swept t every core b n }
 {
     let mut after = b;
-    let mut k: usize = 0;
-    while k < n {
-        let record = t.records[k];
-        let op = record.op;
-        let own = op.thread();
+    for k in 0..n {
+        let own = t.records[k].op.thread();
         if !after.ran[k] & (every | (own == core)) {
             after.ran[k] = true;
             after = put(after, own);
         }
-        k += 1;
     }
     after
 }
@@ -73,29 +69,18 @@ fn built(t: Trace, model: u8, order: &[u16]) -> Built
         steps: [0; STEPS],
         len: 0,
     };
-    let mut i: usize = 0;
-    while i < order.len() {
+    for i in 0..order.len() {
         let c = order[i] as usize;
         b = placed(t, model, b, c);
-        i += 1;
     }
     swept(t, true, 0, b, t.len)
 }
 
 // Whether the judge says yes.
-fn yes(judgement: Judgement) -> bool
+fn yes(judgement: Result<(), Broken>) -> bool
     ensures { result ≡ yes? judgement }
 {
-    match judgement {
-        Judgement::Yes => true,
-        Judgement::NoModel => false,
-        Judgement::NotWellFormed => false,
-        Judgement::WrongLength => false,
-        Judgement::BadNumber(_) => false,
-        Judgement::Repeat(_) => false,
-        Judgement::OutOfTurn(_, _) => false,
-        Judgement::WrongValue(_) => false,
-    }
+    judgement.is_ok()
 }
 
 // No steps, and why.

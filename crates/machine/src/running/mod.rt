@@ -8,8 +8,7 @@ ghost use Rattle.trace.specs.WellFormed.{well_formed};
 ghost use Rattle.machine.specs.Machine.{machined, machine_start, ran_as, emptied, stepped, step, finished, answer};
 
 use crate::cores::{lands, may, next, oldest};
-use crate::{ADDRESSED, Machine, Ran, Stepped};
-use pairs::sources::Found;
+use crate::{ADDRESSED, Machine, Refusal};
 use pairs::{TSO, op_at};
 use trace::form::well_formed;
 use trace::{ADDRESSES, RECORDS, THREADS, Trace, first};
@@ -26,11 +25,8 @@ fn start(t: Trace) -> Machine
     ensures { result ≡ machine_start t }
 {
     let mut memory: [u16; ADDRESSED] = [0; ADDRESSED];
-    let mut addr: u8 = 0;
-    while addr < ADDRESSES {
-        let cell = addr as usize;
-        memory[cell] = first(t, addr);
-        addr += 1;
+    for addr in 0..ADDRESSES {
+        memory[addr as usize] = first(t, addr);
     }
     Machine {
         ran: [false; RECORDS],
@@ -71,39 +67,21 @@ fn emptied(t: Trace, m: Machine, x: usize) -> Machine
     after
 }
 
-// The machine after a step, if that is possible.
-fn step(t: Trace, model: u8, m: Machine, s: u8) -> Stepped
+// The machine after a step, if that is possible. A step stays a number: lent lists hold bytes, and only here one is told apart, so that an enum would be
+// made and matched in one place. A byte of twice THREADS or more is impossible by itself: it empties the buffer of a core that no record has.
+fn step(t: Trace, model: u8, m: Machine, s: u8) -> Option<Machine>
     requires { So (well_formed t) }
-    ensures { result ≡ stepped m (step t model m s) }
+    ensures { result ≡ stepped (step t model m s) }
 {
     if s < THREADS {
-        let due = next(t, m, s);
-        if let Found::At(x) = due {
-            if may(t, m, x) {
-                let after = ran_as(t, model, m, x);
-                return Stepped {
-                    possible: true,
-                    machine: after,
-                };
-            }
+        let due = next(t, m, s)?;
+        if may(t, m, due) {
+            return Some(ran_as(t, model, m, due));
         }
-        return Stepped {
-            possible: false,
-            machine: m,
-        };
+        return None;
     }
-    let entry = oldest(t, m, s - THREADS);
-    if let Found::At(x) = entry {
-        let after = emptied(t, m, x);
-        return Stepped {
-            possible: true,
-            machine: after,
-        };
-    }
-    Stepped {
-        possible: false,
-        machine: m,
-    }
+    let entry = oldest(t, m, s - THREADS)?;
+    Some(emptied(t, m, entry))
 }
 
 // Whether all records ran and nothing waits.
@@ -112,35 +90,28 @@ fn finished(t: Trace, m: Machine) -> bool
     ensures { result ≡ finished t m }
 {
     let n = t.len;
-    let mut i: usize = 0;
-    while i < n {
+    for i in 0..n {
         if !(m.ran[i] & !m.waits[i]) {
             return false;
         }
-        i += 1;
     }
     true
 }
 
-// Runs a trace by a list of steps: one below THREADS runs the next record of that core, THREADS more empties the oldest entry of its buffer.
-pub fn run(t: Trace, model: u8, steps: &[u8]) -> Ran
+// Runs a trace by a list of steps: one below THREADS runs the next record of that core, THREADS more empties the oldest entry of its buffer. Where all
+// steps are done, it tells whether all records ran and the buffers are empty.
+pub fn run(t: Trace, model: u8, steps: &[u8]) -> Result<bool, Refusal>
     ensures { result ≡ answer t model steps.now }
 {
     if !machined(model) {
-        return Ran::NoModel;
+        return Err(Refusal::NoModel);
     }
     if !well_formed(t) {
-        return Ran::NotWellFormed;
+        return Err(Refusal::NotWellFormed);
     }
     let mut m = start(t);
-    let mut i: usize = 0;
-    while i < steps.len() {
-        let s = step(t, model, m, steps[i]);
-        if !s.possible {
-            return Ran::Stuck(i);
-        }
-        m = s.machine;
-        i += 1;
+    for i in 0..steps.len() {
+        m = step(t, model, m, steps[i]).ok_or(Refusal::Stuck(i))?;
     }
-    Ran::Through(finished(t, m))
+    Ok(finished(t, m))
 }

@@ -8,7 +8,7 @@
 --   BlockPut t m n before after i == the block of run i is the verdict on the program with the run's reads, n of them, as they stood; no block behind it
 --                                    and nothing in front of it is another
 --   AllJudged t m n before after runs == so is the block of each run
-use Rattle.std.specs.Prelude.{◌≡◌, List, ℕ, ◌*◌, ◌<◌, length, take, drop}
+use Rattle.std.specs.Prelude.{Option, Some, None, ◌≡◌, List, ℕ, ◌*◌, ◌<◌, length, take, drop}
 use Rattle.std.proofs.Math.Bool.{So}
 use Rattle.trace.specs.Meaning.{frame_of}
 use Rattle.trace.specs.WellFormed.{well_formed}
@@ -21,8 +21,6 @@ use Rattle.signature.specs.ManyRuns.{all_reads}
 use Rattle.night.specs.FilledReads.{filled_reads}
 use Rattle.night.specs.Block.{BLOCK, block_of}
 use Rattle.night.specs.Night.{block_at, large_from}
-use Rattle.night.specs.declared.Large.{Large}
-use Rattle.night.specs.declared.Large.TheVariants.{At, Nothing}
 
 abbrev pub JudgedAs : Trace → ℕ → List ℕ → Type 0
 JudgedAs u m b = (v : said.Verdict) × said.Says (frame_of u) (kept_of m u) v × (b ≡ block_of v)
@@ -36,11 +34,11 @@ pub record Given (t : Trace) (ws : List ℕ) (n m runs : ℕ) : Type 0 where
   pub some : m ≡ length (loads t)
   pub long : length ws ≡ runs * n
 
-pub record ReadsLaid (t : Trace) (ws : List ℕ) (m runs : ℕ) (before after : List ℕ) (r : Large) : Type 0 where
+pub record ReadsLaid (t : Trace) (ws : List ℕ) (m runs : ℕ) (before after : List ℕ) (r : Option (ℕ × ℕ)) : Type 0 where
   pub answer : r ≡ large_from t ws 0 runs
   pub long : length after ≡ length before
-  pub stays : (i k : ℕ) → r ≡ At i k → after ≡ before
-  pub front : r ≡ Nothing → take (runs * m) after ≡ all_reads t ws runs
+  pub stays : (i k : ℕ) → r ≡ Some (i, k) → after ≡ before
+  pub front : r ≡ None → take (runs * m) after ≡ all_reads t ws runs
 
 pub record BlockPut (t : Trace) (m n : ℕ) (before after : List ℕ) (i : ℕ) : Type 0 where
   pub long : length after ≡ length before

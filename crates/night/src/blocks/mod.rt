@@ -58,11 +58,9 @@ pub(crate) fn lay(v: Verdict, out: &mut [u16])
 {
     let operations = v.operations;
     let rules = v.rules;
-    let mut i: usize = 0;
-    while i < RECORDS {
+    for i in 0..RECORDS {
         out[2 + i] = operations[i];
         out[2 + RECORDS + i] = wide(rules[i]);
-        i += 1;
     }
     let outcome = v.outcome;
     out[0] = kind_of(outcome);

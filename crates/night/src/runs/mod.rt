@@ -11,7 +11,7 @@ ghost use Rattle.night.specs.inner.RunsJudged.{JudgedAs, Given, ReadsLaid, Block
 
 use crate::blocks::{lay, spelled};
 use crate::seeing::seen;
-use crate::{Answer, BLOCK, Large};
+use crate::{BLOCK, Reason};
 use edges::kept::kept_rows;
 use pairs::modelled;
 use signature::packing::{loads_of, words_of};
@@ -29,17 +29,17 @@ fn put_reads(
     loads: usize,
     runs: usize,
     out: &mut [u16],
-) -> Large
+) -> Option<(usize, usize)>
     requires { Given t words.now each loads runs × (runs * loads ≤ length out.old) }
     ensures { ReadsLaid t words.now loads runs out.old out.new result }
 {
     let n = runs * loads;
     match unpack_runs(t, words, &mut out[..n]) {
-        signature::Answer::TooLarge(k) => Large::At(k / each, k % each),
-        signature::Answer::Done => Large::Nothing,
-        signature::Answer::NotWellFormed => Large::Nothing,
-        signature::Answer::WrongLength => Large::Nothing,
-        signature::Answer::NotListed(_) => Large::Nothing,
+        Ok(()) => None,
+        Err(signature::Reason::TooLarge(k)) => Some((k / each, k % each)),
+        Err(signature::Reason::NotWellFormed) => None,
+        Err(signature::Reason::WrongLength) => None,
+        Err(signature::Reason::NotListed(_)) => None,
     }
 }
 
@@ -70,38 +70,36 @@ fn put_runs(t: Trace, model: u8, kept: &[u64], loads: usize, runs: usize, out: &
     requires { So (well_formed t) × So (modelled model) × KeptRows t model kept.now × (loads ≤ RECORDS) × (length out.old ≡ runs * BLOCK) }
     ensures { AllJudged t model loads out.old out.new runs }
 {
-    let mut i = runs;
-    while 0 < i {
-        i -= 1;
+    for i in (0..runs).rev() {
         put_run(t, model, kept, loads, i, out);
     }
 }
 
 // The verdicts on a night's worth of runs, as many as the lent memory has blocks; beside a refusal it is as it was.
-pub fn night(t: Trace, model: u8, words: &[u64], out: &mut [u16]) -> Answer
+pub fn night(t: Trace, model: u8, words: &[u64], out: &mut [u16]) -> Result<(), Reason>
     ensures { Nights t model words.now out.old out.new result }
 {
     if !well_formed(t) {
-        return Answer::NotWellFormed;
+        return Err(Reason::NotWellFormed);
     }
     if !modelled(model) {
-        return Answer::NoModel;
+        return Err(Reason::NoModel);
     }
     let each = words_of(t);
     let runs = out.len() / BLOCK;
     if out.len() != runs * BLOCK {
-        return Answer::WrongLength;
+        return Err(Reason::WrongLength);
     }
     if words.len() != runs * each {
-        return Answer::WrongLength;
+        return Err(Reason::WrongLength);
     }
     let loads = loads_of(t);
     match put_reads(t, words, each, loads, runs, out) {
-        Large::At(i, k) => Answer::TooLarge(i, k),
-        Large::Nothing => {
+        Some((i, k)) => Err(Reason::TooLarge(i, k)),
+        None => {
             let kept = kept_rows(t, model);
             put_runs(t, model, &kept, loads, runs, out);
-            Answer::Done
+            Ok(())
         }
     }
 }

@@ -46,16 +46,13 @@ pub fn seen(t: Trace, reads: &[u16]) -> Trace
 {
     let mut u = t;
     let mut k: usize = 0;
-    let mut i: usize = 0;
-    while i < RECORDS {
-        let record = t.records[i];
-        let op = record.op;
+    for i in 0..RECORDS {
+        let op = t.records[i].op;
         let next = read_as(op, read_at(reads, k));
         u.records[i] = Record { op: next };
         if op.reads() {
             k += 1;
         }
-        i += 1;
     }
     u
 }

@@ -3,35 +3,29 @@ ghost use Rattle.std.specs.Prelude.{◌≡◌, ◌++◌, ◌+◌, ◌≤◌, ◌
 ghost use Rattle.packed.specs.Layout.{BYTE, RECORD, kind_byte, record_of, two_in};
 ghost use Rattle.packed.specs.Entry.{op_in, entry_in};
 
-use crate::Entry;
 use trace::Op;
 
 // The record of these fields, if the kind is one of the four and what it does not carry is 0.
-pub fn op_in(kind: u8, thread: u8, addr: u8, zero: u8, read: u16, written: u16) -> Entry
+#[tactic(auto, unfolding(crate::specs::Entry::op_in))]
+pub fn op_in(kind: u8, thread: u8, addr: u8, zero: u8, read: u16, written: u16) -> Option<Op>
     ensures { result ≡ op_in kind thread addr zero read written }
 {
-    if (kind == 0) & (zero == 0) & (written == 0) {
-        return Entry::Of(Op::Load { thread, addr, read });
-    }
-    if (kind == 1) & (zero == 0) & (read == 0) {
-        return Entry::Of(Op::Store {
+    match kind {
+        0 if zero == 0 && written == 0 => Some(Op::Load { thread, addr, read }),
+        1 if zero == 0 && read == 0 => Some(Op::Store {
             thread,
             addr,
             written,
-        });
-    }
-    if (kind == 2) & (zero == 0) {
-        return Entry::Of(Op::Swap {
+        }),
+        2 if zero == 0 => Some(Op::Swap {
             thread,
             addr,
             read,
             written,
-        });
+        }),
+        3 if addr == 0 && zero == 0 && read == 0 && written == 0 => Some(Op::Fence { thread }),
+        _ => None,
     }
-    if (kind == 3) & (addr == 0) & (zero == 0) & (read == 0) & (written == 0) {
-        return Entry::Of(Op::Fence { thread });
-    }
-    Entry::Nothing
 }
 
 // A byte as a wider number.
@@ -50,7 +44,7 @@ pub(crate) fn two_at(bytes: &[u8], at: usize) -> u16
 }
 
 // The record that eight bytes are from a place on, if any.
-pub(crate) fn entry_at(bytes: &[u8], at: usize) -> Entry
+pub(crate) fn entry_at(bytes: &[u8], at: usize) -> Option<Op>
     requires { at + RECORD ≤ length bytes.now }
     ensures { result ≡ entry_in (drop at bytes.now) }
 {

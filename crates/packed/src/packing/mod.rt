@@ -9,7 +9,7 @@ ghost use Rattle.packed.specs.Write.{wrote_of, left_of};
 ghost use Rattle.packed.specs.WholeFile.{wrote_whole, left_whole};
 
 use crate::entries::record_of;
-use crate::{FIRST, HEAD, RECORD, Wrote};
+use crate::{FIRST, HEAD, RECORD, Unwritten};
 use text::room::put;
 use trace::cores::lost;
 use trace::form::well_formed;
@@ -20,12 +20,10 @@ fn many_of(t: Trace) -> usize
     ensures { (result ≡ many t.firsts) × (result ≤ ADDRESSES) }
 {
     let mut n: usize = 0;
-    let mut a: usize = 0;
-    while a < FIRSTS {
+    for a in 0..FIRSTS {
         if t.firsts[a] != 0 {
             n += 1;
         }
-        a += 1;
     }
     n
 }
@@ -50,11 +48,8 @@ fn put_firsts(t: Trace, out: &mut [u8]) -> usize
     ensures { (result ≡ HEAD + length (firsts_of 0 t.firsts)) × (out.new ≡ put_at (firsts_of 0 t.firsts) out.old HEAD) }
 {
     let mut at = HEAD;
-    let mut a: usize = 0;
-    while a < FIRSTS {
-        let value = t.firsts[a];
-        at = put_first(a, value, out, at);
-        a += 1;
+    for a in 0..FIRSTS {
+        at = put_first(a, t.firsts[a], out, at);
     }
     at
 }
@@ -64,14 +59,8 @@ fn put_records(t: Trace, out: &mut [u8], from: usize)
     requires { (t.len ≤ RECORDS) × (from + RECORD * t.len ≤ length out.old) }
     ensures { out.new ≡ put_at (record_bytes (take t.len t.records)) out.old from }
 {
-    let n = t.len;
-    let mut i: usize = 0;
-    while i < n {
-        let record = t.records[i];
-        let op = record.op;
-        let entry = record_of(op);
-        put(&entry, out, from + RECORD * i);
-        i += 1;
+    for i in 0..t.len {
+        put(&record_of(t.records[i].op), out, from + RECORD * i);
     }
 }
 
@@ -97,31 +86,29 @@ fn lay(t: Trace, firsts: usize, out: &mut [u8])
 }
 
 // Writes the file of a trace at the front of lent bytes: how many it has; or why not, and all bytes as they were.
-pub fn write(t: Trace, out: &mut [u8]) -> Wrote
+pub fn write(t: Trace, out: &mut [u8]) -> Result<usize, Unwritten>
     ensures { (result ≡ wrote_of t out.old) × (out.new ≡ left_of t out.old) }
 {
     if !well_formed(t) {
-        return Wrote::NotWellFormed;
+        return Err(Unwritten::NotWellFormed);
     }
     let firsts = many_of(t);
     let records = t.len;
     let size = HEAD + FIRST * firsts + RECORD * records;
     if out.len() < size {
-        return Wrote::NoRoom;
+        return Err(Unwritten::NoRoom);
     }
     lay(t, firsts, out);
-    Wrote::Length(size)
+    Ok(size)
 }
 
 // The same as `write`, but a trace that lost a core has no file: 10 comes before that, and no room after it.
-pub fn write_whole(t: Trace, out: &mut [u8]) -> Wrote
+#[tactic(auto, unfolding(crate::specs::WholeFile::wrote_whole, crate::specs::WholeFile::left_whole, crate::specs::Write::wrote_of, crate::specs::Write::left_of))]
+pub fn write_whole(t: Trace, out: &mut [u8]) -> Result<usize, Unwritten>
     ensures { (result ≡ wrote_whole t out.old) × (out.new ≡ left_whole t out.old) }
 {
-    if lost(t) {
-        if well_formed(t) {
-            return Wrote::Lost;
-        }
-        return Wrote::NotWellFormed;
+    if well_formed(t) && lost(t) {
+        return Err(Unwritten::Lost);
     }
     write(t, out)
 }

@@ -7,7 +7,7 @@ ghost use Rattle.packed.specs.WholeFile.{read_whole_file};
 ghost use Rattle.trace.specs.Fault.{fault_of};
 
 use crate::entries::{entry_at, two_at};
-use crate::{Answer, Entry, FIRST, HEAD, RECORD, Reading, Reason, Turn, VERSION};
+use crate::{Answer, FIRST, HEAD, RECORD, Reading, Reason, VERSION};
 use trace::cores::lost;
 use trace::form::fault_of;
 use trace::{FIRSTS, Fault, Op, RECORDS, Record, Trace, empty};
@@ -16,32 +16,33 @@ use trace::{FIRSTS, Fault, Op, RECORDS, Record, Trace, empty};
 fn back(reason: Reason, line: usize) -> Reading
     ensures { result ≡ back reason line }
 {
-    let answer = Answer::Refused { reason, line };
-    let trace = empty();
-    Reading { answer, trace }
+    Reading {
+        answer: Answer::Refused { reason, line },
+        trace: empty(),
+    }
 }
 
 // A record behind the trace so far, as it was read.
-fn joined(t: Trace, op: Op) -> Turn
+fn joined(t: Trace, op: Op) -> Result<Op, Reason>
     ensures { result ≡ entry_turn op (fault_of t op) }
 {
     match fault_of(t, op) {
-        Fault::Nothing => Turn::Taken(op),
-        Fault::PastBound => Turn::Refused(Reason::PastBound),
-        Fault::FirstValue => Turn::Refused(Reason::FirstValue),
-        Fault::TooMany => Turn::Refused(Reason::TooMany),
-        Fault::Twice => Turn::Refused(Reason::Twice),
+        None => Ok(op),
+        Some(Fault::PastBound) => Err(Reason::PastBound),
+        Some(Fault::FirstValue) => Err(Reason::FirstValue),
+        Some(Fault::TooMany) => Err(Reason::TooMany),
+        Some(Fault::Twice) => Err(Reason::Twice),
     }
 }
 
 // The eight bytes at a place, behind the trace so far.
-fn turned(t: Trace, bytes: &[u8], at: usize) -> Turn
+fn turned(t: Trace, bytes: &[u8], at: usize) -> Result<Op, Reason>
     requires { at + RECORD ≤ length bytes.now }
     ensures { result ≡ turned_bytes t (drop at bytes.now) }
 {
     match entry_at(bytes, at) {
-        Entry::Of(op) => joined(t, op),
-        Entry::Nothing => Turn::Refused(Reason::NoEntry),
+        Some(op) => joined(t, op),
+        None => Err(Reason::NoEntry),
     }
 }
 
@@ -52,12 +53,11 @@ fn firsts_in(bytes: &[u8], count: usize) -> Reading
 {
     let mut trace = empty();
     let mut low: usize = 0;
-    let mut i: usize = 0;
-    while i < count {
+    for i in 0..count {
         let at = HEAD + FIRST * i;
         let addr = bytes[at] as usize;
         let value = two_at(bytes, at + 1);
-        if (value == 0) | (addr < low) {
+        if value == 0 || addr < low {
             return back(Reason::NoEntry, 0);
         }
         if FIRSTS <= addr {
@@ -65,10 +65,11 @@ fn firsts_in(bytes: &[u8], count: usize) -> Reading
         }
         trace.firsts[addr] = value;
         low = addr + 1;
-        i += 1;
     }
-    let answer = Answer::Good;
-    Reading { answer, trace }
+    Reading {
+        answer: Answer::Good,
+        trace,
+    }
 }
 
 // Records from a place on, behind a trace.
@@ -77,24 +78,24 @@ fn records_in(t: Trace, bytes: &[u8], from: usize, count: usize) -> Reading
     ensures { result ≡ read_records t (drop from bytes.now) count }
 {
     let mut trace = t;
-    let mut i: usize = 0;
-    while i < count {
+    for i in 0..count {
         match turned(trace, bytes, from + RECORD * i) {
-            Turn::Taken(op) => {
+            Ok(op) => {
                 let n = trace.len;
                 if n < RECORDS {
                     trace.records[n] = Record { op };
                     trace.len = n + 1;
                 }
             }
-            Turn::Refused(reason) => {
+            Err(reason) => {
                 return back(reason, trace.len + 1);
             }
         }
-        i += 1;
     }
-    let answer = Answer::Good;
-    Reading { answer, trace }
+    Reading {
+        answer: Answer::Good,
+        trace,
+    }
 }
 
 // First values and records in turn, where the file has room for them.
@@ -103,10 +104,9 @@ fn entries_in(bytes: &[u8], firsts: usize, records: usize) -> Reading
     ensures { result ≡ read_entries bytes.now firsts records }
 {
     let opened = firsts_in(bytes, firsts);
-    let answer = opened.answer;
-    match answer {
+    match opened.answer {
         Answer::Good => records_in(opened.trace, bytes, HEAD + FIRST * firsts, records),
-        Answer::Refused { reason: _, line: _ } => opened,
+        Answer::Refused { .. } => opened,
     }
 }
 
@@ -128,10 +128,7 @@ fn numbered(n: u16) -> usize
 fn marked(bytes: &[u8]) -> bool
     ensures { result ≡ marked bytes.now }
 {
-    if bytes.len() < 5 {
-        return false;
-    }
-    (bytes[0] == 0x50) & (bytes[1] == 0x59) & (bytes[2] == 0x52)
+    5 <= bytes.len() && bytes[0] == 0x50 && bytes[1] == 0x59 && bytes[2] == 0x52
 }
 
 // The trace that a file packs, or why it is turned back.
@@ -159,18 +156,13 @@ pub fn read(bytes: &[u8]) -> Reading
 }
 
 // The same as `read`, but where every record is good no core may be lost.
+#[tactic(auto, unfolding(crate::specs::WholeFile::read_whole_file))]
 pub fn read_whole(bytes: &[u8]) -> Reading
     ensures { result ≡ read_whole_file bytes.now }
 {
     let reading = read(bytes);
-    let answer = reading.answer;
-    match answer {
-        Answer::Good => {
-            if lost(reading.trace) {
-                return back(Reason::Lost, 0);
-            }
-            reading
-        }
-        Answer::Refused { .. } => reading,
+    match reading.answer {
+        Answer::Good if lost(reading.trace) => back(Reason::Lost, 0),
+        _ => reading,
     }
 }

@@ -1,7 +1,6 @@
 -- `pairs::kept`: the table's reading off two records.
 use mathlib.Core.Path.{sym, ◌∙◌}
 use Rattle.pairs.proofs.KeptPairs.{kept-parts}
-use borrow.Author.Rules.{rules}
 use Rattle.pairs.proofs.kept.Goals as goal
 
 pub returns : goal.returns

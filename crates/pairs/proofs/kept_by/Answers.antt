@@ -8,8 +8,8 @@ use lib.ListN.{get_or}
 use Rattle.laws.specs.Tests.{all}
 use Rattle.laws.proofs.Tests.{off}
 use Rattle.pairs.specs.Kept.{let_off, kept_by}
-use Rattle.pairs.proofs.KeptPairs.{side-two, entry-right, kept-by-iff}
-use borrow.Author.Rules.{rules}
+use Rattle.pairs.proofs.KeptPairs.{entry-right, kept-by-iff}
+use Rattle.pairs.proofs.kept_by.Goals.{else-model-le-MODELS-via-then-model-le-MODELS+then-first-lt-KINDS+else-second-lt-KINDS, else-model-le-MODELS-via-then-model-le-MODELS+else-first-lt-KINDS, else-model-le-MODELS-via-else-model-le-MODELS}
 use Rattle.pairs.proofs.kept_by.Goals as goal
 
 -- what an entry says at two addresses and at one
@@ -43,14 +43,13 @@ returns-then-second-lt-KINDS c =
     let a = c.args in
     subst
     (λ (s : ℕ). ◌≡◌ {A = Bool} (get_or (get_or (get_or (get_or table a.model []) a.first []) a.second []) s false) (kept_by a.model a.first a.second a.one))
-    (sym c.side-s.ensures)
+    (sym c.side.ensures)
     (entry-right table refl a.model a.first a.second a.one (omega arith) (omega arith) (omega arith))
 
-pub returns-else-second-lt-KINDS : goal.returns-else-second-lt-KINDS
-returns-else-second-lt-KINDS c = sym (off (λ s. let p = (kept-by-iff _ _ _ _).0 s in omega arith))
-
-pub returns-else-first-lt-KINDS : goal.returns-else-first-lt-KINDS
-returns-else-first-lt-KINDS c = sym (off (λ s. let p = (kept-by-iff _ _ _ _).0 s in omega arith))
-
-pub returns-else-model-le-MODELS : goal.returns-else-model-le-MODELS
-returns-else-model-le-MODELS c = sym (off (λ s. let p = (kept-by-iff _ _ _ _).0 s in omega arith))
+pub returns : goal.returns
+returns c =
+    elim c.else-model-le-MODELS.branch [
+      | else-model-le-MODELS-via-then-model-le-MODELS+then-first-lt-KINDS+else-second-lt-KINDS w ↦ sym (off (λ s. let p = (kept-by-iff _ _ _ _).0 s in omega (arith, w.if-second-lt-KINDS.false)))
+      | else-model-le-MODELS-via-then-model-le-MODELS+else-first-lt-KINDS w ↦ sym (off (λ s. let p = (kept-by-iff _ _ _ _).0 s in omega (arith, w.if-first-lt-KINDS.false)))
+      | else-model-le-MODELS-via-else-model-le-MODELS w ↦ sym (off (λ s. let p = (kept-by-iff _ _ _ _).0 s in omega (arith, w.if-model-le-MODELS.false)))
+    ]

@@ -1,6 +1,5 @@
 -- `pairs::kept_pair`: the parts of the definition, joined.
 use Rattle.pairs.specs.Kept.{kept_pair}
-use borrow.Author.Rules.{rules}
 use Rattle.pairs.proofs.kept_pair.Goals as goal
 
 pub returns : goal.returns

@@ -1,9 +1,7 @@
 -- `pairs::op_at`: past the array stands the first variant at zeros.
-use mathlib.Core.Path.{sym, ◌∙◌}
+use mathlib.Core.Path.{sym}
 use native.Mathlib.Omega.{arith}
-use lib.ListN.{length-map}
 use Rattle.trace.proofs.Places.{at-past}
-use borrow.Author.Rules.{rules}
 use Rattle.pairs.proofs.op_at.Goals as goal
 
 pub returns : goal.returns

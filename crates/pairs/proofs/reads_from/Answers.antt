@@ -1,6 +1,5 @@
 -- `pairs::reads_from`: the parts of the definition, joined.
 use Rattle.pairs.specs.SourceOf.{reads_from}
-use borrow.Author.Rules.{rules}
 use Rattle.pairs.proofs.reads_from.Goals as goal
 
 pub returns : goal.returns

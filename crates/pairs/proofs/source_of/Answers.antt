@@ -1,20 +1,15 @@
 -- `pairs::source_of`: no record passed is a source.
-use mathlib.Core.Path.{◌≡◌, sym, ap, ◌∙◌}
-use mathlib.Core.Bool.{false}
-use mathlib.Core.Logic.{⊎_elim}
-use Prim.Native.Nat.{ℕ, ◌<◌, ◌≤◌, ◌-◌}
+use mathlib.Core.Path.{sym, ap, ◌∙◌}
 use native.Mathlib.Omega.{arith}
 use borrow.Author.Count.{below_more}
 use borrow.Author.Tests.{not-true}
-use Rattle.trace.specs.Bounds.{RECORDS}
 use Rattle.trace.specs.Op.{address, read, reads}
 use Rattle.trace.specs.Trace.{first}
 use Rattle.trace.specs.Meaning.{frame_of}
-use Rattle.rules.specs.RuleTests.{source?}
 use Rattle.pairs.proofs.SourceOf.{source-of-found, source-of-none, source-of-idle}
 use Rattle.pairs.proofs.ReadsFrom.{source-other, source-of-first, source-at}
 use borrow.Author.Rules.{rules}
-use Rattle.pairs.proofs.source_of.Goals.{else-written-value, then-written-value+else-i-n}
+use Rattle.pairs.proofs.source_of.Goals.{else-written-value-via-else-written-value, else-written-value-via-then-written-value+else-i-n}
 use Rattle.pairs.proofs.source_of.Goals as goal
 
 pub returns-then-not-reads : goal.returns-then-not-reads
@@ -41,10 +36,10 @@ loop-i-preserved c =
     let a = c.args in (
       omega arith,
       below_more _ c.loop-i.i c.loop-i.invariant.1
-          ((elim c.if-written-value.branch [
-            | then-written-value+else-i-n w ↦ sym (source-at a.t c.loop-i.i a.load _ _ _ c.op_at-b.ensures (c.first-begins.ensures ∙ ap (first a.t) (c.address.ensures ∙ ap address c.op_at-b.ensures)) w.reads_from.ensures)
+          ((elim c.else-written-value.branch [
+            | else-written-value-via-then-written-value+else-i-n w ↦ sym (source-at a.t c.loop-i.i a.load _ _ _ c.op_at-b.ensures (c.first-begins.ensures ∙ ap (first a.t) (c.address.ensures ∙ ap address c.op_at-b.ensures)) w.reads_from.ensures)
                 ∙ w.if-i-n.false
-            | else-written-value w ↦ source-other a.t a.load _ (c.read-value.ensures ∙ ap read c.op_at-b.ensures) c.loop-i.i _ c.written.ensures w.if-written-value.false
+            | else-written-value-via-else-written-value w ↦ source-other a.t a.load _ (c.read-value.ensures ∙ ap read c.op_at-b.ensures) c.loop-i.i _ c.written.ensures w.if-written-value.false
           ])),
     )
 

@@ -1,7 +1,6 @@
 // The lines of a list: in numbers, or in words with the number that each entry has in its branch. Each function says whether it could write all.
 ghost use Rattle.std.specs.Prelude.{◌≤◌, ◌<◌, length};
 
-use saying::{say, say_u16, say_usize};
 use std::io;
 use std::io::Stdout;
 
@@ -26,55 +25,24 @@ struct Entry {
     end: usize,
 }
 
-// How far the words have come: the number of the next entry, how many splits are open, and whether there was room for them.
+// A split whose other side is still to come: its number, and its pair.
+#[derive(Clone, Copy, Default)]
+pub struct Split {
+    number: usize,
+    x: u16,
+    y: u16,
+}
+
+// How far the words have come: the number of the next entry, and how many splits are open.
 #[derive(Clone, Copy)]
 struct Walk {
     next: usize,
     open: usize,
-    fits: bool,
-}
-
-// The number at a place, 0 where there is none, so that no place is out of reach.
-fn number_at(list: &[u16], i: usize) -> u16 {
-    if i < list.len() {
-        return list[i];
-    }
-    0
-}
-
-// The same in a list of wider numbers.
-fn wide_at(list: &[usize], i: usize) -> usize {
-    if i < list.len() {
-        return list[i];
-    }
-    0
-}
-
-// Puts a number at a place, where there is one.
-fn put(list: &mut [u16], i: usize, x: u16) {
-    if i < list.len() {
-        list[i] = x;
-    }
-}
-
-// The same in a list of wider numbers.
-fn put_wide(list: &mut [usize], i: usize, x: usize) {
-    if i < list.len() {
-        list[i] = x;
-    }
-}
-
-// A number of the list as a count.
-fn wide(x: u16) -> usize {
-    x as usize
 }
 
 // The number after one.
 fn after(number: usize) -> usize {
-    if number < ENTRIES {
-        return number + 1;
-    }
-    number
+    if number < ENTRIES { number + 1 } else { number }
 }
 
 // The place behind k numbers from a place on; the list's end where it has no more.
@@ -82,10 +50,7 @@ fn behind(n: usize, from: usize, k: usize) -> usize
     requires { from ≤ n }
     ensures { (from ≤ result) × (result ≤ n) }
 {
-    if n - from < k {
-        return n;
-    }
-    from + k
+    if n - from < k { n } else { from + k }
 }
 
 // The entry that begins at a place. It ends further on, so that a walk from entry to entry comes to the list's end.
@@ -104,7 +69,7 @@ fn entry_at(list: &[u16], at: usize) -> Entry
         };
     }
     let from = at + 4;
-    let k = wide(list[at + 3]);
+    let k = list[at + 3] as usize;
     Entry {
         rule: list[at],
         x: list[at + 1],
@@ -116,20 +81,21 @@ fn entry_at(list: &[u16], at: usize) -> Entry
 
 // Prints the numbers from one place up to another, a space before each, and ends the line.
 fn say_rest(stdout: Stdout, list: &[u16], from: usize, end: usize) -> io::Result<()> {
-    let mut i = from;
-    while i < end {
-        say_u16(stdout, b" ", number_at(list, i))?;
-        i += 1;
+    if let Some(rest) = list.get(from..end) {
+        for x in rest {
+            print!(stdout; " {x}")?;
+        }
     }
-    say(stdout, b"\n")
+    println!(stdout; "")
 }
 
 // Prints the numbers of a list, an entry to a line.
 pub fn say_numbers(stdout: Stdout, list: &[u16]) -> io::Result<()> {
     let mut at: usize = 0;
+    // Not a `for`: each step ends where the entry does.
     while at < list.len() {
         let e = entry_at(list, at);
-        say_u16(stdout, b"", list[at])?;
+        print!(stdout; "{}", list[at])?;
         say_rest(stdout, list, at + 1, e.end)?;
         at = e.end;
     }
@@ -137,71 +103,63 @@ pub fn say_numbers(stdout: Stdout, list: &[u16]) -> io::Result<()> {
 }
 
 // Prints a number and the pair that it stands for, with what it is between them.
-fn say_pair(stdout: Stdout, number: usize, what: &[u8], x: u16, y: u16) -> io::Result<()> {
-    say_usize(stdout, b"", number)?;
-    say_u16(stdout, what, x)?;
-    say_u16(stdout, b" before ", y)
+fn say_pair(stdout: Stdout, number: usize, what: &str, x: u16, y: u16) -> io::Result<()> {
+    print!(stdout; "{number}: {what}{x} before {y}")
 }
 
 // Prints an edge, its rule and the entries that it rests on.
 fn say_edge(stdout: Stdout, list: &[u16], e: Entry, number: usize) -> io::Result<()> {
-    say_pair(stdout, number, b": ", e.x, e.y)?;
-    say_u16(stdout, b" by rule ", e.rule)?;
+    say_pair(stdout, number, "", e.x, e.y)?;
+    print!(stdout; " by rule {}", e.rule)?;
     if e.from < e.end {
-        say(stdout, b", from")?;
+        print!(stdout; ", from")?;
         return say_rest(stdout, list, e.from, e.end);
     }
-    say(stdout, b"\n")
+    println!(stdout; "")
 }
 
 // Prints the line of an entry.
 fn say_entry(stdout: Stdout, list: &[u16], e: Entry, number: usize) -> io::Result<()> {
     if e.rule == CLOSE {
-        say(stdout, b"circle")?;
+        print!(stdout; "circle")?;
         return say_rest(stdout, list, e.from, e.end);
     }
     if e.rule == SPLIT {
-        say_pair(stdout, number, b": split, ", e.x, e.y)?;
-        return say(stdout, b"\n");
+        say_pair(stdout, number, "split, ", e.x, e.y)?;
+        return println!(stdout; "");
     }
     say_edge(stdout, list, e, number)
 }
 
-// Behind a split: it is put on the stack of those that are open, where there is room.
-fn opened(e: Entry, w: Walk, numbers: &mut [usize], xs: &mut [u16], ys: &mut [u16]) -> Walk {
+// Behind a split: it is put on the stack of those that are open, if there is room.
+fn opened(e: Entry, w: Walk, splits: &mut [Split]) -> Option<Walk> {
     let open = w.open;
-    if OPEN <= open {
-        return Walk {
-            next: w.next,
-            open,
-            fits: false,
-        };
+    if splits.len() <= open {
+        return None;
     }
-    put_wide(numbers, open, w.next);
-    put(xs, open, e.x);
-    put(ys, open, e.y);
-    Walk {
+    splits[open] = Split {
+        number: w.next,
+        x: e.x,
+        y: e.y,
+    };
+    Some(Walk {
         next: after(w.next),
         open: open + 1,
-        fits: w.fits,
-    }
+    })
 }
 
 // Behind a circle: the latest open split is taken from the stack, if there is one, and its other side begins under its number.
-fn closed(stdout: Stdout, w: Walk, numbers: &[usize], xs: &[u16], ys: &[u16]) -> io::Result<Walk> {
+fn closed(stdout: Stdout, w: Walk, splits: &[Split]) -> io::Result<Walk> {
     if w.open == 0 {
         return Ok(w);
     }
     let open = w.open - 1;
-    let number = wide_at(numbers, open);
-    let x = number_at(xs, open);
-    let y = number_at(ys, open);
-    say_pair(stdout, number, b": other side, ", y, x)?;
-    say(stdout, b"\n")?;
+    let split = splits.get(open).copied().unwrap_or_default();
+    say_pair(stdout, split.number, "other side, ", split.y, split.x)?;
+    println!(stdout; "")?;
     Ok(Walk {
-        next: after(number),
+        next: after(split.number),
         open,
-        fits: w.fits,
     })
 }
 
@@ -209,50 +167,31 @@ fn closed(stdout: Stdout, w: Walk, numbers: &[usize], xs: &[u16], ys: &[u16]) ->
 fn passed(w: Walk) -> Walk {
     Walk {
         next: after(w.next),
-        open: w.open,
-        fits: w.fits,
+        ..w
     }
 }
 
-// What is so behind an entry.
-fn stepped(
-    stdout: Stdout,
-    e: Entry,
-    w: Walk,
-    numbers: &mut [usize],
-    xs: &mut [u16],
-    ys: &mut [u16],
-) -> io::Result<Walk> {
-    if e.rule == SPLIT {
-        return Ok(opened(e, w, numbers, xs, ys));
+// What is so behind an entry; nothing where a split has no room.
+fn stepped(stdout: Stdout, e: Entry, w: Walk, splits: &mut [Split]) -> io::Result<Option<Walk>> {
+    match e.rule {
+        SPLIT => Ok(opened(e, w, splits)),
+        CLOSE => Ok(Some(closed(stdout, w, splits)?)),
+        _ => Ok(Some(passed(w))),
     }
-    if e.rule == CLOSE {
-        return closed(stdout, w, numbers, xs, ys);
-    }
-    Ok(passed(w))
 }
 
-// Prints a list in words, with lent memory for the open splits: their numbers and pairs.
-pub fn say_lines(
-    stdout: Stdout,
-    list: &[u16],
-    numbers: &mut [usize],
-    xs: &mut [u16],
-    ys: &mut [u16],
-) -> io::Result<()> {
-    let mut w = Walk {
-        next: 0,
-        open: 0,
-        fits: true,
-    };
+// Prints a list in words, with lent memory for the open splits.
+pub fn say_lines(stdout: Stdout, list: &[u16], splits: &mut [Split]) -> io::Result<()> {
+    let mut w = Walk { next: 0, open: 0 };
     let mut at: usize = 0;
+    // Not a `for`: each step ends where the entry does.
     while at < list.len() {
         let e = entry_at(list, at);
         say_entry(stdout, list, e, w.next)?;
-        w = stepped(stdout, e, w, numbers, xs, ys)?;
-        if !w.fits {
-            return say(stdout, b"too long\n");
-        }
+        let Some(walk) = stepped(stdout, e, w, splits)? else {
+            return println!(stdout; "too long");
+        };
+        w = walk;
         at = e.end;
     }
     Ok(())

@@ -1,9 +1,6 @@
--- Each number takes a byte at least, so there are no more of them than bytes.
-use Rattle.std.proofs.Common.{length, ◌-◌, ◌≤◌}
+-- Only a number that has a place is counted.
+use Rattle.std.proofs.Common.{length, ◌≤◌}
 use Rattle.paper_reader.proofs.numbers.Given as goal
 
-abbrev pub invariant-loop-at : goal.invariant-loop-at
-invariant-loop-at l = l.count ≤ l.at
-
-abbrev pub decreases-loop-at : goal.decreases-loop-at
-decreases-loop-at l = length l.bytes - l.at
+abbrev pub invariant-loop-word : goal.invariant-loop-word
+invariant-loop-word l = l.count ≤ length l.list

@@ -11,36 +11,35 @@
 --   branch_after f K r from to other es == what is left to check once an entry has been taken: the rest es closes the branches that are left
 --   went r                     == how many entries the branch goes on with; 0 where it does not
 --   Taken                      == taking the entry e leaves that, and the branch has at most BRANCH entries
-use Rattle.std.specs.Prelude.{◌≡◌, Bool, true, false, ◌&&◌, List, [], ◌∷◌, ℕ, zero, suc, ◌≤◌, eqb, ltb, get_or}
-use Rattle.std.proofs.Math.Option.{Option, none, some}
+use Rattle.std.specs.Prelude.{◌≡◌, Bool, true, false, ◌&&◌, List, [], ◌∷◌, ℕ, zero, suc, ◌≤◌, eqb, ltb, get_or, Option, Some, None}
+use Rattle.std.proofs.Math.Option.{none, some}
+use Rattle.std.proofs.Math.Option as led
 use Rattle.laws.specs.Relation.{Table}
 use Rattle.laws.specs.ListOf.{row}
 use Rattle.rules.specs.Frame.{Frame}
 use Rattle.trace.specs.Bounds.{RECORDS}
 use Rattle.papers.specs.Paper.{Claim, Entry, BRANCH, edge_at, named, leads, refutes}
-use Rattle.papers.specs.declared.reading.Link.{Link}
-use Rattle.papers.specs.declared.reading.Link.TheVariants.{Between, Nowhere}
 use Rattle.papers.specs.declared.reading.Turn.{Turn}
 use Rattle.papers.specs.declared.reading.Turn.TheVariants.{Goes, Closed, Wrong}
 
 unfoldable pub branch_of : List ℕ → List ℕ → ℕ → List Claim
 branch_of from to n = row (λ i. record { from = get_or from i 0; to = get_or to i 0 }) 0 n
 
-abbrev pub between : ℕ → Option ℕ → Link
-between a (some b) = Between a b
-between a none = Nowhere
+abbrev pub between : ℕ → led.Option ℕ → Option (ℕ × ℕ)
+between a (some b) = Some (a, b)
+between a none = None
 
-unfoldable pub link_of : List Claim → List ℕ → Link
-link_of E [] = Nowhere
+unfoldable pub link_of : List Claim → List ℕ → Option (ℕ × ℕ)
+link_of E [] = None
 link_of E (i ∷ is) = between (edge_at E i).from (leads E (i ∷ is) (edge_at E i).from)
 
-unfoldable pub link_joins : Link → Table
-link_joins (Between a b) x y = (ltb a RECORDS && ltb b RECORDS) && (eqb x a && eqb y b)
-link_joins Nowhere x y = false
+unfoldable pub link_joins : Option (ℕ × ℕ) → Table
+link_joins (Some (a, b)) x y = (ltb a RECORDS && ltb b RECORDS) && (eqb x a && eqb y b)
+link_joins None x y = false
 
-unfoldable pub linked : Link → Table
-linked (Between a b) x y = eqb a x && eqb b y
-linked Nowhere x y = false
+unfoldable pub linked : Option (ℕ × ℕ) → Table
+linked (Some (a, b)) x y = eqb a x && eqb b y
+linked None x y = false
 
 unfoldable pub latest_of : List ℕ → ℕ → ℕ
 latest_of other zero = 0

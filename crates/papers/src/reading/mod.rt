@@ -17,60 +17,57 @@ use ruling::gives;
 use trace::Trace;
 use trace::form::well_formed;
 
-// What a list of numbers is: a paper that is accepted, or none; or there is no such model, or the trace is not well formed.
+// Why the question is turned back: there is no such model, or the trace is not well formed.
 #[derive(Clone, Copy)]
-pub enum Acceptance {
+pub enum Refusal {
     NoModel,
     NotWellFormed,
-    Accepted,
-    NotAccepted,
-}
-
-// Where a row of entries leads: from one record to another, or nowhere.
-#[derive(Clone, Copy)]
-pub enum Link {
-    Between(u16, u16),
-    Nowhere,
 }
 
 // A number of the list as a place.
 fn wide(x: u16) -> usize
     ensures { result ≡ x }
 {
-    x as usize
+    usize::from(x)
 }
 
-// Where the entries of these numbers lead, each from where the one before it led.
-fn lead(rests: &[u16], from: &[u16], to: &[u16], count: usize) -> Link
+// Where the entries of these numbers lead, each from where the one before it led: from one record to another, or nowhere.
+fn lead(rests: &[u16], from: &[u16], to: &[u16], count: usize) -> Option<(u16, u16)>
     requires { (count ≤ length from.now) × (count ≤ length to.now) }
     ensures { result ≡ link_of (branch_of from.now to.now count) rests.now }
 {
     if rests.len() == 0 {
-        return Link::Nowhere;
+        return None;
     }
     let first = wide(rests[0]);
     if count <= first {
-        return Link::Nowhere;
+        return None;
     }
     let start = from[first];
     let mut x = start;
-    let mut i: usize = 0;
-    while i < rests.len() {
+    for i in 0..rests.len() {
         let e = wide(rests[i]);
         if count <= e {
-            return Link::Nowhere;
+            return None;
         }
         if from[e] != x {
-            return Link::Nowhere;
+            return None;
         }
         x = to[e];
-        i += 1;
     }
-    Link::Between(start, x)
+    Some((start, x))
 }
 
 // Whether an entry that rests on k entries, which only one by rule 6 or 7 may, may name x before y by its rule, where the link is the only chain.
-fn fits(t: Trace, model: u8, rule: usize, x: usize, y: usize, k: usize, l: Link) -> bool
+fn fits(
+    t: Trace,
+    model: u8,
+    rule: usize,
+    x: usize,
+    y: usize,
+    k: usize,
+    l: Option<(u16, u16)>,
+) -> bool
     ensures { result ≡ (may_rest rule k && gives? (frame_of t) (kept_of model t) nothing (link_joins l) x y rule) }
 {
     let may = (6 <= rule) | (k == 0);
@@ -78,7 +75,7 @@ fn fits(t: Trace, model: u8, rule: usize, x: usize, y: usize, k: usize, l: Link)
         return false;
     }
     let mut chain = rows::empty();
-    let Link::Between(a, b) = l else {
+    let Some((a, b)) = l else {
         return gives(t, model, &chain, x, y, rule);
     };
     rows::put(&mut chain, wide(a), wide(b));
@@ -90,12 +87,10 @@ fn latest(other: &[u8], count: usize) -> usize
     requires { count ≤ length other.now }
     ensures { (result ≡ latest_of other.now count) × (result ≤ count) }
 {
-    let mut i = count;
-    while 0 < i {
-        if other[i - 1] == 1 {
-            return i;
+    for i in (0..count).rev() {
+        if other[i] == 1 {
+            return i + 1;
         }
-        i -= 1;
     }
     0
 }
@@ -118,12 +113,12 @@ fn other_side(from: &mut [u16], to: &mut [u16], other: &mut [u8], count: usize) 
 }
 
 // Whether the link leads from x, which is y, back to it.
-fn closes(l: Link, x: u16, y: u16) -> bool
+fn closes(l: Option<(u16, u16)>, x: u16, y: u16) -> bool
     ensures { result ≡ (eqb x y && linked l x y) }
 {
     match l {
-        Link::Between(a, b) => (x == y) & ((a == x) & (b == y)),
-        Link::Nowhere => false,
+        Some((a, b)) => (x == y) & ((a == x) & (b == y)),
+        None => false,
     }
 }
 
@@ -205,6 +200,7 @@ fn closing(
     let n = list.len();
     let mut count: usize = 0;
     let mut at: usize = 0;
+    // Not a `for`: an entry ends where it says.
     while 4 <= n - at {
         let k = wide(list[at + 3]);
         if n - at - 4 < k {
@@ -235,20 +231,18 @@ fn closing(
 
 // Whether the list is a paper that is accepted: reasons, from anyone, why the trace has no valid order under the model. A model that does not exist is
 // told first, then a trace that is not well formed.
-pub fn accepts(t: Trace, model: u8, list: &[u16]) -> Acceptance
+pub fn accepts(t: Trace, model: u8, list: &[u16]) -> Result<bool, Refusal>
     ensures { Accepts t model list.now result }
 {
     if !modelled(model) {
-        return Acceptance::NoModel;
+        return Err(Refusal::NoModel);
     }
     if !well_formed(t) {
-        return Acceptance::NotWellFormed;
+        return Err(Refusal::NotWellFormed);
     }
     let mut from = [0u16; BRANCH];
     let mut to = [0u16; BRANCH];
     let mut other = [0u8; BRANCH];
-    if closing(t, model, list, &mut from, &mut to, &mut other) {
-        return Acceptance::Accepted;
-    }
-    Acceptance::NotAccepted
+    let closed = closing(t, model, list, &mut from, &mut to, &mut other);
+    Ok(closed)
 }

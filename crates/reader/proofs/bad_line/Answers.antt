@@ -16,13 +16,13 @@ unfolding place_of
 ends c = ap (λ (p : Place). p.end) c.bad_place-place.ensures
 
 pub slice_bounds-result-count : goal.slice_bounds-result-count
-slice_bounds-result-count c = omega (arith, starts c, ends c, start-end c.args.text.now)
+slice_bounds-result-count c = omega (arith, starts (goal.at.slice_bounds-result-count c).After-bad_place-place, ends (goal.at.slice_bounds-result-count c).After-bad_place-place, start-end c.args.text.now)
 
 pub slice_bounds-result-start : goal.slice_bounds-result-start
-slice_bounds-result-start c = omega (arith, starts c, ends c, start-end c.args.text.now)
+slice_bounds-result-start c = omega (arith, starts (goal.at.slice_bounds-result-start c).After-bad_place-place, ends (goal.at.slice_bounds-result-start c).After-bad_place-place, start-end c.args.text.now)
 
 pub slice_bounds-result-end : goal.slice_bounds-result-end
-slice_bounds-result-end c = omega (arith, ends c, end-text c.args.text.now)
+slice_bounds-result-end c = omega (arith, ends (goal.at.slice_bounds-result-end c).After-bad_place-place, end-text c.args.text.now)
 
 pub returns : goal.returns
 returns c = rw (sym (starts (goal.at.returns c).After-bad_place-place), sym (ends (goal.at.returns c).After-bad_place-place)) (record { block = refl; place = omega arith; bytes = refl })

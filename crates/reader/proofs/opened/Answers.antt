@@ -14,7 +14,7 @@ use Rattle.reader.specs.Read.{none, read_lines, read_inits}
 use Rattle.reader.proofs.Begins.{Good, begins-good}
 use Rattle.reader.proofs.Walks.{read-begun, read_left}
 use Rattle.reader.proofs.BadLine.{start-on}
-use Rattle.reader.proofs.opened.Goals.{After-begin, After-line_end-end, In-Of}
+use Rattle.reader.proofs.opened.Goals.{After-begin, After-line_end-end, In-Some}
 use Rattle.reader.proofs.opened.Goals as goal
 
 pub loop-at-init : goal.loop-at-init
@@ -59,21 +59,21 @@ returns-in_default c =
     )
 
 -- the line gives a first value
-gives : (c : In-Of) → Good c.loop-at.given (here c.args.text.now c.loop-at.at) c.in-Of.addr c.in-Of.value
+gives : (c : In-Some) → Good c.loop-at.given (here c.args.text.now c.loop-at.at) c.in-Some.field-0.addr c.in-Some.field-0.value
 unfolding here
 gives c =
     let t = c.args.text.now in
     let said = c.begin.ensures ∙ ap (init_given c.loop-at.given) (λ k. record { bytes = line-part t c.loop-at.at c.line_end-end.result c.line_end-end.ensures k; ended = ltb (c.line_end-end.ensures k) (length t) }) in
-    begins-good c.loop-at.given (here t c.loop-at.at) _ _ (sym said ∙ c.in-Of.is)
+    begins-good c.loop-at.given (here t c.loop-at.at) _ _ (sym said ∙ c.in-Some.is)
 
 pub bounds-given-i : goal.bounds-given-i
-bounds-given-i c = omega (arith, (gives c).address)
+bounds-given-i c = omega (arith, (gives (goal.at.bounds-given-i c).In-Some).address)
 
 pub overflow_cast-trace : goal.overflow_cast-trace
-overflow_cast-trace c = omega (arith, (gives c).value)
+overflow_cast-trace c = omega (arith, (gives (goal.at.overflow_cast-trace c).In-Some).value)
 
 pub bounds-trace-i : goal.bounds-trace-i
-bounds-trace-i c = omega (arith, (gives c).address)
+bounds-trace-i c = omega (arith, (gives (goal.at.bounds-trace-i c).In-Some).address)
 
 pub slice_bounds-begin-end : goal.slice_bounds-begin-end
 slice_bounds-begin-end c = inside (goal.at.slice_bounds-begin-end c).After-line_end-end
@@ -88,12 +88,12 @@ pub loop-at-preserved : goal.loop-at-preserved
 unfolding behind started
 loop-at-preserved c =
     let t = c.args.text.now in
-    let q = sym (said (goal.at.loop-at-preserved c).After-begin) ∙ c.in-Of.is in
+    let q = sym (said (goal.at.loop-at-preserved c).After-begin) ∙ c.in-Some.is in
     let same : lines (drop (c.line_end-end.result + 1) t) ≡ behind c.args.text.now c.loop-at.at = ap (λ (n : ℕ). lines (drop (n + 1) t)) c.line_end-end.ensures in (
       omega (arith, c.line_end-end.ensures),
       omega arith,
       start-on t c.loop-at.line c.loop-at.at c.line_end-end.result c.loop-at.invariant.1 (c.loop-at.invariant.2 (omega arith)) c.line_end-end.ensures,
-      rw same (sym (read-begun c.loop-at.trace (here c.args.text.now c.loop-at.at) (behind c.args.text.now c.loop-at.at) c.loop-at.given c.in-Of.addr c.in-Of.value q c.loop-at.line) ∙ whole-read (goal.at.loop-at-preserved c).After-line_end-end),
+      rw same (sym (read-begun c.loop-at.trace (here c.args.text.now c.loop-at.at) (behind c.args.text.now c.loop-at.at) c.loop-at.given c.in-Some.field-0.addr c.in-Some.field-0.value q c.loop-at.line) ∙ whole-read (goal.at.loop-at-preserved c).After-line_end-end),
     )
 
 pub returns : goal.returns

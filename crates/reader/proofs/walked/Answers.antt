@@ -54,13 +54,13 @@ whole-read c =
 starts : (c : After-line_end-end) → c.loop-at.at ≡ line_start c.args.text.now c.loop-at.line
 starts c = c.loop-at.invariant.2 (omega arith)
 
-pub returns-in-Refused : goal.returns-in-Refused
+pub returns-in-Err : goal.returns-in-Err
 unfolding here
-returns-in-Refused c =
-    let q = sym (said (goal.at.returns-in-Refused c).After-turned) ∙ c.in-Refused.is in (
-      ap (λ (t : Trace). record { answer = Refused c.in-Refused.reason c.loop-at.line; trace = t }) c.empty-trace.ensures ∙ sym (read-refused c.loop-at.trace (here c.args.text.now c.loop-at.at) (behind c.args.text.now c.loop-at.at) c.in-Refused.reason q c.loop-at.line) ∙ whole-read (goal.at.returns-in-Refused c).After-line_end-end,
-      starts (goal.at.returns-in-Refused c).After-line_end-end,
-      end-told c.args.text.now c.loop-at.line c.loop-at.at c.line_end-end.result c.loop-at.invariant.1 (starts (goal.at.returns-in-Refused c).After-line_end-end) c.line_end-end.ensures,
+returns-in-Err c =
+    let q = sym (said (goal.at.returns-in-Err c).After-turned) ∙ c.in-Err.is in (
+      ap (λ (t : Trace). record { answer = Refused c.in-Err.reason c.loop-at.line; trace = t }) c.empty-trace.ensures ∙ sym (read-refused c.loop-at.trace (here c.args.text.now c.loop-at.at) (behind c.args.text.now c.loop-at.at) c.in-Err.reason q c.loop-at.line) ∙ whole-read (goal.at.returns-in-Err c).After-line_end-end,
+      starts (goal.at.returns-in-Err c).After-line_end-end,
+      end-told c.args.text.now c.loop-at.line c.loop-at.at c.line_end-end.result c.loop-at.invariant.1 (starts (goal.at.returns-in-Err c).After-line_end-end) c.line_end-end.ensures,
     )
 
 pub slice_bounds-turned-end : goal.slice_bounds-turned-end
@@ -73,21 +73,21 @@ pub loop-at-smaller : goal.loop-at-smaller
 loop-at-smaller c = let i = inside (goal.at.loop-at-smaller c).After-line_end-end in let e = c.line_end-end.ensures in omega arith
 
 -- the trace with the record behind it
-grown : (c : Joined-n-lt-RECORDS) → c.if-n-lt-RECORDS.trace ≡ pushed c.loop-at.trace c.in-Taken.op
+grown : (c : Joined-n-lt-RECORDS) → c.if-n-lt-RECORDS.trace ≡ pushed c.loop-at.trace c.in-Ok.op
 unfolding pushed
 grown c =
-    (elim c.if-n-lt-RECORDS.branch [ then-n-lt-RECORDS w ↦ w.trace-is ∙ sym (pushed_room c.loop-at.trace c.in-Taken.op w.if-n-lt-RECORDS.true) | else-n-lt-RECORDS w ↦ w.trace-is ∙ simp (le-ltb c.loop-at.trace.len RECORDS w.if-n-lt-RECORDS.false) ])
+    (elim c.if-n-lt-RECORDS.branch [ then-n-lt-RECORDS w ↦ w.trace-is ∙ sym (pushed_room c.loop-at.trace c.in-Ok.op w.if-n-lt-RECORDS.true) | else-n-lt-RECORDS w ↦ w.trace-is ∙ simp (le-ltb c.loop-at.trace.len RECORDS w.if-n-lt-RECORDS.false) ])
 
 pub loop-at-preserved : goal.loop-at-preserved
 unfolding behind
 loop-at-preserved c =
     let t = c.args.text.now in
-    let q = sym (said (goal.at.loop-at-preserved c).After-turned) ∙ c.in-Taken.is in
+    let q = sym (said (goal.at.loop-at-preserved c).After-turned) ∙ c.in-Ok.is in
     let same : lines (drop (c.line_end-end.result + 1) t) ≡ behind c.args.text.now c.loop-at.at = ap (λ (n : ℕ). lines (drop (n + 1) t)) c.line_end-end.ensures in (
       omega (arith, c.line_end-end.ensures),
       omega arith,
       start-on t c.loop-at.line c.loop-at.at c.line_end-end.result c.loop-at.invariant.1 (starts (goal.at.loop-at-preserved c).After-line_end-end) c.line_end-end.ensures,
-      rw (grown c, same) (sym (read_taken c.loop-at.trace (here c.args.text.now c.loop-at.at) (behind c.args.text.now c.loop-at.at) c.in-Taken.op q c.loop-at.line) ∙ whole-read (goal.at.loop-at-preserved c).After-line_end-end),
+      rw (grown c, same) (sym (read_taken c.loop-at.trace (here c.args.text.now c.loop-at.at) (behind c.args.text.now c.loop-at.at) c.in-Ok.op q c.loop-at.line) ∙ whole-read (goal.at.loop-at-preserved c).After-line_end-end),
     )
 
 pub returns : goal.returns

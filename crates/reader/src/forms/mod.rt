@@ -5,8 +5,7 @@ ghost use Rattle.text.specs.Template.{begins};
 ghost use Rattle.reader.specs.LineForms.{form_of, cut_form, init_of, cut_init};
 ghost use Rattle.reader.specs.inner.AfterThread.{plain_of, exchange_of, sync_of, behind_of};
 
-use crate::{Form, Init, Raw};
-use text::Number;
+use crate::{Init, Raw};
 use text::digits::number_at;
 use text::templates::fit;
 
@@ -24,64 +23,53 @@ fn colon_at(line: &[u8], at: usize) -> bool
 }
 
 // A store or a load behind its thread.
-fn plain_at(line: &[u8], at: usize, thread: u32) -> Form
+fn plain_at(line: &[u8], at: usize, thread: u32) -> Option<Raw>
     requires { thread ≤ VALUES }
     ensures { result ≡ cut_form (plain_of thread (drop at line.now)) }
 {
-    let store = fit(b"M[#] := #", line, at);
-    if store.fits {
-        let n = store.numbers;
-        return Form::Of(Raw::Store {
+    if let Some(n) = fit(b"M[#] := #", line, at) {
+        return Some(Raw::Store {
             thread,
             addr: n[0],
             written: n[1],
         });
     }
-    let load = fit(b"M[#] == #", line, at);
-    if load.fits {
-        let n = load.numbers;
-        return Form::Of(Raw::Load {
+    if let Some(n) = fit(b"M[#] == #", line, at) {
+        return Some(Raw::Load {
             thread,
             addr: n[0],
             read: n[1],
         });
     }
-    Form::Nothing
+    None
 }
 
 // A swap behind its thread.
-fn swap_at(line: &[u8], at: usize, thread: u32) -> Form
+fn swap_at(line: &[u8], at: usize, thread: u32) -> Option<Raw>
     requires { thread ≤ VALUES }
     ensures { result ≡ cut_form (exchange_of thread (drop at line.now)) }
 {
-    let swap = fit(b"{ M[#] == #; M[#] := # }", line, at);
-    if swap.fits {
-        let n = swap.numbers;
-        return Form::Of(Raw::Swap {
-            thread,
-            addr: n[0],
-            read: n[1],
-            second: n[2],
-            written: n[3],
-        });
-    }
-    Form::Nothing
+    let n = fit(b"{ M[#] == #; M[#] := # }", line, at)?;
+    Some(Raw::Swap {
+        thread,
+        addr: n[0],
+        read: n[1],
+        second: n[2],
+        written: n[3],
+    })
 }
 
 // A fence behind its thread.
-fn fence_at(line: &[u8], at: usize, thread: u32) -> Form
+fn fence_at(line: &[u8], at: usize, thread: u32) -> Option<Raw>
     requires { thread ≤ VALUES }
     ensures { result ≡ cut_form (sync_of thread (drop at line.now)) }
 {
-    let fence = fit(b"sync", line, at);
-    if fence.fits {
-        return Form::Of(Raw::Fence { thread });
-    }
-    Form::Nothing
+    fit(b"sync", line, at)?;
+    Some(Raw::Fence { thread })
 }
 
 // What stands behind the thread and its colon; its first byte tells which form can be meant.
-fn behind(line: &[u8], at: usize, thread: u32) -> Form
+fn behind(line: &[u8], at: usize, thread: u32) -> Option<Raw>
     requires { thread ≤ VALUES }
     ensures { result ≡ behind_of thread (drop at line.now) }
 {
@@ -95,33 +83,27 @@ fn behind(line: &[u8], at: usize, thread: u32) -> Form
         }
         return fence_at(line, at, thread);
     }
-    Form::Nothing
+    None
 }
 
 // The raw record that a line renders, if it renders any. The thread is read once for all forms.
-pub fn form(line: &[u8]) -> Form
+pub fn form(line: &[u8]) -> Option<Raw>
     ensures { result ≡ cut_form (form_of line.now) }
 {
-    let Number::At { value, end } = number_at(line, 0) else {
-        return Form::Nothing;
-    };
-    if colon_at(line, end) {
-        return behind(line, end + 2, value);
+    let thread = number_at(line, 0)?;
+    if colon_at(line, thread.end) {
+        return behind(line, thread.end + 2, thread.value);
     }
-    Form::Nothing
+    None
 }
 
 // The address and value that an init line names, if the line is one.
-pub fn init(line: &[u8]) -> Init
+pub fn init(line: &[u8]) -> Option<Init>
     ensures { result ≡ cut_init (init_of line.now) }
 {
-    let found = fit(b"init: M[#] := #", line, 0);
-    if found.fits {
-        let n = found.numbers;
-        return Init::Of {
-            addr: n[0],
-            value: n[1],
-        };
-    }
-    Init::Nothing
+    let n = fit(b"init: M[#] := #", line, 0)?;
+    Some(Init {
+        addr: n[0],
+        value: n[1],
+    })
 }

@@ -5,7 +5,7 @@ ghost use Rattle.reader.specs.Answer.{number_of, in_bounds, one_address, op_of, 
 ghost use Rattle.reader.specs.LineForms.{init_of};
 
 use crate::forms::{form, init};
-use crate::{Form, Init, LINE, Raw, Reason, Turn};
+use crate::{Init, LINE, Raw, Reason};
 use trace::form::fault_of;
 use trace::{ADDRESSES, FIRSTS, Fault, Op, THREADS, Trace, VALUES};
 
@@ -111,87 +111,85 @@ fn op_of(raw: Raw) -> Op
 }
 
 // A record of good numbers behind the trace so far.
-pub fn joined(t: Trace, op: Op) -> Turn
+pub fn joined(t: Trace, op: Op) -> Result<Op, Reason>
     ensures { result ≡ joined t op }
 {
     match fault_of(t, op) {
-        Fault::Nothing => Turn::Taken(op),
-        Fault::PastBound => Turn::Refused(Reason::PastBound),
-        Fault::FirstValue => Turn::Refused(Reason::FirstValue),
-        Fault::TooMany => Turn::Refused(Reason::TooMany),
-        Fault::Twice => Turn::Refused(Reason::Twice),
+        None => Ok(op),
+        Some(Fault::PastBound) => Err(Reason::PastBound),
+        Some(Fault::FirstValue) => Err(Reason::FirstValue),
+        Some(Fault::TooMany) => Err(Reason::TooMany),
+        Some(Fault::Twice) => Err(Reason::Twice),
     }
 }
 
 // A raw record behind the trace so far.
-pub fn checked(t: Trace, raw: Raw) -> Turn
+pub fn checked(t: Trace, raw: Raw) -> Result<Op, Reason>
     ensures { result ≡ checked t raw }
 {
     if in_bounds(raw) {
         if one_address(raw) {
             return joined(t, op_of(raw));
         }
-        return Turn::Refused(Reason::Addresses);
+        return Err(Reason::Addresses);
     }
-    Turn::Refused(Reason::PastBound)
+    Err(Reason::PastBound)
 }
 
 // An init line that gives no first value.
-fn late(addr: u32, value: u32) -> Turn
+fn late(addr: u32, value: u32) -> Result<Op, Reason>
     ensures { result ≡ late addr value }
 {
     let addresses = ADDRESSES as u32;
     if (addr < addresses) & (value < VALUES) {
-        return Turn::Refused(Reason::Late);
+        return Err(Reason::Late);
     }
-    Turn::Refused(Reason::PastBound)
+    Err(Reason::PastBound)
 }
 
 // A line that is no record's and gives no first value.
-fn unformed(bytes: &[u8]) -> Turn
+fn unformed(bytes: &[u8]) -> Result<Op, Reason>
     ensures { result ≡ unformed (init_of bytes.now) }
 {
     match init(bytes) {
-        Init::Of { addr, value } => late(addr, value),
-        Init::Nothing => Turn::Refused(Reason::NoForm),
+        Some(Init { addr, value }) => late(addr, value),
+        None => Err(Reason::NoForm),
     }
 }
 
 // A line behind the trace so far that gives no first value.
-pub fn turned(t: Trace, bytes: &[u8], ended: bool) -> Turn
+pub fn turned(t: Trace, bytes: &[u8], ended: bool) -> Result<Op, Reason>
     ensures { result ≡ turned t (record { bytes = bytes.entry.now; ended = ended }) }
 {
     if LINE < bytes.len() {
-        return Turn::Refused(Reason::LongLine);
+        return Err(Reason::LongLine);
     }
     if !ended {
-        return Turn::Refused(Reason::NoForm);
+        return Err(Reason::NoForm);
     }
     match form(bytes) {
-        Form::Of(raw) => checked(t, raw),
-        Form::Nothing => unformed(bytes),
+        Some(raw) => checked(t, raw),
+        None => unformed(bytes),
     }
 }
 
 // The address and first value of an init line that gives one: short, ended, in bounds, and no line above gave that address one.
-pub fn begin(given: &[bool; FIRSTS], bytes: &[u8], ended: bool) -> Init
+pub fn begin(given: &[bool; FIRSTS], bytes: &[u8], ended: bool) -> Option<Init>
     ensures { result ≡ init_given given.now (record { bytes = bytes.entry.now; ended = ended }) }
 {
     if LINE < bytes.len() {
-        return Init::Nothing;
+        return None;
     }
     if !ended {
-        return Init::Nothing;
+        return None;
     }
-    let Init::Of { addr, value } = init(bytes) else {
-        return Init::Nothing;
-    };
+    let Init { addr, value } = init(bytes)?;
     let addresses = ADDRESSES as u32;
     if (addr < addresses) & (value < VALUES) {
         let i = addr as usize;
         if !given[i] {
-            return Init::Of { addr, value };
+            return Some(Init { addr, value });
         }
     }
-    Init::Nothing
+    None
 }

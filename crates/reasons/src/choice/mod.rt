@@ -29,6 +29,7 @@ pub(crate) struct Choice {
 }
 
 // What comes next in a branch: its circle, or a split on two operations.
+// Not an `Option`: the circle is a thing that comes, and no lack of a split.
 #[derive(Clone, Copy)]
 pub(crate) enum Next {
     Circle,
@@ -41,11 +42,9 @@ pub(crate) fn note_read(t: Trace, read: &mut [u64])
     ensures { ReadRow (frame_of t) read.new }
 {
     rows::clear(read);
-    let mut load: usize = 0;
-    while load < RECORDS {
+    for load in 0..RECORDS {
         let source = source_of(t, load);
         rows::put(read, 0, source);
-        load += 1;
     }
 }
 
@@ -137,8 +136,7 @@ fn choose_from(
 {
     let n = t.len;
     let mut best = start;
-    let mut y = x + 1;
-    while y < n {
+    for y in x + 1..n {
         if BOTH <= best.rank {
             return best;
         }
@@ -146,7 +144,6 @@ fn choose_from(
         if best.rank < rank {
             best = Choice { rank, x, y };
         }
-        y += 1;
     }
     best
 }
@@ -162,10 +159,8 @@ fn choose(t: Trace, model: u8, supposed: &[u64], read: &[u64], held: &[u64]) -> 
         x: 0,
         y: 0,
     };
-    let mut x: usize = 0;
-    while x < n {
+    for x in 0..n {
         best = choose_from(t, model, supposed, read, held, x, best);
-        x += 1;
     }
     best
 }

@@ -14,7 +14,7 @@ ghost use Rattle.reasons.specs.Writing.{fallen, closing, leaf_of};
 ghost use Rattle.reasons.specs.inner.Laid.{EntriesTold};
 ghost use Rattle.reasons.specs.inner.PutKept.{PutKept};
 
-use crate::naming::{Put, Told, lay_entry, number_all};
+use crate::naming::{lay_entry, number_all};
 use crate::story::tell;
 use circle::trail::shown;
 use edges::force::last_round;
@@ -23,7 +23,7 @@ use trace::{RECORDS, Trace};
 // How an entry that closes a branch begins.
 const CLOSE: u16 = 0;
 
-// Tells the edges of round k from a by the steps to b, one after the other.
+// Tells the edges of round k from a by the steps to b, one after the other: how many entries the branch then has and the place after them, if there is room.
 fn tell_all(
     t: Trace,
     model: u8,
@@ -39,36 +39,28 @@ fn tell_all(
     out: &mut [u16],
     limit: usize,
     at: usize,
-) -> Told
+) -> Option<(usize, usize)>
     requires { So (well_formed t) × So (modelled model) × (len ≤ length steps.now) × (at ≤ limit) × (count ≤ BRANCH) × (length from.old ≡ BRANCH) × (length to.old ≡ BRANCH) }
     ensures { EntriesTold limit from.old to.old out.old count at (along (tell (frame_of t) (kept_of model t) (supposed_of t supposed.now) k) (branch_of from.old to.old count) a (take len steps.now) b) from.new to.new out.new result }
 {
     let mut x = a;
     let mut n = count;
     let mut p = at;
-    let mut i: usize = 0;
-    while i < len {
+    for i in 0..len {
         let z = steps[i];
-        match tell(
+        let (m, q) = tell(
             t, model, supposed, k, x as usize, z as usize, from, to, n, out, limit, p,
-        ) {
-            Told::On(m, q) => {
-                n = m;
-                p = q;
-                x = z;
-                i += 1;
-            }
-            Told::Over => {
-                return Told::Over;
-            }
-        }
+        )?;
+        n = m;
+        p = q;
+        x = z;
     }
     tell(
         t, model, supposed, k, x as usize, b as usize, from, to, n, out, limit, p,
     )
 }
 
-// Tells the circle of round k from s by the steps back to s, and closes the branch by it.
+// Tells the circle of round k from s by the steps back to s, and closes the branch by it: the place after it, if there is room.
 fn close(
     t: Trace,
     model: u8,
@@ -83,24 +75,21 @@ fn close(
     out: &mut [u16],
     limit: usize,
     at: usize,
-) -> Put
+) -> Option<usize>
     requires lengths { So (well_formed t) × So (modelled model) × (len ≤ length steps.now) × (len < RECORDS) × (at ≤ limit) × (length from.old ≡ BRANCH) × (length to.old ≡ BRANCH) }
     requires branch { (supposed_of t supposed.now ≡ inside (branch_of from.old to.old count)) × (count + length (along (tell (frame_of t) (kept_of model t) (inside (branch_of from.old to.old count)) k) (branch_of from.old to.old count) s (take len steps.now) s) ≤ BRANCH) }
     ensures { PutKept limit from.old to.old count out.old at (spell (closing (frame_of t) (kept_of model t) k (branch_of from.old to.old count) s (take len steps.now))) from.new to.new out.new result }
 {
-    match tell_all(
+    let (m, p) = tell_all(
         t, model, supposed, k, s, steps, len, s, from, to, count, out, limit, at,
-    ) {
-        Told::On(m, p) => {
-            let mut rests = [0u16; RECORDS];
-            number_all(from, to, m, s, steps, len, s, &mut rests);
-            lay_entry(CLOSE, s, s, len + 1, &rests, out, limit, p)
-        }
-        Told::Over => Put::Full,
-    }
+    )?;
+    let mut rests = [0u16; RECORDS];
+    number_all(from, to, m, s, steps, len, s, &mut rests);
+    lay_entry(CLOSE, s, s, len + 1, &rests, out, limit, p)
 }
 
-// Closes a branch that is contradicted: tells the circle shown of the first round that has one, and lays the entry of it.
+// Closes a branch that is contradicted: tells the circle shown of the first round that has one, and lays the entry of it. What comes
+// back is the place after it, if there is room.
 pub(crate) fn leaf(
     t: Trace,
     model: u8,
@@ -111,7 +100,7 @@ pub(crate) fn leaf(
     out: &mut [u16],
     limit: usize,
     at: usize,
-) -> Put
+) -> Option<usize>
     requires { So (well_formed t) × So (modelled model) × (supposed_of t supposed.now ≡ inside (branch_of from.old to.old count)) × So (fallen (frame_of t) (kept_of model t) (branch_of from.old to.old count)) × Fair (frame_of t).records (branch_of from.old to.old count) × (at ≤ limit) × (length from.old ≡ BRANCH) × (length to.old ≡ BRANCH) }
     ensures { PutKept limit from.old to.old count out.old at (spell (leaf_of (frame_of t) (kept_of model t) (branch_of from.old to.old count))) from.new to.new out.new result }
 {
@@ -120,7 +109,7 @@ pub(crate) fn leaf(
     let mut circle = [0u16; RECORDS];
     let n = shown(&edges, &mut circle);
     if n == 0 {
-        return Put::At(at);
+        return Some(at);
     }
     let s = circle[0];
     close(

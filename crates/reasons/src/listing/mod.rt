@@ -20,24 +20,20 @@ ghost use Rattle.reasons.specs.Writes.{LaidInFront, Writes};
 
 use crate::choice::{Next, next_of, note_read};
 use crate::leaf::leaf;
-use crate::naming::{Put, lay_entry};
+use crate::naming::lay_entry;
 use edges::sources::missing;
 use pairs::modelled;
-use pairs::sources::Found;
 use papers::BRANCH;
 use search::first::first_order;
 use trace::Trace;
 use trace::form::well_formed;
 
-// What comes of the question. The first two turn it back: a model that does not exist, a trace that is not well formed. A list that is shown comes with
-// its length.
+// Why the question is turned back: a model that does not exist, a trace that is not well formed, a list that is longer than the room.
 #[derive(Clone, Copy)]
-pub enum Listed {
+pub enum Reason {
     NoModel,
     NotWellFormed,
-    Nothing,
     TooLong,
-    Shown(usize),
 }
 
 // How an entry that splits a branch begins.
@@ -49,22 +45,21 @@ fn draw(from: &[u16], to: &[u16], n: usize, supposed: &mut [u64])
     ensures { NamedRows (branch_of from.now to.now n) supposed.new }
 {
     rows::clear(supposed);
-    let mut i: usize = 0;
-    while i < n {
+    for i in 0..n {
         rows::put(supposed, from[i] as usize, to[i] as usize);
-        i += 1;
     }
 }
 
-// Lays the entry of a split on x and y.
-fn lay_split(x: u16, y: u16, out: &mut [u16], limit: usize, at: usize) -> Put
+// Lays the entry of a split on x and y, and tells the place after it, if there is room.
+fn lay_split(x: u16, y: u16, out: &mut [u16], limit: usize, at: usize) -> Option<usize>
     requires { at ≤ limit }
     ensures { PutAt limit out.old at (spell (split_entry x y ∷ [])) out.new result }
 {
     lay_entry(SPLIT, x, y, 0, &[0u16; 1], out, limit, at)
 }
 
-// Lays the list for a branch, told that at most m splits in a row close it: its circle, or a split and then the lists for both sides.
+// Lays the list for a branch, told that at most m splits in a row close it: its circle, or a split and then the lists for both sides. What comes back
+// is the place after it, if there is room.
 fn paper(
     t: Trace,
     model: u8,
@@ -77,7 +72,7 @@ fn paper(
     out: &mut [u16],
     limit: usize,
     at: usize,
-) -> Put
+) -> Option<usize>
     requires lengths { So (well_formed t) × So (modelled model) × ReadRow (frame_of t) read.now × (length supposed.old ≡ CELLS) × (length from.old ≡ BRANCH) × (length to.old ≡ BRANCH) × (count ≤ BRANCH) × (at ≤ limit) }
     requires closable { Joins (frame_of t) (inside (branch_of from.old to.old count)) × Closable (frame_of t) (kept_of model t) m (branch_of from.old to.old count) }
     ensures { PutKept limit from.old to.old count out.old at (spell (paper_of (frame_of t) (kept_of model t) m (branch_of from.old to.old count))) from.new to.new out.new result }
@@ -88,12 +83,10 @@ fn paper(
     };
     let a = x as u16;
     let b = y as u16;
-    let Put::At(p) = lay_split(a, b, out, limit, at) else {
-        return Put::Full;
-    };
+    let p = lay_split(a, b, out, limit, at)?;
     from[count] = a;
     to[count] = b;
-    let Put::At(q) = paper(
+    let q = paper(
         t,
         model,
         read,
@@ -105,9 +98,7 @@ fn paper(
         out,
         limit,
         p,
-    ) else {
-        return Put::Full;
-    };
+    )?;
     from[count] = b;
     to[count] = a;
     paper(
@@ -125,8 +116,8 @@ fn paper(
     )
 }
 
-// Lays the whole list for a trace that has no valid order, for no missing source.
-fn whole(t: Trace, model: u8, out: &mut [u16], limit: usize) -> Put
+// Lays the whole list for a trace that has no valid order, for no missing source: the place after it, if there is room.
+fn whole(t: Trace, model: u8, out: &mut [u16], limit: usize) -> Option<usize>
     requires { So (well_formed t) × So (modelled model) × Sourced (frame_of t) × ((xs : List ℕ) → Valid (frame_of t) (kept_of model t) xs → ⊥) }
     ensures { PutAt limit out.old 0 (spell (paper (frame_of t) (kept_of model t))) out.new result }
 {
@@ -152,20 +143,25 @@ fn whole(t: Trace, model: u8, out: &mut [u16], limit: usize) -> Put
 }
 
 // Lays the whole list in front of the room, if it is no longer: a first pass only counts, and whatever it lays goes to spare memory.
-fn lay_counted(t: Trace, model: u8, spare: &mut [u16], room: &mut [u16]) -> Listed
+fn lay_counted(
+    t: Trace,
+    model: u8,
+    spare: &mut [u16],
+    room: &mut [u16],
+) -> Result<Option<usize>, Reason>
     requires { So (well_formed t) × So (modelled model) × Sourced (frame_of t) × ((xs : List ℕ) → Valid (frame_of t) (kept_of model t) xs → ⊥) }
     ensures { LaidInFront (spell (paper (frame_of t) (kept_of model t))) room.old room.new result }
 {
     let limit = room.len();
-    let Put::At(n) = whole(t, model, spare, limit) else {
-        return Listed::TooLong;
+    let Some(n) = whole(t, model, spare, limit) else {
+        return Err(Reason::TooLong);
     };
     whole(t, model, room, limit);
-    Listed::Shown(n)
+    Ok(Some(n))
 }
 
 // Lays the whole list in front of the room, if it is no longer.
-fn lay_paper(t: Trace, model: u8, room: &mut [u16]) -> Listed
+fn lay_paper(t: Trace, model: u8, room: &mut [u16]) -> Result<Option<usize>, Reason>
     requires { So (well_formed t) × So (modelled model) × Sourced (frame_of t) × ((xs : List ℕ) → Valid (frame_of t) (kept_of model t) xs → ⊥) }
     ensures { LaidInFront (spell (paper (frame_of t) (kept_of model t))) room.old room.new result }
 {
@@ -173,24 +169,24 @@ fn lay_paper(t: Trace, model: u8, room: &mut [u16]) -> Listed
     lay_counted(t, model, &mut none, room)
 }
 
-// Writes why a trace has no valid order under a model, as a list that the small reader accepts. A model that does not exist is told first, then a
-// trace that is not well formed; where there is an order or a source is missing, there is nothing to show. A list that is longer than the room is
-// not written at all.
-pub fn write(t: Trace, model: u8, room: &mut [u16]) -> Listed
+// Writes why a trace has no valid order under a model, as a list that the small reader accepts: how many numbers it has. A model that does not exist is
+// told first, then a trace that is not well formed; where there is an order or a source is missing, there is nothing to show. A list that is longer
+// than the room is not written at all.
+pub fn write(t: Trace, model: u8, room: &mut [u16]) -> Result<Option<usize>, Reason>
     ensures { Writes t model room.old room.new result }
 {
     if !modelled(model) {
-        return Listed::NoModel;
+        return Err(Reason::NoModel);
     }
     if !well_formed(t) {
-        return Listed::NotWellFormed;
+        return Err(Reason::NotWellFormed);
     }
-    let Found::Nothing = missing(t) else {
-        return Listed::Nothing;
+    let None = missing(t) else {
+        return Ok(None);
     };
     let order = first_order(t, model);
     if order.found {
-        return Listed::Nothing;
+        return Ok(None);
     }
     lay_paper(t, model, room)
 }

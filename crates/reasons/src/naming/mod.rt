@@ -7,31 +7,15 @@ ghost use Rattle.reasons.specs.inner.Laid.{PutAt, EntriesTold};
 
 use papers::BRANCH;
 
-// The place after numbers that were laid, or that they pass the limit.
-#[derive(Clone, Copy)]
-pub(crate) enum Put {
-    At(usize),
-    Full,
-}
-
-// How many entries the branch has and the place after them, once they are told, or that there is no room for them.
-#[derive(Clone, Copy)]
-pub(crate) enum Told {
-    On(usize, usize),
-    Over,
-}
-
 // The lowest place of an entry that is x before y; how many entries there are where none is.
 pub(crate) fn place(from: &[u16], to: &[u16], count: usize, x: u16, y: u16) -> usize
     requires { (count ≤ length from.now) × (count ≤ length to.now) }
     ensures { result ≡ entry_place (branch_of from.now to.now count) x y }
 {
-    let mut i: usize = 0;
-    while i < count {
+    for i in 0..count {
         if (from[i] == x) & (to[i] == y) {
             return i;
         }
-        i += 1;
     }
     count
 }
@@ -63,35 +47,37 @@ pub(crate) fn number_all(
     ensures { take (len + 1) rests.new ≡ numbers (branch_of from.now to.now count) a (take len steps.now) b }
 {
     let mut x = a;
-    let mut i: usize = 0;
-    while i < len {
+    for i in 0..len {
         let z = steps[i];
         rests[i] = number(from, to, count, x, z);
         x = z;
-        i += 1;
     }
     rests[len] = number(from, to, count, x, b);
 }
 
-// Lays the first n of these numbers, where they do not pass the limit.
-pub(crate) fn lay(words: &[u16], n: usize, out: &mut [u16], limit: usize, at: usize) -> Put
+// Lays the first n of these numbers, where they do not pass the limit, and tells the place after them.
+pub(crate) fn lay(
+    words: &[u16],
+    n: usize,
+    out: &mut [u16],
+    limit: usize,
+    at: usize,
+) -> Option<usize>
     requires { (n ≤ length words.now) × (at ≤ limit) }
     ensures { PutAt limit out.old at (take n words.now) out.new result }
 {
     if limit - at < n {
-        return Put::Full;
+        return None;
     }
-    let mut i: usize = 0;
-    while i < n {
+    for i in 0..n {
         if at + i < out.len() {
             out[at + i] = words[i];
         }
-        i += 1;
     }
-    Put::At(at + n)
+    Some(at + n)
 }
 
-// Lays one entry, which rests on the first k of these.
+// Lays one entry, which rests on the first k of these, and tells the place after it.
 pub(crate) fn lay_entry(
     rule: u16,
     x: u16,
@@ -101,18 +87,16 @@ pub(crate) fn lay_entry(
     out: &mut [u16],
     limit: usize,
     at: usize,
-) -> Put
+) -> Option<usize>
     requires { (k ≤ length rests.now) × (k < 65536) × (at ≤ limit) }
     ensures { PutAt limit out.old at (spell (record { rule = rule; from = x; to = y; rests = take k rests.now } ∷ [])) out.new result }
 {
     let head = [rule, x, y, k as u16];
-    match lay(&head, 4, out, limit, at) {
-        Put::At(p) => lay(rests, k, out, limit, p),
-        Put::Full => Put::Full,
-    }
+    let p = lay(&head, 4, out, limit, at)?;
+    lay(rests, k, out, limit, p)
 }
 
-// Lays one entry and names it in the branch, where there is room for it.
+// Lays one entry and names it in the branch, where there is room for it, and tells how many entries the branch then has and the place after it.
 pub(crate) fn name(
     rule: u16,
     x: u16,
@@ -125,19 +109,15 @@ pub(crate) fn name(
     out: &mut [u16],
     limit: usize,
     at: usize,
-) -> Told
+) -> Option<(usize, usize)>
     requires { (k ≤ length rests.now) × (k < 65536) × (at ≤ limit) × (length from.old ≡ BRANCH) × (length to.old ≡ BRANCH) }
     ensures { EntriesTold limit from.old to.old out.old count at (record { rule = rule; from = x; to = y; rests = take k rests.now } ∷ []) from.new to.new out.new result }
 {
     if BRANCH <= count {
-        return Told::Over;
+        return None;
     }
-    match lay_entry(rule, x, y, k, rests, out, limit, at) {
-        Put::At(p) => {
-            from[count] = x;
-            to[count] = y;
-            Told::On(count + 1, p)
-        }
-        Put::Full => Told::Over,
-    }
+    let p = lay_entry(rule, x, y, k, rests, out, limit, at)?;
+    from[count] = x;
+    to[count] = y;
+    Some((count + 1, p))
 }

@@ -14,12 +14,10 @@ fn onward(edges: &[u64], chains: &[u64], x: usize, b: usize) -> usize
     ensures { (result ≡ step_of (bit edges.now) (bit chains.now) x b) × (result ≤ RECORDS) }
 {
     let mut found = RECORDS;
-    let mut z: usize = 0;
-    while z < RECORDS {
+    for z in 0..RECORDS {
         if rows::test(edges, x, z) & rows::test(chains, z, b) {
             found = z;
         }
-        z += 1;
     }
     found
 }
@@ -30,30 +28,26 @@ pub(crate) fn way(edges: &[u64], chains: &[u64], a: usize, b: usize, out: &mut [
     ensures { (result ≤ RECORDS) × (take result out.new ≡ way_of (bit edges.now) (bit chains.now) RECORDS a b) }
 {
     let mut x = a;
-    let mut i: usize = 0;
-    while i < RECORDS {
+    for i in 0..RECORDS {
         if rows::test(edges, x, b) {
             return i;
         }
         x = onward(edges, chains, x, b);
         out[i] = x as u16;
-        i += 1;
     }
-    i
+    RECORDS
 }
 
 // The lowest load that reads from y and that a chain leads to from x, x itself excepted; RECORDS where there is none.
 pub(crate) fn load_of(t: Trace, chains: &[u64], x: usize, y: usize) -> usize
     ensures { (result ≡ rest_load (frame_of t) (bit chains.now) x y) × (result ≤ RECORDS) }
 {
-    let mut load: usize = 0;
-    while load < RECORDS {
+    for load in 0..RECORDS {
         if rows::test(chains, x, load) {
             if (source_of(t, load) == y) & (x != load) {
                 return load;
             }
         }
-        load += 1;
     }
     RECORDS
 }

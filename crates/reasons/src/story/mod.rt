@@ -1,5 +1,5 @@
 // What the writer tells of an edge: the edge itself, and before it what it rests on.
-ghost use Rattle.std.specs.Prelude.{◌≡◌, cond, [], ◌∷◌, ◌<◌, ◌≤◌, eqb, length, take};
+ghost use Rattle.std.specs.Prelude.{◌≡◌, cond, [], ◌∷◌, ◌<◌, ◌≤◌, eqb, length, take, None};
 ghost use Rattle.std.proofs.Math.Bool.{So};
 ghost use Rattle.trace.specs.Bounds.{RECORDS};
 ghost use Rattle.trace.specs.WellFormed.{well_formed};
@@ -14,35 +14,36 @@ ghost use Rattle.reasons.specs.Telling.{numbers, rest_load, tell};
 ghost use Rattle.reasons.specs.inner.Rests.{RestsOn};
 ghost use Rattle.reasons.specs.inner.Laid.{EntriesTold};
 
-use crate::naming::{Told, name, number_all, place};
+use crate::naming::{name, number_all, place};
 use crate::paths::{load_of, way};
 use edges::force::round_before;
 use pairs::source_of;
 use ruling::lowest_rule;
 use trace::{RECORDS, Trace};
 
-// What an edge rests on: nothing, if it is bare; or a chain of the round of a number, from one record to another by so many steps. And the rule that gives it.
+// A chain of the round of a number, from one record to another by so many steps.
 #[derive(Clone, Copy)]
-pub(crate) struct Rest {
-    pub(crate) bare: bool,
-    pub(crate) rule: u16,
+pub(crate) struct Chain {
     pub(crate) number: usize,
     pub(crate) from: usize,
     pub(crate) to: usize,
     pub(crate) len: usize,
 }
 
+// The rule that gives an edge, and the chain that the edge rests on, if it rests on any.
+#[derive(Clone, Copy)]
+pub(crate) struct Rest {
+    pub(crate) rule: u16,
+    pub(crate) chain: Option<Chain>,
+}
+
 // An edge that rests on nothing.
 fn alone(rule: u8) -> Rest
-    ensures { (So result.bare) × (result.rule ≡ rule) × (result.from ≡ 0) × (result.to ≡ 0) × (result.len ≡ 0) }
+    ensures { (result.rule ≡ rule) × (result.chain ≡ None) }
 {
     Rest {
-        bare: true,
         rule: rule as u16,
-        number: 0,
-        from: 0,
-        to: 0,
-        len: 0,
+        chain: None,
     }
 }
 
@@ -79,7 +80,7 @@ fn rests_on(
     steps: &mut [u16],
 ) -> Rest
     requires { So (well_formed t) × So (modelled model) × (x < 65536) × (y < 65536) × (length steps.old ≡ RECORDS) }
-    ensures { RestsOn (frame_of t) (kept_of model t) (supposed_of t supposed.now) k x y steps.new result }
+    ensures { RestsOn (frame_of t) (kept_of model t) (supposed_of t supposed.now) k x y steps.new result.rule result.chain }
 {
     let rule = lowest_rule(t, model, &[0u64; rows::WORDS], x, y);
     if rule != 0 {
@@ -96,18 +97,20 @@ fn rests_on(
     let to = rest_to(t, &chains, rule, x, y);
     let len = way(&edges, &chains, from, to, steps);
     Rest {
-        bare: false,
         rule: rule as u16,
-        number: last.number,
-        from,
-        to,
-        len,
+        chain: Some(Chain {
+            number: last.number,
+            from,
+            to,
+            len,
+        }),
     }
 }
 
-// Names an edge with the numbers of the edges that it rests on.
+// Names an edge with the numbers of the edges of the chain that it rests on, and tells how many entries the branch then has and the place after them.
 fn name_resting(
-    rest: Rest,
+    rule: u16,
+    chain: Chain,
     x: u16,
     y: u16,
     steps: &[u16],
@@ -117,31 +120,20 @@ fn name_resting(
     out: &mut [u16],
     limit: usize,
     at: usize,
-) -> Told
-    requires { (rest.from < 65536) × (rest.to < 65536) × (rest.len ≤ RECORDS) × (length steps.now ≡ RECORDS) × (at ≤ limit) × (count ≤ BRANCH) × (length from.old ≡ BRANCH) × (length to.old ≡ BRANCH) }
-    ensures { EntriesTold limit from.old to.old out.old count at (record { rule = rest.rule; from = x; to = y; rests = numbers (branch_of from.old to.old count) rest.from (take rest.len steps.now) rest.to } ∷ []) from.new to.new out.new result }
+) -> Option<(usize, usize)>
+    requires { (chain.from < 65536) × (chain.to < 65536) × (chain.len ≤ RECORDS) × (length steps.now ≡ RECORDS) × (at ≤ limit) × (count ≤ BRANCH) × (length from.old ≡ BRANCH) × (length to.old ≡ BRANCH) }
+    ensures { EntriesTold limit from.old to.old out.old count at (record { rule = rule; from = x; to = y; rests = numbers (branch_of from.old to.old count) chain.from (take chain.len steps.now) chain.to } ∷ []) from.new to.new out.new result }
 {
-    let a = rest.from as u16;
-    let b = rest.to as u16;
-    let len = rest.len;
+    let a = chain.from as u16;
+    let b = chain.to as u16;
+    let len = chain.len;
     let mut rests = [0u16; RECORDS + 1];
     number_all(from, to, count, a, steps, len, b, &mut rests);
-    name(
-        rest.rule,
-        x,
-        y,
-        len + 1,
-        &rests,
-        from,
-        to,
-        count,
-        out,
-        limit,
-        at,
-    )
+    name(rule, x, y, len + 1, &rests, from, to, count, out, limit, at)
 }
 
-// Tells an edge x, y of round k: nothing where the branch names it; otherwise first what it rests on, and then the edge.
+// Tells an edge x, y of round k: nothing where the branch names it; otherwise first what it rests on, and then the edge. What comes back is how
+// many entries the branch then has and the place after them, if there is room.
 pub(crate) fn tell(
     t: Trace,
     model: u8,
@@ -155,32 +147,30 @@ pub(crate) fn tell(
     out: &mut [u16],
     limit: usize,
     at: usize,
-) -> Told
+) -> Option<(usize, usize)>
     requires { So (well_formed t) × So (modelled model) × (x < 65536) × (y < 65536) × (at ≤ limit) × (count ≤ BRANCH) × (length from.old ≡ BRANCH) × (length to.old ≡ BRANCH) }
     ensures { EntriesTold limit from.old to.old out.old count at (tell (frame_of t) (kept_of model t) (supposed_of t supposed.now) k (branch_of from.old to.old count) x y) from.new to.new out.new result }
 {
     let p = x as u16;
     let q = y as u16;
     if place(from, to, count, p, q) < count {
-        return Told::On(count, at);
+        return Some((count, at));
     }
     let mut steps = [0u16; RECORDS];
     let rest = rests_on(t, model, supposed, k, x, y, &mut steps);
-    if rest.bare {
+    let Some(chain) = rest.chain else {
         return name(rest.rule, p, q, 0, &steps, from, to, count, out, limit, at);
-    }
-    let len = rest.len;
-    let mut z = rest.from;
+    };
+    let mut z = chain.from;
     let mut n = count;
     let mut w = at;
-    let mut i: usize = 0;
-    while i < len {
+    for i in 0..chain.len {
         let next = steps[i] as usize;
-        let Told::On(m, v) = tell(
+        let (m, v) = tell(
             t,
             model,
             supposed,
-            rest.number,
+            chain.number,
             z,
             next,
             from,
@@ -189,29 +179,24 @@ pub(crate) fn tell(
             out,
             limit,
             w,
-        ) else {
-            return Told::Over;
-        };
+        )?;
         n = m;
         w = v;
         z = next;
-        i += 1;
     }
-    let Told::On(m, v) = tell(
+    let (m, v) = tell(
         t,
         model,
         supposed,
-        rest.number,
+        chain.number,
         z,
-        rest.to,
+        chain.to,
         from,
         to,
         n,
         out,
         limit,
         w,
-    ) else {
-        return Told::Over;
-    };
-    name_resting(rest, p, q, &steps, from, to, m, out, limit, v)
+    )?;
+    name_resting(rest.rule, chain, p, q, &steps, from, to, m, out, limit, v)
 }

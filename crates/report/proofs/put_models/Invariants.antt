@@ -1,10 +1,7 @@
-use Prim.Native.Nat.{◌≤◌, ◌-◌}
+use Prim.Native.Nat.{◌≤◌, ◌+◌, ◌-◌}
 use Rattle.pairs.specs.Kept.{MODELS}
 use Rattle.report.specs.Wrote.{WroteLines}
 use Rattle.report.proofs.put_models.Given as goal
 
 abbrev pub invariant-loop-model : goal.invariant-loop-model
-invariant-loop-model l = (l.model ≤ MODELS) × WroteLines l.t l.model l.initial.out l.out l.at
-
-abbrev pub decreases-loop-model : goal.decreases-loop-model
-decreases-loop-model l = MODELS - l.model
+invariant-loop-model l = (1 ≤ l.model) × (l.model ≤ MODELS + 1) × WroteLines l.t (l.model - 1) l.initial.out l.out l.at

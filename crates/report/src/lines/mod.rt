@@ -45,14 +45,10 @@ fn put_said(v: Verdict, out: &mut [u8], at: usize) -> usize
     requires { (at + SAID ≤ length out.old) × (v.len ≤ RECORDS) × RecordNumbers v.operations }
     ensures { Wrote out.old at (saying v) out.new result × (result ≤ at + SAID) }
 {
-    let len = v.len;
-    let operations = v.operations;
-    let rules = v.rules;
-    let outcome = v.outcome;
-    match outcome {
+    match v.outcome {
         Outcome::NoSource(x) => put_after(b"no order, no source ", x, out, at),
-        Outcome::Circle => put_circle(&operations[..len], &rules[..len], out, at),
-        Outcome::Order => put_order(&operations[..len], out, at),
+        Outcome::Circle => put_circle(&v.operations[..v.len], &v.rules[..v.len], out, at),
+        Outcome::Order => put_order(&v.operations[..v.len], out, at),
         Outcome::NoneLeft => put_word(b"no order, none left", out, at),
         Outcome::NoModel => put_after(b"refused ", 9, out, at),
         Outcome::NotWellFormed => put_after(b"refused ", 10, out, at),

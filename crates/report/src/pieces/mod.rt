@@ -59,11 +59,8 @@ pub(crate) fn put_numbers(list: &[u16], out: &mut [u8], at: usize) -> usize
     ensures { Wrote out.old at (spaced list.now) out.new result × (result ≤ at + NUMBER * length list.now) }
 {
     let mut end = at;
-    let mut i: usize = 0;
-    while i < list.len() {
-        let n = list[i] as usize;
-        end = put_one(n, out, end);
-        i += 1;
+    for &n in list {
+        end = put_one(n as usize, out, end);
     }
     end
 }
@@ -74,11 +71,8 @@ pub(crate) fn put_rules(rules: &[u8], out: &mut [u8], at: usize) -> usize
     ensures { Wrote out.old at (spaced rules.now) out.new result × (result ≤ at + NUMBER * length rules.now) }
 {
     let mut end = at;
-    let mut i: usize = 0;
-    while i < rules.len() {
-        let rule = rules[i] as usize;
-        end = put_one(rule, out, end);
-        i += 1;
+    for &rule in rules {
+        end = put_one(rule as usize, out, end);
     }
     end
 }

@@ -63,12 +63,9 @@ fn put_form(form: &[u8], numbers: &[u16], out: &mut [u8], at: usize) -> usize
 {
     let mut end = at;
     let mut n: usize = 0;
-    let mut k: usize = 0;
-    while k < form.len() {
-        let b = form[k];
+    for &b in form {
         end = put_step(b, nth(numbers, n), out, end);
         n = past(b, n);
-        k += 1;
     }
     end
 }
@@ -146,10 +143,8 @@ fn put_inits(t: Trace, out: &mut [u8]) -> usize
     ensures { Wrote out.old 0 (render_inits (inits_of t)) out.new result × (result ≤ RECORD-LINE * ADDRESSES) }
 {
     let mut end: usize = 0;
-    let mut addr: u8 = 0;
-    while addr < ADDRESSES {
+    for addr in 0..ADDRESSES {
         end = put_init(addr, first(t, addr), out, end);
-        addr += 1;
     }
     end
 }
@@ -161,12 +156,8 @@ fn put_records(t: Trace, out: &mut [u8], at: usize) -> usize
 {
     let n = held(t);
     let mut end: usize = at;
-    let mut i: usize = 0;
-    while i < n {
-        let record = t.records[i];
-        let op = record.op;
-        end = put_record(op, out, end);
-        i += 1;
+    for i in 0..n {
+        end = put_record(t.records[i].op, out, end);
     }
     end
 }

@@ -1,10 +1,8 @@
 -- `rows::add_row`: the words of row m below i are taken over.
 use mathlib.Core.Path.{◌≡◌, refl, ap, ◌∙◌}
-use mathlib.Core.Logic.{⊎_elim}
-use Prim.Native.Nat.{◌≤◌, ◌-◌, ◌+◌, ◌*◌}
+use Prim.Native.Nat.{◌+◌, ◌*◌}
 use native.Mathlib.Omega.{arith}
 use borrow.Author.Tests.{lt-ltb, le-ltb}
-use borrow.Author.Rules.{rules}
 use lib.ListN.{length}
 use Rattle.trace.specs.Bounds.{RECORDS}
 use Rattle.rows.specs.Bounds.{WORDS}
@@ -33,9 +31,6 @@ loop-i-preserved c =
       | else-at-to w ↦ let e : c.if-at-to.to ≡ c.loop-i.to = w.to-is in
           (omega arith, ap length e ∙ c.loop-i.invariant.1, e ∙ taken-past a.from.now a.m a.to.now a.x c.loop-i.i c.loop-i.to c.loop-i.invariant.2 w.if-at-to.false)
     ])
-
-pub shape_of-to : goal.shape_of-to
-shape_of-to c = c.loop-i.invariant.1
 
 pub returns : goal.returns
 unfolding add_row_of

@@ -1,14 +1,9 @@
 -- `rows::close_forward`: the rows from x on hold the chains, those before x are as they were.
 use mathlib.Core.Path.{◌∙◌}
-use Prim.Native.Nat.{◌≤◌, ◌-◌}
+use Prim.Native.Nat.{◌-◌}
 use native.Mathlib.Omega.{arith}
-use borrow.Author.Rules.{rules}
-use Rattle.trace.specs.Bounds.{RECORDS}
-use Rattle.rows.proofs.Forwards.{ClosedFrom, from-none, from_more, from_all, from-forward, from_past}
+use Rattle.rows.proofs.Forwards.{from_more, from-forward, from_past}
 use Rattle.rows.proofs.close_forward.Goals as goal
-
-pub loop-x-init : goal.loop-x-init
-loop-x-init c = (omega arith, from-none c.args.rows.now c.args.n c.requires.2)
 
 pub extend-requires : goal.extend-requires
 extend-requires c =
@@ -17,16 +12,7 @@ extend-requires c =
     let x = c.loop-x.x in
     (omega arith, now.long ∙ c.requires.1, from-forward e x c.loop-x.rows now c.requires.3, from_past e x c.loop-x.rows now (x - 1) (omega arith))
 
-pub loop-x-smaller : goal.loop-x-smaller
-loop-x-smaller c = omega arith
-
 pub loop-x-preserved : goal.loop-x-preserved
 loop-x-preserved c =
     let x = c.loop-x.x in
     (omega arith, from_more c.args.rows.now x c.loop-x.rows c.loop-x.invariant.1 (x - 1) (omega arith) c.requires.3 c.extend.new.rows c.extend.ensures)
-
-pub shape_of-rows : goal.shape_of-rows
-shape_of-rows c = c.loop-x.invariant.1.long
-
-pub returns : goal.returns
-returns c = from_all c.args.rows.now c.loop-x.x c.loop-x.rows (omega arith) c.loop-x.invariant.1

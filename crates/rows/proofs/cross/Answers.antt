@@ -1,54 +1,9 @@
 -- `rows::cross`: the pairs of rows below p have exchanged their bits.
-use mathlib.Core.Path.{sym, ◌∙◌}
-use Prim.Native.Nat.{◌≤◌, ◌+◌, ◌-◌, ◌*◌, ◌/◌, ◌^◌}
+use Prim.Native.Nat.{◌+◌, ◌*◌, ◌/◌, ◌^◌}
 use native.Mathlib.Omega.{arith}
-use borrow.Author.Rules.{rules}
 use lib.ListN.{length-set}
-use Rattle.rows.specs.Bounds.{WIDTH}
-use Rattle.rows.proofs.Squares.{Crossing, crossing-none, crossing-more, crossing-end, pair_place}
+use Rattle.rows.proofs.Squares.{crossing-more, crossing-end, pair_place}
 use Rattle.rows.proofs.cross.Goals as goal
-
-pub loop-p-init : goal.loop-p-init
-loop-p-init c = (omega arith, crossing-none c.args.k c.args.square.now c.requires.0)
-
-pub overflow_shr-i : goal.overflow_shr-i
-overflow_shr-i c = omega (arith, c.requires.1.few)
-
-pub overflow_mul-i : goal.overflow_mul-i
-overflow_mul-i c =
-    let a = c.args in
-    let near = pair_place a.k a.d a.m c.requires.1 c.loop-p.p (omega arith) in
-    omega (arith, near.1)
-
-pub overflow_add-i : goal.overflow_add-i
-overflow_add-i c =
-    let a = c.args in
-    let near = pair_place a.k a.d a.m c.requires.1 c.loop-p.p (omega arith) in
-    omega (arith, near.1)
-
-pub offset_bounds-square-i : goal.offset_bounds-square-i
-offset_bounds-square-i c =
-    let a = c.args in
-    let near = pair_place a.k a.d a.m c.requires.1 c.loop-p.p (omega arith) in
-    omega (arith, near.1)
-
-pub bounds-square-i : goal.bounds-square-i
-bounds-square-i c =
-    let a = c.args in
-    let near = pair_place a.k a.d a.m c.requires.1 c.loop-p.p (omega arith) in
-    omega (arith, near.1, c.loop-p.invariant.1.long)
-
-pub overflow_add-b : goal.overflow_add-b
-overflow_add-b c =
-    let a = c.args in
-    let near = pair_place a.k a.d a.m c.requires.1 c.loop-p.p (omega arith) in
-    omega (arith, near.1)
-
-pub offset_bounds-square-i-in-loop-p : goal.offset_bounds-square-i-in-loop-p
-offset_bounds-square-i-in-loop-p c =
-    let a = c.args in
-    let near = pair_place a.k a.d a.m c.requires.1 c.loop-p.p (omega arith) in
-    omega (arith, near.1)
 
 pub bounds-square-i-in-loop-p : goal.bounds-square-i-in-loop-p
 bounds-square-i-in-loop-p c =
@@ -62,32 +17,8 @@ overflow_shl-b c =
     let near = pair_place a.k a.d a.m c.requires.1 c.loop-p.p (omega arith) in
     omega (arith, near.1)
 
-pub offset_bounds-square-i-in-loop-p-2 : goal.offset_bounds-square-i-in-loop-p-2
-offset_bounds-square-i-in-loop-p-2 c =
-    let a = c.args in
-    let near = pair_place a.k a.d a.m c.requires.1 c.loop-p.p (omega arith) in
-    omega (arith, near.1)
-
-pub bounds-square-i-in-loop-p-2 : goal.bounds-square-i-in-loop-p-2
-bounds-square-i-in-loop-p-2 c =
-    let a = c.args in
-    let near = pair_place a.k a.d a.m c.requires.1 c.loop-p.p (omega arith) in
-    omega (arith, near.1, c.loop-p.invariant.1.long)
-
 pub overflow_shr-a : goal.overflow_shr-a
 overflow_shr-a c =
-    let a = c.args in
-    let near = pair_place a.k a.d a.m c.requires.1 c.loop-p.p (omega arith) in
-    omega (arith, near.1)
-
-pub overflow_add-square : goal.overflow_add-square
-overflow_add-square c =
-    let a = c.args in
-    let near = pair_place a.k a.d a.m c.requires.1 c.loop-p.p (omega arith) in
-    omega (arith, near.1)
-
-pub offset_bounds-square-i-in-loop-p-3 : goal.offset_bounds-square-i-in-loop-p-3
-offset_bounds-square-i-in-loop-p-3 c =
     let a = c.args in
     let near = pair_place a.k a.d a.m c.requires.1 c.loop-p.p (omega arith) in
     omega (arith, near.1)
@@ -103,10 +34,6 @@ loop-p-preserved c =
     let a = c.args in
     let near = pair_place a.k a.d a.m c.requires.1 c.loop-p.p (omega arith) in
     (omega arith, crossing-more a.k a.d a.m c.requires.1 a.square.now c.loop-p.square c.loop-p.p (omega arith) c.loop-p.invariant.1 (c.loop-p.p / 2 ^ a.k * a.d + c.loop-p.p) c.mix.result c.mix-in-loop-p.result near.0 c.mix.ensures c.mix-in-loop-p.ensures)
-
-pub shape_of-square : goal.shape_of-square
-shape_of-square c =
-    c.loop-p.invariant.1.long ∙ sym c.requires.0
 
 pub returns : goal.returns
 returns c =

@@ -1,10 +1,6 @@
 -- `rows::extend`: the numbers below y that x leads to have given what they have, and those from y on that have not wait.
-use Prim.Native.Nat.{◌-◌}
 use native.Mathlib.Omega.{arith}
-use borrow.Author.Rules.{rules}
-use Rattle.trace.specs.Bounds.{RECORDS}
-use Rattle.rows.proofs.Nexts.{next-later}
-use Rattle.rows.proofs.Forwards.{Extending, extend-none, extend-more, extended}
+use Rattle.rows.proofs.Forwards.{extend-none, extend-more, extended}
 use Rattle.rows.proofs.extend.Goals as goal
 
 pub loop-y-init : goal.loop-y-init
@@ -12,25 +8,10 @@ loop-y-init c =
     let a = c.args in
     extend-none a.rows.now (λ i. omega (arith, c.slice_known-1.given i)) a.x c.add_row.new.to c.add_row.ensures c.next-y.result c.next-y.ensures
 
-pub join-requires : goal.join-requires
-join-requires c = omega (arith, c.loop-y.invariant.long, c.requires)
-
-pub slice_bounds-drop_row-end : goal.slice_bounds-drop_row-end
-slice_bounds-drop_row-end c = omega (arith, c.loop-y.invariant.room)
-
-pub overflow_add-y : goal.overflow_add-y
-overflow_add-y c = omega arith
-
-pub loop-y-smaller : goal.loop-y-smaller
-loop-y-smaller c = omega (arith, next-later _ _ _ _ c.next-y-in-loop-y.ensures (omega arith))
-
 pub loop-y-preserved : goal.loop-y-preserved
 loop-y-preserved c =
     let p = c.requires in
     extend-more c.args.rows.now c.args.x c.loop-y.y c.loop-y.rest c.loop-y.rows c.loop-y.invariant p.2 p.3 (omega arith) c.join.new.rows c.join.ensures c.drop_row.new.to c.drop_row.ensures c.next-y-in-loop-y.result c.next-y-in-loop-y.ensures
-
-pub shape_of-rows : goal.shape_of-rows
-shape_of-rows c = c.loop-y.invariant.long
 
 pub returns : goal.returns
 returns c = let l = c.loop-y in extended _ _ l.y l.rest l.rows l.invariant (omega arith)

@@ -1,9 +1,6 @@
 use Prim.Native.Nat.{◌-◌}
-use native.Mathlib.Omega.{arith}
-use borrow.Author.Rules.{rules}
 use Rattle.trace.specs.Bounds.{RECORDS}
-use Rattle.rows.proofs.Nexts.{next-later}
-use Rattle.rows.proofs.Forwards.{Extending, extend-none, extend-more, extended}
+use Rattle.rows.proofs.Forwards.{Extending}
 use Rattle.rows.proofs.extend.Given as goal
 
 abbrev pub invariant-loop-y : goal.invariant-loop-y

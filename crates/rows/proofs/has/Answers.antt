@@ -1,6 +1,5 @@
 -- `rows::has`: the word at the pair's place, shifted, has the pair's bit lowest.
 use mathlib.Core.Path.{sym}
-use borrow.Author.Rules.{rules}
 use Rattle.laws.specs.Bits.{bit_of}
 use Rattle.rows.proofs.Rows.{bit_at}
 use Rattle.rows.proofs.has.Goals as goal

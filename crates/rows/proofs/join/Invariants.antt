@@ -1,11 +1,7 @@
-use Prim.Native.Nat.{◌≤◌, ◌-◌}
-use native.Mathlib.Omega.{arith}
+use Prim.Native.Nat.{◌≤◌}
 use Rattle.rows.specs.Bounds.{WORDS}
-use Rattle.rows.proofs.Closing.{Joining, join-none, join-word, joined}
+use Rattle.rows.proofs.Closing.{Joining}
 use Rattle.rows.proofs.join.Given as goal
 
 abbrev pub invariant-loop-i : goal.invariant-loop-i
 invariant-loop-i l = (l.i ≤ WORDS) × Joining l.initial.rows l.x l.k l.i l.rows
-
-abbrev pub decreases-loop-i : goal.decreases-loop-i
-decreases-loop-i l = WORDS - l.i

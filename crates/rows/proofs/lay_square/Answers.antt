@@ -1,18 +1,13 @@
 -- `rows::lay_square`: the rows of the square below i are laid.
 use mathlib.Core.Path.{◌≡◌}
-use mathlib.Core.Logic.{⊎_elim}
-use Prim.Native.Nat.{◌≤◌, ◌+◌, ◌-◌, ◌*◌}
+use Prim.Native.Nat.{◌+◌, ◌*◌}
 use native.Mathlib.Omega.{arith}
-use borrow.Author.Rules.{rules}
 use lib.ListN.{get_or}
 use Rattle.rows.specs.Bounds.{WIDTH, WORDS}
 use Rattle.rows.proofs.Or.{or_of}
-use Rattle.rows.proofs.Turning.{LayingSquare, square-none, square-row, square-skip, square-laid}
+use Rattle.rows.proofs.Turning.{square-row, square-skip}
 use Rattle.rows.proofs.lay_square.Goals.{else-y-n, then-y-n}
 use Rattle.rows.proofs.lay_square.Goals as goal
-
-pub loop-i-init : goal.loop-i-init
-loop-i-init c = let a = c.args in (omega arith, square-none a.out.now a.square.now a.n a.p a.q)
 
 pub loop-i-preserved : goal.loop-i-preserved
 loop-i-preserved c =
@@ -24,11 +19,3 @@ loop-i-preserved c =
       | else-y-n w ↦ let e : c.if-y-n.out ≡ l.out = w.out-is in
           (omega arith, rw e (square-skip a.out.now a.square.now a.n a.p a.q l.i l.out l.invariant.1 w.if-y-n.false))
     ])
-
-pub shape_of-out : goal.shape_of-out
-shape_of-out c = c.loop-i.invariant.1.long
-
-pub returns : goal.returns
-returns c =
-    let a = c.args in
-    square-laid a.out.now a.square.now a.n a.p a.q c.loop-i.i c.loop-i.out c.loop-i.invariant.1 (omega arith)

@@ -2,7 +2,6 @@
 use mathlib.Core.Path.{refl}
 use Prim.Native.Nat.{◌%◌}
 use native.Mathlib.Omega.{arith}
-use borrow.Author.Rules.{rules}
 use Rattle.laws.proofs.Bits.{shift_one}
 use Rattle.rows.specs.Bounds.{WIDTH}
 use Rattle.rows.specs.Put.{mark_of}

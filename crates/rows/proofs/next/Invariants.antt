@@ -1,13 +1,7 @@
-use mathlib.Core.Path.{◌≡◌, ap}
 use mathlib.Core.Bool.{So}
-use Prim.Native.Nat.{ℕ, ◌≤◌, ◌<◌, ◌-◌, ◌/◌, ◌%◌, ◌^◌}
-use native.Mathlib.Omega.{arith}
-use borrow.Author.Rules.{rules}
-use lib.Count.{trailing_le}
+use Prim.Native.Nat.{ℕ, ◌≤◌, ◌<◌, ◌-◌}
 use Rattle.trace.specs.Bounds.{RECORDS}
-use Rattle.rows.specs.Bounds.{WIDTH}
 use Rattle.rows.specs.Rows.{bit}
-use Rattle.rows.proofs.Nexts.{next_here, next_past, next-end}
 use Rattle.rows.proofs.next.Given as goal
 
 abbrev pub invariant-loop-z : goal.invariant-loop-z

@@ -1,13 +1,10 @@
 -- `rows::pass`: the pairs that lead through k from below x are there.
 use mathlib.Core.Path.{◌≡◌, sym, ◌∙◌}
-use mathlib.Core.Logic.{⊎_elim}
 use mathlib.Core.Bool.{false≢true}
-use Prim.Native.Nat.{◌≤◌, ◌-◌}
 use native.Mathlib.Omega.{arith}
-use borrow.Author.Rules.{rules}
 use Rattle.rows.specs.Bounds.{WORDS}
 use Rattle.rows.specs.inner.AddedPairs.{Added, Row}
-use Rattle.rows.proofs.Closing.{Passing, pass-none, pass-join, pass-skip, pass-bare, passed}
+use Rattle.rows.proofs.Closing.{pass-none, pass-join, pass-skip, pass-bare, passed}
 use Rattle.rows.proofs.Whole.{empty-bit}
 use Rattle.rows.proofs.pass.Goals.{else-has, then-has}
 use Rattle.rows.proofs.pass.Goals as goal
@@ -25,12 +22,6 @@ has-requires c = omega (arith, c.loop-x.invariant.1.long)
 
 pub join-requires : goal.join-requires
 join-requires c = omega (arith, c.loop-x.invariant.1.long)
-
-pub overflow_add-x : goal.overflow_add-x
-overflow_add-x c = omega arith
-
-pub loop-x-smaller : goal.loop-x-smaller
-loop-x-smaller c = omega arith
 
 pub loop-x-preserved : goal.loop-x-preserved
 loop-x-preserved c =

@@ -1,6 +1,5 @@
 -- `rows::put_if`: the pair is put, or the rows are left.
 use mathlib.Core.Path.{refl}
-use borrow.Author.Rules.{rules}
 use Rattle.rows.specs.Put.{put_if}
 use Rattle.rows.proofs.put_if.Goals as goal
 

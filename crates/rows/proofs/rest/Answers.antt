@@ -2,7 +2,6 @@
 use mathlib.Core.Path.{◌∙◌, ap}
 use Rattle.rows.specs.Rest.{rest_of}
 use Rattle.rows.specs.DropRow.{drop_row_of}
-use borrow.Author.Rules.{rules}
 use Rattle.rows.proofs.rest.Goals as goal
 
 pub returns : goal.returns

@@ -1,20 +1,14 @@
 -- `rows::test`: a pair that has no place in the rows is in no relation.
 use mathlib.Core.Path.{sym}
-use borrow.Author.Rules.{rules}
 use Rattle.rows.proofs.Rows.{bit-left, bit-right, bit_past}
+use Rattle.rows.proofs.test.Goals.{else-x-lt-RECORDS-via-then-x-lt-RECORDS+then-y-lt-RECORDS+else-x-y, else-x-lt-RECORDS-via-then-x-lt-RECORDS+else-y-lt-RECORDS, else-x-lt-RECORDS-via-else-x-lt-RECORDS}
 use Rattle.rows.proofs.test.Goals as goal
 
-pub returns-else-x-y : goal.returns-else-x-y
-returns-else-x-y c =
+pub returns : goal.returns
+returns c =
     let a = c.args in
-    sym (bit_past a.rows.now a.x a.y (search rules))
-
-pub returns-else-y-lt-RECORDS : goal.returns-else-y-lt-RECORDS
-returns-else-y-lt-RECORDS c =
-    let a = c.args in
-    sym (bit-right a.rows.now a.x a.y (search rules))
-
-pub returns-else-x-lt-RECORDS : goal.returns-else-x-lt-RECORDS
-returns-else-x-lt-RECORDS c =
-    let a = c.args in
-    sym (bit-left a.rows.now a.x a.y (search rules))
+    elim c.else-x-lt-RECORDS.branch [
+      | else-x-lt-RECORDS-via-then-x-lt-RECORDS+then-y-lt-RECORDS+else-x-y w ↦ sym (bit_past a.rows.now a.x a.y w.if-x-y.false)
+      | else-x-lt-RECORDS-via-then-x-lt-RECORDS+else-y-lt-RECORDS w ↦ sym (bit-right a.rows.now a.x a.y w.if-y-lt-RECORDS.false)
+      | else-x-lt-RECORDS-via-else-x-lt-RECORDS w ↦ sym (bit-left a.rows.now a.x a.y w.if-x-lt-RECORDS.false)
+    ]

@@ -1,7 +1,6 @@
 -- `rows::turn_square`: step by step, the bits of the two numbers are exchanged from the highest down.
 use mathlib.Core.Path.{refl}
 use native.Mathlib.Omega.{arith}
-use borrow.Author.Rules.{rules}
 use Rattle.laws.specs.Bits.{bit_of}
 use Rattle.laws.specs.Tests.{all}
 use Rattle.rows.proofs.Squares.{exchanged-none, exchanged-more, exchanged-end, masked}

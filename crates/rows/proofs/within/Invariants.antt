@@ -1,17 +1,9 @@
 use mathlib.Core.Path.{◌≡◌}
-use Prim.Native.Nat.{ℕ, ◌≤◌, ◌<◌, ◌-◌}
-use native.Mathlib.Omega.{arith}
-use borrow.Author.Count.{below_more}
-use borrow.Author.Rules.{rules}
+use Prim.Native.Nat.{ℕ, ◌≤◌, ◌<◌}
 use lib.Bits.{bit_or}
-use Rattle.laws.proofs.Tests.{yes_iff, no_iff}
 use Rattle.rows.specs.Bounds.{WORDS}
 use Rattle.rows.specs.Within.{word_of}
-use Rattle.rows.proofs.Against.{within-yes, within-no}
 use Rattle.rows.proofs.within.Given as goal
 
 abbrev pub invariant-loop-i : goal.invariant-loop-i
 invariant-loop-i l = (l.i ≤ WORDS) × ((k : ℕ) → k < l.i → bit_or (word_of l.a l.x k) (word_of l.b l.y k) ≡ word_of l.b l.y k)
-
-abbrev pub decreases-loop-i : goal.decreases-loop-i
-decreases-loop-i l = WORDS - l.i

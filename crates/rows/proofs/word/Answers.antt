@@ -2,16 +2,17 @@
 use mathlib.Core.Path.{sym}
 use Rattle.rows.proofs.Against.{word_at, word-past, word-left}
 use borrow.Author.Rules.{rules}
+use Rattle.rows.proofs.word.Goals.{else-x-lt-RECORDS-via-then-x-lt-RECORDS+else-x-i, else-x-lt-RECORDS-via-else-x-lt-RECORDS}
 use Rattle.rows.proofs.word.Goals as goal
 
 pub returns-then-x-i : goal.returns-then-x-i
 returns-then-x-i c = let a = c.args in
     sym (word_at a.rows.now a.x a.i (search rules))
 
-pub returns-else-x-i : goal.returns-else-x-i
-returns-else-x-i c = let a = c.args in
-    sym (word-past a.rows.now a.x a.i (search rules))
-
-pub returns-else-x-lt-RECORDS : goal.returns-else-x-lt-RECORDS
-returns-else-x-lt-RECORDS c = let a = c.args in
-    sym (word-left a.rows.now a.x a.i (search rules))
+pub returns : goal.returns
+returns c =
+    let a = c.args in
+    elim c.else-x-lt-RECORDS.branch [
+      | else-x-lt-RECORDS-via-then-x-lt-RECORDS+else-x-i w ↦ sym (word-past a.rows.now a.x a.i w.if-x-i.false)
+      | else-x-lt-RECORDS-via-else-x-lt-RECORDS w ↦ sym (word-left a.rows.now a.x a.i w.if-x-lt-RECORDS.false)
+    ]

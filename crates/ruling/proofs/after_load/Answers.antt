@@ -2,11 +2,11 @@
 use mathlib.Core.Path.{sym, ◌∙◌}
 use borrow.Author.Rules.{rules}
 use Rattle.laws.specs.Tests.{any}
-use Rattle.laws.proofs.Loops.{any-more, any-stops, any-fewer}
+use Rattle.laws.proofs.Loops.{any-more, any-stops}
 use Rattle.trace.specs.Meaning.{frame_of}
 use Rattle.rows.specs.Rows.{bit}
 use Rattle.ruling.proofs.Parts.{any_none, after-other, after-apart, after-unread, after-found}
-use Rattle.ruling.proofs.after_load.Goals.{else-y-from, then-y-from+else-source}
+use Rattle.ruling.proofs.after_load.Goals.{else-y-from-via-else-y-from, else-y-from-via-then-y-from+else-source}
 use Rattle.ruling.proofs.after_load.Goals as goal
 
 pub returns-then-not-writer : goal.returns-then-not-writer
@@ -29,7 +29,4 @@ pub loop-from-preserved : goal.loop-from-preserved
 loop-from-preserved c =
     let a = c.args in
     any-more _ _ c.loop-from.invariant
-    ((elim c.if-y-from.branch [ then-y-from+else-source w ↦ after-unread (frame_of a.t) (bit a.chains.now) a.x a.y c.loop-from.from (sym w.source.ensures ∙ w.if-source.false) | else-y-from w ↦ after-apart (frame_of a.t) (bit a.chains.now) a.x a.y c.loop-from.from (rw c.test.ensures at w.if-y-from.false) ]))
-
-pub returns : goal.returns
-returns c = sym (any-fewer _ _ _ c.loop-from-test.false c.loop-from.invariant)
+    ((elim c.else-y-from.branch [ else-y-from-via-then-y-from+else-source w ↦ after-unread (frame_of a.t) (bit a.chains.now) a.x a.y c.loop-from.from (sym w.source.ensures ∙ w.if-source.false) | else-y-from-via-else-y-from w ↦ after-apart (frame_of a.t) (bit a.chains.now) a.x a.y c.loop-from.from (rw c.test.ensures at w.if-y-from.false) ]))

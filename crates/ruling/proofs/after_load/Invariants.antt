@@ -1,6 +1,5 @@
 use mathlib.Core.Path.{◌≡◌}
 use mathlib.Core.Bool.{false}
-use Prim.Native.Nat.{◌-◌}
 use Rattle.laws.specs.Tests.{any}
 use Rattle.trace.specs.Meaning.{frame_of}
 use Rattle.rows.specs.Rows.{bit}
@@ -9,6 +8,3 @@ use Rattle.ruling.proofs.after_load.Given as goal
 
 abbrev pub invariant-loop-from : goal.invariant-loop-from
 invariant-loop-from l = any l.from (after_load (frame_of l.t) (bit l.chains) l.x l.y) ≡ false
-
-abbrev pub decreases-loop-from : goal.decreases-loop-from
-decreases-loop-from l = l.n - l.from

@@ -10,7 +10,7 @@ use Rattle.rows.specs.Rows.{bit}
 use Rattle.rules.specs.RuleTests.{writer?}
 use Rattle.ruling.proofs.Picked.{known-cond}
 use Rattle.ruling.proofs.Parts.{any_none, before-other, before-apart, before-late, before-unread, before-found}
-use Rattle.ruling.proofs.before_source.Goals.{After-earlier_by, After-writer-2, After-writer_by, else-writer_by, then-writer_by+then-known+else-source, then-writer_by+else-known}
+use Rattle.ruling.proofs.before_source.Goals.{After-earlier_by, After-writer-2, After-writer_by, else-writer_by, else-known-via-else-known, else-known-via-then-known+else-source, then-writer_by+else-known}
 use Rattle.ruling.proofs.before_source.Goals as goal
 
 -- the two tests before the loop
@@ -59,10 +59,12 @@ unfolding frame_of earlier_by
 loop-load-preserved c =
     let a = c.args in
     elim c.if-writer_by.branch [
-      | then-writer_by+then-known+else-source w ↦ any-more _ _ c.loop-load.invariant (before-unread (frame_of a.t) a.chained (bit a.chains.now) a.x a.y c.loop-load.load (sym w.source.ensures ∙ w.if-source.false))
-      | then-writer_by+else-known w ↦
-          let k = known-cond a.chained _ _ ∙ ap₂ (cond a.chained) w.test.ensures (w.earlier_by.ensures ∙ ap₂ (λ p q. earlier_by p a.x q c.loop-load.load) c.op_at-a.ensures c.op_at-b.ensures) in
-          any-more _ _ c.loop-load.invariant (before-late (frame_of a.t) a.chained (bit a.chains.now) a.x a.y c.loop-load.load (sym k ∙ w.if-known.false))
+      | then-writer_by+else-known w ↦ elim w.else-known.branch [
+        | else-known-via-then-known+else-source v ↦ any-more _ _ c.loop-load.invariant (before-unread (frame_of a.t) a.chained (bit a.chains.now) a.x a.y c.loop-load.load (sym v.source.ensures ∙ v.if-source.false))
+        | else-known-via-else-known v ↦
+            let k = known-cond a.chained _ _ ∙ ap₂ (cond a.chained) w.test.ensures (w.earlier_by.ensures ∙ ap₂ (λ p q. earlier_by p a.x q c.loop-load.load) c.op_at-a.ensures c.op_at-b.ensures) in
+            any-more _ _ c.loop-load.invariant (before-late (frame_of a.t) a.chained (bit a.chains.now) a.x a.y c.loop-load.load (sym k ∙ v.if-known.false))
+      ]
       | else-writer_by w ↦ any-more _ _ c.loop-load.invariant (before-apart (frame_of a.t) a.chained (bit a.chains.now) a.x a.y c.loop-load.load (sym (apart (goal.at.loop-load-preserved c).After-writer_by) ∙ w.if-writer_by.false))
     ]
 

@@ -1,6 +1,5 @@
 use mathlib.Core.Path.{◌≡◌}
 use mathlib.Core.Bool.{false}
-use Prim.Native.Nat.{◌-◌}
 use Rattle.laws.specs.Tests.{any}
 use Rattle.trace.specs.Meaning.{frame_of}
 use Rattle.rows.specs.Rows.{bit}
@@ -9,6 +8,3 @@ use Rattle.ruling.proofs.before_source.Given as goal
 
 abbrev pub invariant-loop-load : goal.invariant-loop-load
 invariant-loop-load l = any l.load (before_source (frame_of l.t) l.chained (bit l.chains) l.x l.y) ≡ false
-
-abbrev pub decreases-loop-load : goal.decreases-loop-load
-decreases-loop-load l = l.n - l.load

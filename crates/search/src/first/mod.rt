@@ -38,14 +38,12 @@ fn sourced(t: Trace, sources: &[usize]) -> bool
     ensures { So result ↔ Sourced (frame_of t) }
 {
     let n = t.len;
-    let mut load: usize = 0;
-    while load < n {
+    for load in 0..n {
         let op = op_at(t, load);
         let later = op.reads() & (op.read() != first(t, op.address()));
         if later & (RECORDS <= sources[load]) {
             return false;
         }
-        load += 1;
     }
     true
 }

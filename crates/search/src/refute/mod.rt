@@ -185,8 +185,7 @@ pub(crate) fn circular(
     ensures grown { Grown (Ranking (length sources.now) writers.now sources.now placed.now) led.old led.new }
     ensures unranked { So result → Unranked led.new }
 {
-    let mut round: usize = 0;
-    while round < sources.len() {
+    for round in 0..sources.len() {
         if rows::reflexive(led) {
             return true;
         }
@@ -197,7 +196,6 @@ pub(crate) fn circular(
         rows::copy(changed, &mut was);
         rows::clear(changed);
         settle(left, &was, writers, sources, placed, led, changed);
-        round += 1;
     }
     false
 }

@@ -44,10 +44,7 @@ fn ready(before: &[u64], readers: &[u64], sources: &[usize], placed: &[u64], c: 
     requires { length sources.now ≤ RECORDS }
     ensures { So result ↔ MayCome (length sources.now) before.now readers.now sources.now placed.now c }
 {
-    if !rows::within(before, c, placed, 0) {
-        return false;
-    }
-    quiet(readers, sources, placed, c)
+    rows::within(before, c, placed, 0) && quiet(readers, sources, placed, c)
 }
 
 // Whether everybody who reads from y is placed.
@@ -87,10 +84,8 @@ fn covered(before: &[u64], writers: &[u64], placed: &[u64], failed: &[u64], y: u
 fn more(a: usize, b: usize) -> usize
     ensures { 0 < result }
 {
-    if a < PATIENCE {
-        if b < PATIENCE {
-            return a + b + 1;
-        }
+    if a < PATIENCE && b < PATIENCE {
+        return a + b + 1;
     }
     PATIENCE
 }
@@ -127,10 +122,8 @@ fn slot(set: &[u64]) -> usize
     ensures { result < SLOTS }
 {
     let mut fold: u64 = 0;
-    let mut i: usize = 0;
-    while i < set.len() {
+    for i in 0..set.len() {
         fold = (fold % (SLOTS as u64)) * 31 + set[i] % (SLOTS as u64);
-        i += 1;
     }
     (fold % (SLOTS as u64)) as usize
 }

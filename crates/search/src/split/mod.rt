@@ -84,10 +84,10 @@ fn divided(
     while x < sources.len() {
         let y = partner(writers, placed, read, led, x);
         if y < RECORDS {
-            if falls(left, writers, sources, placed, led, x, y) {
-                if falls(left, writers, sources, placed, led, y, x) {
-                    return true;
-                }
+            if falls(left, writers, sources, placed, led, x, y)
+                && falls(left, writers, sources, placed, led, y, x)
+            {
+                return true;
             }
             tries += 1;
         }

@@ -16,13 +16,10 @@ fn lay_addresses(t: Trace, all: bool, by: &mut [u64])
 {
     rows::clear(by);
     let n = t.len;
-    let mut x: usize = 0;
-    while x < n {
-        let record = t.records[x];
-        let op = record.op;
+    for x in 0..n {
+        let op = t.records[x].op;
         let addr = op.address() as usize;
         rows::put_if(by, op.writes() | all, addr, x);
-        x += 1;
     }
 }
 
@@ -44,13 +41,10 @@ fn lay_writers(t: Trace, by: &[u64], writers: &mut [u64])
 {
     rows::clear(writers);
     let n = t.len;
-    let mut y: usize = 0;
-    while y < n {
-        let record = t.records[y];
-        let op = record.op;
+    for y in 0..n {
+        let op = t.records[y].op;
         let addr = op.address() as usize;
         lay_others(by, addr, y, writers);
-        y += 1;
     }
 }
 
@@ -61,15 +55,12 @@ fn lay_readers(t: Trace, by: &[u64], readers: &mut [u64])
 {
     rows::clear(readers);
     let n = t.len;
-    let mut y: usize = 0;
-    while y < n {
-        let record = t.records[y];
-        let op = record.op;
+    for y in 0..n {
+        let op = t.records[y].op;
         if op.writes() {
             let addr = op.address() as usize;
             lay_others(by, addr, y, readers);
         }
-        y += 1;
     }
 }
 
@@ -103,15 +94,12 @@ pub(crate) fn lay_operations(t: Trace, operations: &mut [u64]) -> usize
     rows::clear(operations);
     let n = t.len;
     let mut total: usize = 0;
-    let mut x: usize = 0;
-    while x < n {
-        let record = t.records[x];
-        let op = record.op;
+    for x in 0..n {
+        let op = t.records[x].op;
         if !op.fence() {
             rows::put(operations, 0, x);
             total += 1;
         }
-        x += 1;
     }
     total
 }

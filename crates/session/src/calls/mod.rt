@@ -14,7 +14,6 @@ use crate::{Answer, PAIRS, Pair, Reason, Reply, Session, Stack};
 use edges::force::forced;
 use edges::sources::missing;
 use pairs::frame::operation;
-use pairs::sources::Found;
 use pairs::{SC, modelled};
 use trace::form::{fault_of, well_formed};
 use trace::{Fault, Op, Trace, pushed};
@@ -23,9 +22,7 @@ use trace::{Fault, Op, Trace, pushed};
 fn supposable(t: Trace, p: Pair) -> bool
     ensures { result ≡ supposable t p }
 {
-    let x = p.first;
-    let y = p.second;
-    operation(t, x) & operation(t, y) & (x != y)
+    operation(t, p.first) & operation(t, p.second) & (p.first != p.second)
 }
 
 // Whether a place of the stack is used by a supposable pair, or unused.
@@ -47,12 +44,10 @@ fn stands(t: Trace, k: Stack) -> bool
     if PAIRS < k.count {
         return false;
     }
-    let mut i = 0;
-    while i < PAIRS {
+    for i in 0..PAIRS {
         if !placed(t, k, i) {
             return false;
         }
-        i += 1;
     }
     true
 }
@@ -62,12 +57,9 @@ fn draw(k: Stack, rows: &mut [u64])
     requires { k.count ≤ PAIRS }
     ensures { rows.new ≡ drawn (standing k) rows.old }
 {
-    let n = k.count;
-    let mut i: usize = 0;
-    while i < n {
+    for i in 0..k.count {
         let p = k.pairs[i];
         rows::put(rows, p.first, p.second);
-        i += 1;
     }
 }
 
@@ -106,14 +98,7 @@ fn opening(t: Trace, model: u8) -> Answer
 fn done(a: Answer) -> bool
     ensures { result ≡ is_done a }
 {
-    match a {
-        Answer::Done => true,
-        Answer::Held => false,
-        Answer::NotHeld => false,
-        Answer::Contradicted => false,
-        Answer::Waits(_) => false,
-        Answer::Refused(_) => false,
-    }
+    matches!(a, Answer::Done)
 }
 
 // Whether a session is the one that its own trace, model and pairs make.
@@ -132,9 +117,7 @@ fn intact(s: Session) -> bool
     if s.contradicted != again.contradicted {
         return false;
     }
-    let held = s.held;
-    let due = again.held;
-    rows::equal(&held, &due)
+    rows::equal(&s.held, &again.held)
 }
 
 // No pairs.
@@ -182,8 +165,7 @@ fn suppose_turn(s: Session, x: usize, y: usize) -> Answer
     if !done(turn) {
         return turn;
     }
-    let k = s.stack;
-    if PAIRS <= k.count {
+    if PAIRS <= s.stack.count {
         return Answer::Refused(Reason::TooManyPairs);
     }
     Answer::Done
@@ -196,23 +178,24 @@ fn take_back_turn(s: Session) -> Answer
     if !intact(s) {
         return Answer::Refused(Reason::Unlike);
     }
-    let k = s.stack;
-    if k.count == 0 {
+    if s.stack.count == 0 {
         return Answer::Refused(Reason::NoPair);
     }
     Answer::Done
 }
 
 // A fault of one record more, as an answer.
-fn fault_answer(f: Fault) -> Answer
+fn fault_answer(f: Option<Fault>) -> Answer
     ensures { result ≡ fault_answer f }
 {
     match f {
-        Fault::Nothing => Answer::Done,
-        Fault::PastBound => Answer::Refused(Reason::PastBound),
-        Fault::FirstValue => Answer::Refused(Reason::FirstValue),
-        Fault::TooMany => Answer::Refused(Reason::TooMany),
-        Fault::Twice => Answer::Refused(Reason::Twice),
+        None => Answer::Done,
+        Some(fault) => match fault {
+            Fault::PastBound => Answer::Refused(Reason::PastBound),
+            Fault::FirstValue => Answer::Refused(Reason::FirstValue),
+            Fault::TooMany => Answer::Refused(Reason::TooMany),
+            Fault::Twice => Answer::Refused(Reason::Twice),
+        },
     }
 }
 
@@ -227,12 +210,12 @@ fn add_turn(s: Session, op: Op) -> Answer
 }
 
 // Which record waits for its source, as an answer.
-fn waits(found: Found) -> Answer
+fn waits(found: Option<usize>) -> Answer
     ensures { result ≡ waits_of found }
 {
     match found {
-        Found::At(x) => Answer::Waits(x),
-        Found::Nothing => Answer::Done,
+        Some(x) => Answer::Waits(x),
+        None => Answer::Done,
     }
 }
 
@@ -243,8 +226,7 @@ fn told(s: Session, x: usize, y: usize) -> Answer
     if s.contradicted {
         return Answer::Contradicted;
     }
-    let held = s.held;
-    if rows::test(&held, x, y) {
+    if rows::test(&s.held, x, y) {
         return Answer::Held;
     }
     Answer::NotHeld

@@ -7,9 +7,9 @@
 --   ReadGiven t y d i out k == record i has the digit d, if it is a load, and out has a place k for what it read; y has what was written
 --   over us n ws k == word k of ws is larger than the one at its place among the n words of us
 --   RunsGiven t ws out n m k == a well formed program has n words and m loads; ws are the words of k runs, and out has room for their reads
-use Rattle.std.specs.Prelude.{Bool, cond, List, ◌≡◌, ℕ, ◌+◌, ◌*◌, ◌%◌, ◌<◌, ◌≤◌, ltb, length, get_or, set}
+use Rattle.std.specs.Prelude.{Option, Some, None, Bool, cond, List, ◌≡◌, ℕ, ◌+◌, ◌*◌, ◌%◌, ◌<◌, ◌≤◌, ltb, length, get_or, set}
 use Rattle.std.proofs.Math.Bool.{So}
-use Rattle.std.proofs.Math.Option.{Option, none, some}
+use Rattle.std.proofs.Math.Option as maybe
 use Rattle.trace.specs.Bounds.{RECORDS, ADDRESSES}
 use Rattle.trace.specs.Op.{address, reads}
 use Rattle.trace.specs.Trace.{at}
@@ -20,13 +20,11 @@ use Rattle.signature.specs.Signature.{tops}
 use Rattle.signature.specs.inner.WordsLaid.{choice, digit_by}
 use Rattle.signature.specs.inner.ValuesLaid.{AllValues}
 use Rattle.signature.specs.declared.WrittenValues.{WrittenValues}
-use Rattle.signature.specs.declared.Found.{Found}
 use Rattle.signature.specs.declared.Places.{Places}
-use Rattle.signature.specs.declared.Found.TheVariants.{At, Nothing}
 
-abbrev pub found_of : Option ℕ → Found
-found_of (some i) = At i
-found_of none = Nothing
+abbrev pub found_of : maybe.Option ℕ → Option ℕ
+found_of (maybe.some i) = Some i
+found_of maybe.none = None
 
 abbrev pub DigitsBelow : Trace → Bool → Type 0
 DigitsBelow t last = (L : ℕ) → L < t.len → So (reads (at t L)) → choice t last L < range_of t L

@@ -22,19 +22,12 @@ pub(crate) fn range_of(t: Trace, load: usize) -> u64
     requires { (t.len ≤ RECORDS) × (load < t.len) }
     ensures { (result ≡ range_of t load) × (result ≤ suc RECORDS) }
 {
-    let own = t.records[load];
-    let mine = own.op;
-    let addr = mine.address();
-    let n = t.len;
+    let addr = t.records[load].op.address();
     let mut r: u64 = 1;
-    let mut i: usize = 0;
-    while i < n {
-        let record = t.records[i];
-        let op = record.op;
-        if other(op, addr, i == load) {
+    for i in 0..t.len {
+        if other(t.records[i].op, addr, i == load) {
             r += 1;
         }
-        i += 1;
     }
     r
 }
@@ -44,18 +37,13 @@ pub(crate) fn digit_of(t: Trace, load: usize, value: u16) -> u64
     requires { (t.len ≤ RECORDS) × (load < t.len) }
     ensures { result ≡ digit_of t load value }
 {
-    let own = t.records[load];
-    let mine = own.op;
-    let addr = mine.address();
+    let addr = t.records[load].op.address();
     if value == first(t, addr) {
         return 0;
     }
-    let n = t.len;
     let mut d: u64 = 1;
-    let mut i: usize = 0;
-    while i < n {
-        let record = t.records[i];
-        let op = record.op;
+    for i in 0..t.len {
+        let op = t.records[i].op;
         let another = other(op, addr, i == load);
         if another & (op.written() == value) {
             return d;
@@ -63,7 +51,6 @@ pub(crate) fn digit_of(t: Trace, load: usize, value: u16) -> u64
         if another {
             d += 1;
         }
-        i += 1;
     }
     d
 }
@@ -79,17 +66,13 @@ fn address_values(t: Trace, addr: u8, x: WrittenValues) -> WrittenValues
     let mut count = x.count;
     let a = addr as usize;
     start[a] = count;
-    let n = t.len;
-    let mut i: usize = 0;
-    while i < n {
-        let record = t.records[i];
-        let op = record.op;
+    for i in 0..t.len {
+        let op = t.records[i].op;
         if op.writes() & (op.address() == addr) {
             of[count] = op.written();
             own[i] = count;
             count += 1;
         }
-        i += 1;
     }
     WrittenValues {
         of,
@@ -110,10 +93,8 @@ pub(crate) fn all_values(t: Trace) -> WrittenValues
         start: [0; FIRSTS],
         own: [RECORDS; RECORDS],
     };
-    let mut addr: u8 = 0;
-    while addr < ADDRESSES {
+    for addr in 0..ADDRESSES {
         built = address_values(t, addr, built);
-        addr += 1;
     }
     built
 }
@@ -123,9 +104,7 @@ pub(crate) fn value_of(t: Trace, x: WrittenValues, load: usize, digit: u64) -> u
     requires { (t.len ≤ RECORDS) × (load < t.len) × (address (at t load) < ADDRESSES) × AllValues t x × (digit < range_of t load) }
     ensures { result ≡ value_of t load digit }
 {
-    let record = t.records[load];
-    let op = record.op;
-    let addr = op.address();
+    let addr = t.records[load].op.address();
     if digit == 0 {
         return first(t, addr);
     }
@@ -149,15 +128,10 @@ pub(crate) fn has_loads(t: Trace, core: u8) -> bool
     requires { t.len ≤ RECORDS }
     ensures { result ≡ any t.len (reader t core) }
 {
-    let n = t.len;
-    let mut i: usize = 0;
-    while i < n {
-        let record = t.records[i];
-        let op = record.op;
-        if of_thread(op, core) {
+    for i in 0..t.len {
+        if of_thread(t.records[i].op, core) {
             return true;
         }
-        i += 1;
     }
     false
 }

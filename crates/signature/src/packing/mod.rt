@@ -13,7 +13,7 @@ ghost use Rattle.signature.specs.inner.LoadLists.{found_of, DigitsBelow};
 
 use crate::choices::{digit_of, has_loads, of_thread, range_of};
 use crate::products::{fits, wider, with_digit};
-use crate::{Answer, Found, Open};
+use crate::{Open, Reason};
 use trace::form::well_formed;
 use trace::{RECORDS, THREADS, Trace};
 
@@ -25,9 +25,7 @@ fn choice(t: Trace, load: usize, last: bool) -> u64
     if last {
         return range_of(t, load) - 1;
     }
-    let record = t.records[load];
-    let op = record.op;
-    digit_of(t, load, op.read())
+    digit_of(t, load, t.records[load].op.read())
 }
 
 // The next place, where there is one.
@@ -87,12 +85,8 @@ fn stepped(t: Trace, core: u8, last: bool, o: Open, i: usize) -> Open
     requires { (t.len ≤ RECORDS) × (i < t.len) × DigitsBelow t last × (o.word ≤ o.q) }
     ensures { (result ≡ stepped_of t core last o i) × (result.word ≤ result.q) }
 {
-    let record = t.records[i];
-    let op = record.op;
-    if of_thread(op, core) {
-        let range = range_of(t, i);
-        let digit = choice(t, i, last);
-        return joined(o, range, digit);
+    if of_thread(t.records[i].op, core) {
+        return joined(o, range_of(t, i), choice(t, i, last));
     }
     o
 }
@@ -105,12 +99,9 @@ fn thread_words(t: Trace, core: u8, last: bool, o: Open) -> Open
     if !has_loads(t, core) {
         return o;
     }
-    let n = t.len;
     let mut built = o;
-    let mut i: usize = 0;
-    while i < n {
+    for i in 0..t.len {
         built = stepped(t, core, last, built, i);
-        i += 1;
     }
     closed(built)
 }
@@ -126,31 +117,25 @@ pub(crate) fn all_words(t: Trace, last: bool) -> Open
         q: 0,
         word: 0,
     };
-    let mut core: u8 = 0;
-    while core < THREADS {
+    for core in 0..THREADS {
         built = thread_words(t, core, last, built);
-        core += 1;
     }
     built
 }
 
 // The lowest record whose read is not in its list.
-fn first_unlisted(t: Trace) -> Found
+fn first_unlisted(t: Trace) -> Option<usize>
     requires { t.len ≤ RECORDS }
     ensures { result ≡ found_of (lowest (unlisted t (read_in t)) t.len 0) }
 {
-    let n = t.len;
-    let mut i: usize = 0;
-    while i < n {
-        let record = t.records[i];
-        let op = record.op;
+    for i in 0..t.len {
+        let op = t.records[i].op;
         let digit = digit_of(t, i, op.read());
         if op.reads() & (digit == range_of(t, i)) {
-            return Found::At(i);
+            return Some(i);
         }
-        i += 1;
     }
-    Found::Nothing
+    None
 }
 
 // Words that were laid down, put into lent memory of their number.
@@ -158,11 +143,8 @@ fn put_words(o: Open, words: &mut [u64])
     requires { (length words.old ≡ o.count) × (o.count ≤ RECORDS) }
     ensures { words.new ≡ laid_words o }
 {
-    let n = o.count;
-    let mut i: usize = 0;
-    while i < n {
+    for i in 0..o.count {
         words[i] = o.of[i];
-        i += 1;
     }
 }
 
@@ -173,8 +155,7 @@ pub fn words_of(t: Trace) -> usize
     if !well_formed(t) {
         return 0;
     }
-    let all = all_words(t, true);
-    all.count
+    all_words(t, true).count
 }
 
 // How many words a thread of it has.
@@ -190,8 +171,7 @@ pub fn words_in(t: Trace, core: u8) -> usize
         q: 0,
         word: 0,
     };
-    let own = thread_words(t, core, true, fresh);
-    own.count
+    thread_words(t, core, true, fresh).count
 }
 
 // How many reads a program has.
@@ -209,37 +189,31 @@ pub(crate) fn loads_in(t: Trace) -> usize
     requires { t.len ≤ RECORDS }
     ensures { (result ≡ length (loads t)) × (result ≤ RECORDS) }
 {
-    let n = t.len;
     let mut count: usize = 0;
-    let mut i: usize = 0;
-    while i < n {
-        let record = t.records[i];
-        let op = record.op;
-        if op.reads() {
+    for i in 0..t.len {
+        if t.records[i].op.reads() {
             count += 1;
         }
-        i += 1;
     }
     count
 }
 
 // Packs the reads of a trace into lent words of the right number; beside a refusal all is as it was.
-pub fn pack(t: Trace, words: &mut [u64]) -> Answer
+pub fn pack(t: Trace, words: &mut [u64]) -> Result<(), Reason>
     ensures { (result ≡ pack_of t (length words.old)) × (words.new ≡ pack_left t words.old) }
 {
     if !well_formed(t) {
-        return Answer::NotWellFormed;
+        return Err(Reason::NotWellFormed);
     }
     let largest = all_words(t, true);
     if words.len() != largest.count {
-        return Answer::WrongLength;
+        return Err(Reason::WrongLength);
     }
     match first_unlisted(t) {
-        Found::At(i) => Answer::NotListed(i),
-        Found::Nothing => {
-            let all = all_words(t, false);
-            put_words(all, words);
-            Answer::Done
+        Some(i) => Err(Reason::NotListed(i)),
+        None => {
+            put_words(all_words(t, false), words);
+            Ok(())
         }
     }
 }

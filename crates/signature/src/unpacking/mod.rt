@@ -15,7 +15,7 @@ ghost use Rattle.signature.specs.inner.LoadLists.{found_of, over, place_after, r
 use crate::choices::{all_values, has_loads, of_thread, range_of, value_of};
 use crate::packing::{after, all_words, loads_in};
 use crate::products::{fits, left_above, wider};
-use crate::{Answer, Found, Open, Places, WrittenValues};
+use crate::{Open, Places, Reason, WrittenValues};
 use trace::form::well_formed;
 use trace::{RECORDS, THREADS, Trace};
 
@@ -69,11 +69,8 @@ fn looked(t: Trace, core: u8, x: Places, i: usize) -> Places
     requires { (t.len ≤ RECORDS) × (i < t.len) }
     ensures { result ≡ placed_at t core x i }
 {
-    let record = t.records[i];
-    let op = record.op;
-    if of_thread(op, core) {
-        let range = range_of(t, i);
-        return placed(x, range, i);
+    if of_thread(t.records[i].op, core) {
+        return placed(x, range_of(t, i), i);
     }
     x
 }
@@ -86,12 +83,9 @@ fn thread_places(t: Trace, core: u8, x: Places) -> Places
     if !has_loads(t, core) {
         return x;
     }
-    let n = t.len;
     let mut built = x;
-    let mut i: usize = 0;
-    while i < n {
+    for i in 0..t.len {
         built = looked(t, core, built, i);
-        i += 1;
     }
     let word = built.word;
     let below = built.below;
@@ -118,10 +112,8 @@ pub(crate) fn all_places(t: Trace) -> Places
         at: 0,
         q: 0,
     };
-    let mut core: u8 = 0;
-    while core < THREADS {
+    for core in 0..THREADS {
         built = thread_places(t, core, built);
-        core += 1;
     }
     built
 }
@@ -138,20 +130,17 @@ fn digit_at(words: &[u64], at: usize, q: u64, range: u64) -> u64
 }
 
 // The lowest word, of whichever run, that is larger than the largest one at its place among the words of the run.
-pub(crate) fn first_large(words: &[u64], largest: Open) -> Found
+pub(crate) fn first_large(words: &[u64], largest: Open) -> Option<usize>
     requires { (largest.count ≤ RECORDS) × (0 < length words.now → 0 < largest.count) }
     ensures { result ≡ found_of (lowest (over largest.of largest.count words.now) (length words.now) 0) }
 {
     let each = largest.count;
-    let mut k: usize = 0;
-    while k < words.len() {
-        let at = k % each;
-        if largest.of[at] < words[k] {
-            return Found::At(k);
+    for k in 0..words.len() {
+        if largest.of[k % each] < words[k] {
+            return Some(k);
         }
-        k += 1;
     }
-    Found::Nothing
+    None
 }
 
 // What a record read, if it is a load or swap, put at a place, and the next place.
@@ -159,8 +148,7 @@ fn put_read(t: Trace, y: WrittenValues, digit: u64, i: usize, out: &mut [u16], k
     requires { ReadGiven t y digit i out.old k }
     ensures { (result ≡ place_after t i k) × (out.new ≡ read_put t i k digit out.old) }
 {
-    let record = t.records[i];
-    let op = record.op;
+    let op = t.records[i].op;
     if !op.reads() {
         return k;
     }
@@ -173,16 +161,10 @@ fn put_reads(t: Trace, x: Places, y: WrittenValues, words: &[u64], out: &mut [u1
     requires { So (well_formed t) × AllValues t y × DigitsSmall t x words.now × (length out.old ≡ length (loads t)) }
     ensures { out.new ≡ each (λ L. value_of t L (digit_by x words.now L)) (loads t) }
 {
-    let n = t.len;
     let mut k: usize = 0;
-    let mut i: usize = 0;
-    while i < n {
-        let at = x.word[i];
-        let q = x.below[i];
-        let range = x.range[i];
-        let digit = digit_at(words, at, q, range);
+    for i in 0..t.len {
+        let digit = digit_at(words, x.word[i], x.below[i], x.range[i]);
         k = put_read(t, y, digit, i, out, k);
-        i += 1;
     }
 }
 
@@ -195,24 +177,24 @@ pub(crate) fn put_run(t: Trace, x: Places, y: WrittenValues, words: &[u64], out:
 }
 
 // Unpacks words into lent reads, both of the right number; beside a refusal all is as it was.
-pub fn unpack(t: Trace, words: &[u64], reads: &mut [u16]) -> Answer
+pub fn unpack(t: Trace, words: &[u64], reads: &mut [u16]) -> Result<(), Reason>
     ensures { (result ≡ unpack_of t words.now (length reads.old)) × (reads.new ≡ unpack_left t words.now reads.old) }
 {
     if !well_formed(t) {
-        return Answer::NotWellFormed;
+        return Err(Reason::NotWellFormed);
     }
     let largest = all_words(t, true);
     if words.len() != largest.count {
-        return Answer::WrongLength;
+        return Err(Reason::WrongLength);
     }
     if reads.len() != loads_in(t) {
-        return Answer::WrongLength;
+        return Err(Reason::WrongLength);
     }
     match first_large(words, largest) {
-        Found::At(k) => Answer::TooLarge(k),
-        Found::Nothing => {
+        Some(k) => Err(Reason::TooLarge(k)),
+        None => {
             put_run(t, all_places(t), all_values(t), words, reads);
-            Answer::Done
+            Ok(())
         }
     }
 }

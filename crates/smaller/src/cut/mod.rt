@@ -12,7 +12,6 @@ use crate::part::{all, lay_goes, olds, picked, without};
 use crate::{Answer, Smaller};
 use edges::force::forced;
 use edges::sources::missing;
-use pairs::sources::Found;
 use pairs::{modelled, op_at};
 use search::first::first_order;
 use trace::form::well_formed;
@@ -29,10 +28,9 @@ const BY_SEARCH: u8 = 2;
 fn bare(answer: Answer) -> Smaller
     ensures { result ≡ bare_smaller answer }
 {
-    let trace = empty();
     Smaller {
         answer,
-        trace,
+        trace: empty(),
         olds: [0; RECORDS],
     }
 }
@@ -43,8 +41,7 @@ fn circled(t: Trace, model: u8) -> bool
     ensures { So result → NoOrder t model }
 {
     let supposed = [0u64; rows::CELLS];
-    let forced = forced(t, model, &supposed);
-    forced.contradicted
+    forced(t, model, &supposed).contradicted
 }
 
 // How a trace is faulty, told how it was before records went. What is forced now was forced then, so a circle is looked for only where there was one,
@@ -53,13 +50,10 @@ fn fault_of(t: Trace, model: u8, before: u8) -> u8
     requires { So (well_formed t) × So (modelled model) }
     ensures { FaultTold t model result }
 {
-    if before == BY_CIRCLE {
-        if circled(t, model) {
-            return BY_CIRCLE;
-        }
+    if before == BY_CIRCLE && circled(t, model) {
+        return BY_CIRCLE;
     }
-    let order = first_order(t, model);
-    if order.found {
+    if first_order(t, model).found {
         return NO_FAULT;
     }
     BY_SEARCH
@@ -113,10 +107,8 @@ fn pass(t: Trace, model: u8, goes: &[u64], kept: &mut [u64])
 {
     let n = t.len;
     let mut fault = fault_shown(t, model);
-    let mut i: usize = 0;
-    while i < n {
+    for i in 0..n {
         fault = try_one(t, model, goes, i, fault, kept);
-        i += 1;
     }
 }
 
@@ -131,10 +123,9 @@ fn cut_away(t: Trace, model: u8) -> Smaller
     lay_goes(t, &mut goes);
     all(n, &mut kept);
     pass(t, model, &goes, &mut kept);
-    let trace = picked(t, &kept);
     Smaller {
         answer: Answer::Cut,
-        trace,
+        trace: picked(t, &kept),
         olds: olds(n, &kept),
     }
 }
@@ -151,10 +142,9 @@ pub fn smaller(t: Trace, model: u8) -> Smaller
         return bare(Answer::NotWellFormed);
     }
     match missing(t) {
-        Found::At(x) => bare(Answer::NoSource(x)),
-        Found::Nothing => {
-            let order = first_order(t, model);
-            if order.found {
+        Some(x) => bare(Answer::NoSource(x)),
+        None => {
+            if first_order(t, model).found {
                 return bare(Answer::NothingWrong);
             }
             cut_away(t, model)

@@ -14,7 +14,7 @@ ghost use Rattle.parts.specs.Picked.{picked, olds_to};
 ghost use Rattle.smaller.specs.inner.RecordSets.{Chosen, ReaderChains};
 
 use pairs::{op_at, source_of};
-use trace::{Op, RECORDS, Record, Trace, empty};
+use trace::{Op, RECORDS, Trace, empty};
 
 // The trace of no records that begins with the values of another.
 fn begun(t: Trace) -> Trace
@@ -33,16 +33,12 @@ pub(crate) fn picked(t: Trace, kept: &[u64]) -> Trace
 {
     let n = t.len;
     let mut part = begun(t);
-    let mut i: usize = 0;
-    while i < n {
+    for i in 0..n {
         if rows::test(kept, 0, i) {
-            let record = t.records[i];
-            let op = record.op;
             let at = part.len;
-            part.records[at] = Record { op };
+            part.records[at] = t.records[i];
             part.len = at + 1;
         }
-        i += 1;
     }
     part
 }
@@ -54,13 +50,11 @@ pub(crate) fn olds(n: usize, kept: &[u64]) -> [u16; RECORDS]
 {
     let mut list = [0u16; RECORDS];
     let mut at: usize = 0;
-    let mut i: usize = 0;
-    while i < n {
+    for i in 0..n {
         if rows::test(kept, 0, i) {
             list[at] = i as u16;
             at += 1;
         }
-        i += 1;
     }
     list
 }
@@ -70,10 +64,8 @@ pub(crate) fn all(n: usize, kept: &mut [u64])
     requires { (n ≤ RECORDS) × (length kept.old ≡ WORDS) }
     ensures { (length kept.new ≡ WORDS) × ((x : ℕ) → x < n → So (Chosen kept.new x)) }
 {
-    let mut i: usize = 0;
-    while i < n {
+    for i in 0..n {
         rows::put(kept, 0, i);
-        i += 1;
     }
 }
 
@@ -96,11 +88,9 @@ pub(crate) fn lay_goes(t: Trace, goes: &mut [u64])
 {
     rows::clear(goes);
     let n = t.len;
-    let mut load: usize = 0;
-    while load < n {
+    for load in 0..n {
         let source = source_of(t, load);
         rows::put_if(goes, takes_readers(op_at(t, source)), source, load);
-        load += 1;
     }
     rows::chains(goes);
 }
@@ -111,10 +101,8 @@ pub(crate) fn without(kept: &[u64], goes: &[u64], n: usize, i: usize, left: &mut
     ensures { (length left.new ≡ WORDS) × ((x : ℕ) → x < n → Chosen left.new x ≡ (Chosen kept.now x && not (eqb i x || bit goes.now i x))) }
 {
     rows::clear(left);
-    let mut x: usize = 0;
-    while x < n {
+    for x in 0..n {
         let goes_too = (i == x) | rows::test(goes, i, x);
         rows::put_if(left, rows::test(kept, 0, x) & !goes_too, 0, x);
-        x += 1;
     }
 }

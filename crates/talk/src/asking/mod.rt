@@ -19,33 +19,25 @@ pub enum Command {
 pub fn command_of(line: &[u8]) -> Command
     ensures { result ≡ cut_command (command_of line.now) }
 {
-    let suppose = fit(b"suppose # #", line, 0);
-    if suppose.fits {
-        let n = suppose.numbers;
+    if let Some(pair) = fit(b"suppose # #", line, 0) {
         return Command::Suppose {
-            first: n[0],
-            second: n[1],
+            first: pair[0],
+            second: pair[1],
         };
     }
-    let ask = fit(b"ask # #", line, 0);
-    if ask.fits {
-        let n = ask.numbers;
+    if let Some(pair) = fit(b"ask # #", line, 0) {
         return Command::Ask {
-            first: n[0],
-            second: n[1],
+            first: pair[0],
+            second: pair[1],
         };
     }
-    let model = fit(b"model #", line, 0);
-    if model.fits {
-        let n = model.numbers;
-        return Command::Model(n[0]);
+    if let Some(model) = fit(b"model #", line, 0) {
+        return Command::Model(model[0]);
     }
-    let back = fit(b"take back", line, 0);
-    if back.fits {
+    if fit(b"take back", line, 0).is_some() {
         return Command::TakeBack;
     }
-    let waiting = fit(b"waiting", line, 0);
-    if waiting.fits {
+    if fit(b"waiting", line, 0).is_some() {
         return Command::Waiting;
     }
     Command::Nothing

@@ -3,15 +3,15 @@ ghost use Rattle.std.specs.Prelude.{◌≡◌, ◌<◌};
 ghost use Rattle.trace.specs.Bounds.{ADDRESSES, VALUES};
 ghost use Rattle.session.specs.Opening.{is_done};
 ghost use Rattle.session.specs.Closings.{Closings};
-ghost use Rattle.session.specs.Numbers.{reason_number};
 ghost use Rattle.talk.specs.LineAnswers.{fresh_of, refused_of, answer_told, waits_told, record_told, supposition_of, question_of, back_of, look_of, model_of, addition_of, turn_said, first_value, beginning_of, line_said, talk_answer};
 
 use crate::asking::{Command, command_of};
 use pairs::{SC, modelled};
+use reader::Init;
 use reader::turns::{begin, turned};
-use reader::{Init, Turn};
 use session::calls::{add, afresh, ask, open, suppose, take_back, waiting};
-use session::{Answer, Reason, Session};
+use session::{Answer, Session};
+use std::fmt;
 use trace::{FIRSTS, Op, started};
 
 // How many bytes a line has at the most, without its line feed.
@@ -44,6 +44,22 @@ pub enum Told {
     Refused(u8),
 }
 
+// The words of an answer, without its line feed.
+impl fmt::Display for Told {
+    fn fmt<W: fmt::Write>(&self, f: &mut fmt::Formatter<W>) -> fmt::Result {
+        match *self {
+            Told::Done => f.write_str("done"),
+            Told::Record(x) => write!(f, "record {x}"),
+            Told::Held => f.write_str("held"),
+            Told::NotHeld => f.write_str("not held"),
+            Told::Contradicted => f.write_str("contradicted"),
+            Told::Waits(x) => write!(f, "record {x} waits"),
+            Told::NoneWaits => f.write_str("none waits"),
+            Told::Refused(n) => write!(f, "refused {n}"),
+        }
+    }
+}
+
 // The answer to a line, and the talk after it.
 #[derive(Clone, Copy)]
 pub struct Said {
@@ -56,29 +72,9 @@ pub fn fresh() -> Talk
     ensures { (C : Closings) → result ≡ fresh_of C }
 {
     let reply = open(trace::empty(), SC);
-    let session = reply.session;
     Talk {
-        session,
+        session: reply.session,
         given: [false; FIRSTS],
-    }
-}
-
-// Document 01's number of a session's reason.
-fn number(reason: Reason) -> u8
-    ensures { result ≡ reason_number reason }
-{
-    match reason {
-        Reason::NoModel => 9,
-        Reason::NotWellFormed => 10,
-        Reason::Unlike => 12,
-        Reason::NoOperation => 13,
-        Reason::OneRecord => 14,
-        Reason::TooManyPairs => 15,
-        Reason::NoPair => 16,
-        Reason::PastBound => 4,
-        Reason::FirstValue => 6,
-        Reason::TooMany => 7,
-        Reason::Twice => 8,
     }
 }
 
@@ -92,7 +88,7 @@ fn told_of(answer: Answer) -> Told
         Answer::NotHeld => Told::NotHeld,
         Answer::Contradicted => Told::Contradicted,
         Answer::Waits(x) => Told::Waits(x),
-        Answer::Refused(reason) => Told::Refused(number(reason)),
+        Answer::Refused(reason) => Told::Refused(u8::from(reason)),
     }
 }
 
@@ -100,14 +96,7 @@ fn told_of(answer: Answer) -> Told
 fn done(answer: Answer) -> bool
     ensures { result ≡ is_done answer }
 {
-    match answer {
-        Answer::Done => true,
-        Answer::Held => false,
-        Answer::NotHeld => false,
-        Answer::Contradicted => false,
-        Answer::Waits(_) => false,
-        Answer::Refused(_) => false,
-    }
+    matches!(answer, Answer::Done)
 }
 
 // The same where who waits was asked.
@@ -135,12 +124,12 @@ fn supposition(talk: Talk, x: u32, y: u32) -> Said
     ensures { (C : Closings) → result ≡ supposition_of C talk x y }
 {
     let reply = suppose(talk.session, x as usize, y as usize);
-    let answer = reply.answer;
-    let session = reply.session;
-    let given = talk.given;
     Said {
-        told: told_of(answer),
-        talk: Talk { session, given },
+        told: told_of(reply.answer),
+        talk: Talk {
+            session: reply.session,
+            ..talk
+        },
     }
 }
 
@@ -149,12 +138,12 @@ fn question(talk: Talk, x: u32, y: u32) -> Said
     ensures { (C : Closings) → result ≡ question_of C talk x y }
 {
     let reply = ask(talk.session, x as usize, y as usize);
-    let answer = reply.answer;
-    let session = reply.session;
-    let given = talk.given;
     Said {
-        told: told_of(answer),
-        talk: Talk { session, given },
+        told: told_of(reply.answer),
+        talk: Talk {
+            session: reply.session,
+            ..talk
+        },
     }
 }
 
@@ -163,12 +152,12 @@ fn back(talk: Talk) -> Said
     ensures { (C : Closings) → result ≡ back_of C talk }
 {
     let reply = take_back(talk.session);
-    let answer = reply.answer;
-    let session = reply.session;
-    let given = talk.given;
     Said {
-        told: told_of(answer),
-        talk: Talk { session, given },
+        told: told_of(reply.answer),
+        talk: Talk {
+            session: reply.session,
+            ..talk
+        },
     }
 }
 
@@ -177,12 +166,12 @@ fn look(talk: Talk) -> Said
     ensures { (C : Closings) → result ≡ look_of C talk }
 {
     let reply = waiting(talk.session);
-    let answer = reply.answer;
-    let session = reply.session;
-    let given = talk.given;
     Said {
-        told: waits(answer),
-        talk: Talk { session, given },
+        told: waits(reply.answer),
+        talk: Talk {
+            session: reply.session,
+            ..talk
+        },
     }
 }
 
@@ -203,14 +192,13 @@ fn model(talk: Talk, n: u32) -> Said
     if n < 256 {
         let m = n as u8;
         if modelled(m) {
-            let before = talk.session;
-            let reply = afresh(before.trace, m, before.stack);
-            let answer = reply.answer;
-            let session = reply.session;
-            let given = talk.given;
+            let reply = afresh(talk.session.trace, m, talk.session.stack);
             return Said {
-                told: told_of(answer),
-                talk: Talk { session, given },
+                told: told_of(reply.answer),
+                talk: Talk {
+                    session: reply.session,
+                    ..talk
+                },
             };
         }
         return refused(talk, NO_MODEL);
@@ -222,40 +210,34 @@ fn model(talk: Talk, n: u32) -> Said
 fn addition(talk: Talk, op: Op) -> Said
     ensures { (C : Closings) → result ≡ addition_of C talk op }
 {
-    let before = talk.session;
-    let t = before.trace;
-    let n = t.len;
-    let reply = add(before, op);
-    let answer = reply.answer;
-    let session = reply.session;
-    let given = talk.given;
+    let reply = add(talk.session, op);
     Said {
-        told: recorded(n, answer),
-        talk: Talk { session, given },
+        told: recorded(talk.session.trace.len, reply.answer),
+        talk: Talk {
+            session: reply.session,
+            ..talk
+        },
     }
 }
 
 // A line behind the records, as the reader has looked at it.
-fn turn(talk: Talk, turn: Turn) -> Said
+fn turn(talk: Talk, turn: Result<Op, reader::Reason>) -> Said
     ensures { (C : Closings) → result ≡ turn_said C talk turn }
 {
     match turn {
-        Turn::Taken(op) => addition(talk, op),
-        Turn::Refused(reason) => refused(talk, reader::turns::number(reason)),
+        Ok(op) => addition(talk, op),
+        Err(reason) => refused(talk, reader::turns::number(reason)),
     }
 }
 
 // The address and first value that a line gives, where no record stands yet.
-fn first_value(talk: Talk, bytes: &[u8]) -> Init
+fn first_value(talk: Talk, bytes: &[u8]) -> Option<Init>
     ensures { result ≡ first_value talk bytes.now }
 {
-    let before = talk.session;
-    let t = before.trace;
-    if t.len == 0 {
-        let given = talk.given;
-        return begin(&given, bytes, true);
+    if talk.session.trace.len == 0 {
+        return begin(&talk.given, bytes, true);
     }
-    Init::Nothing
+    None
 }
 
 // The session is opened afresh with one first value more.
@@ -263,17 +245,16 @@ fn beginning(talk: Talk, addr: u32, value: u32) -> Said
     requires { (addr < ADDRESSES) × (value < VALUES) }
     ensures { (C : Closings) → result ≡ beginning_of C talk addr value }
 {
-    let before = talk.session;
-    let t = started(before.trace, addr as u8, value as u16);
-    let reply = open(t, before.model);
-    let answer = reply.answer;
-    let session = reply.session;
+    let t = started(talk.session.trace, addr as u8, value as u16);
+    let reply = open(t, talk.session.model);
     let mut given = talk.given;
-    let i = addr as usize;
-    given[i] = true;
+    given[addr as usize] = true;
     Said {
-        told: told_of(answer),
-        talk: Talk { session, given },
+        told: told_of(reply.answer),
+        talk: Talk {
+            session: reply.session,
+            given,
+        },
     }
 }
 
@@ -282,11 +263,8 @@ fn line(talk: Talk, bytes: &[u8]) -> Said
     ensures { (C : Closings) → result ≡ line_said C talk bytes.now }
 {
     match first_value(talk, bytes) {
-        Init::Of { addr, value } => beginning(talk, addr, value),
-        Init::Nothing => {
-            let before = talk.session;
-            turn(talk, turned(before.trace, bytes, true))
-        }
+        Some(Init { addr, value }) => beginning(talk, addr, value),
+        None => turn(talk, turned(talk.session.trace, bytes, true)),
     }
 }
 

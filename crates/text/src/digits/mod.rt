@@ -4,7 +4,7 @@ ghost use Rattle.trace.specs.Bounds.{VALUES};
 ghost use Rattle.text.specs.Class.{class_of};
 ghost use Rattle.text.specs.Number.{is_digit, cut, run_at, number_at};
 
-use crate::{Class, Number, Run};
+use crate::{Class, Run};
 use trace::VALUES;
 
 // The class of a byte.
@@ -24,11 +24,7 @@ pub fn class_of(b: u8) -> Class
 pub fn is_digit(b: u8) -> bool
     ensures { result ≡ is_digit b }
 {
-    if let Class::Digit = class_of(b) {
-        true
-    } else {
-        false
-    }
+    matches!(class_of(b), Class::Digit)
 }
 
 // A number with one digit more behind it. It stops at the first number past every bound, so that it never wraps.
@@ -45,34 +41,31 @@ pub fn run_at(line: &[u8], at: usize) -> Run
     ensures { result ≡ run_at line.now at }
 {
     let mut value: u32 = 0;
-    let mut i = at;
-    while i < line.len() {
+    for i in at..line.len() {
         let b = line[i];
         if !is_digit(b) {
             return Run { value, end: i };
         }
         value = with_digit(value, b);
-        i += 1;
     }
-    Run { value, end: i }
+    Run {
+        value,
+        end: at.max(line.len()),
+    }
 }
 
 // The number at a place: digits, one at least, of which only 0 itself begins with 0.
-pub fn number_at(line: &[u8], at: usize) -> Number
+pub fn number_at(line: &[u8], at: usize) -> Option<Run>
     ensures { result ≡ number_at line.now at }
 {
     let run = run_at(line, at);
-    let end = run.end;
-    if end <= at {
-        return Number::Missing;
+    if run.end <= at {
+        return None;
     }
     if line[at] == b'0' {
-        if at + 1 < end {
-            return Number::Missing;
+        if at + 1 < run.end {
+            return None;
         }
     }
-    Number::At {
-        value: run.value,
-        end,
-    }
+    Some(run)
 }

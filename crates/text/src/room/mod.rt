@@ -6,16 +6,11 @@ ghost use Rattle.text.specs.Room.{put_at, behind};
 pub fn put(word: &[u8], out: &mut [u8], at: usize) -> usize
     ensures { (result ≡ behind word.now out.old at) × (out.new ≡ put_at word.now out.old at) }
 {
-    if out.len() < at {
+    if out.len() < at || out.len() - at < word.len() {
         return at;
     }
-    if out.len() - at < word.len() {
-        return at;
-    }
-    let mut i: usize = 0;
-    while i < word.len() {
+    for i in 0..word.len() {
         out[at + i] = word[i];
-        i += 1;
     }
-    at + i
+    at + word.len()
 }

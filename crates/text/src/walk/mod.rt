@@ -11,14 +11,12 @@ const FEED: u8 = 0x0A;
 pub fn line_end(text: &[u8], at: usize) -> usize
     ensures { result ≡ end_at text.now at }
 {
-    let mut i = at;
-    while i < text.len() {
+    for i in at..text.len() {
         if text[i] == FEED {
             return i;
         }
-        i += 1;
     }
-    i
+    at.max(text.len())
 }
 
 impl Cursor {
@@ -35,8 +33,7 @@ impl Cursor {
     {
         let at = self.at;
         if text.len() <= at {
-            let n = text.len();
-            return &text[n..n];
+            return &text[text.len()..];
         }
         let e = line_end(text, at);
         &text[at..e]

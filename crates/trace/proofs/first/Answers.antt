@@ -1,8 +1,7 @@
 -- `trace::first` meets its contract: an element of the array, or 0 past its end. Assumes nothing.
-use mathlib.Core.Path.{refl, sym, ◌∙◌}
+use mathlib.Core.Path.{refl, sym}
 use native.Mathlib.Omega.{arith}
-use lib.ListN.{length-map, get_or-eq_default}
-use borrow.Author.Rules.{rules}
+use lib.ListN.{get_or-eq_default}
 use Rattle.trace.specs.Trace.{first}
 use Rattle.trace.proofs.first.Goals as goal
 

@@ -1,5 +1,4 @@
 -- `trace::pushed` meets its contract: the two ways are those of the definition. Assumes nothing.
-use borrow.Author.Rules.{rules}
 use borrow.Author.Tests.{lt-ltb, le-ltb}
 use Rattle.trace.specs.Trace.{pushed}
 use Rattle.trace.proofs.pushed.Goals as goal

@@ -1,13 +1,10 @@
 -- `trace::started` meets its contract: an element of the array is set, or none past its end. Assumes nothing.
-use mathlib.Core.Path.{◌≡◌, refl, sym, ap, ◌∙◌}
+use mathlib.Core.Path.{refl, sym, ap}
 use mathlib.Core.List.{List}
 use Prim.Native.Nat.{ℕ}
 use native.Mathlib.Omega.{arith}
-use lib.ListN.{length-map}
 use lib.Seq.{set_out}
-use borrow.Author.Rules.{rules}
 use Rattle.trace.specs.Trace.{started}
-use Rattle.trace.specs.declared.Trace.{Trace}
 use Rattle.trace.proofs.started.Goals as goal
 
 pub returns-then-i-lt-FIRSTS : goal.returns-then-i-lt-FIRSTS

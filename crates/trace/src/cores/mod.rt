@@ -9,30 +9,20 @@ use crate::{Op, RECORDS, THREADS, Trace};
 fn is_of(op: Op, core: u8) -> bool
     ensures { result ≡ eqb (thread op) core }
 {
-    match op {
-        Op::Load { thread, .. } => thread == core,
-        Op::Store { thread, .. } => thread == core,
-        Op::Swap { thread, .. } => thread == core,
-        Op::Fence { thread } => thread == core,
-    }
+    op.thread() == core
 }
 
 // Whether some record is of a thread. Past the array stands what is of thread 0.
 fn shows(t: Trace, thread: u8) -> bool
     ensures { result ≡ shows t thread }
 {
-    let n = t.len;
-    let mut i = 0;
-    while i < n {
+    for i in 0..t.len {
         if RECORDS <= i {
             return thread == 0;
         }
-        let record = t.records[i];
-        let op = record.op;
-        if is_of(op, thread) {
+        if is_of(t.records[i].op, thread) {
             return true;
         }
-        i += 1;
     }
     false
 }
@@ -42,14 +32,12 @@ pub fn lost(t: Trace) -> bool
     ensures { result ≡ lost t }
 {
     let mut whole = true;
-    let mut i: u8 = 0;
-    while i < THREADS {
+    for i in 0..THREADS {
         let seen = shows(t, i);
         if seen & !whole {
             return true;
         }
         whole = whole & seen;
-        i += 1;
     }
     false
 }

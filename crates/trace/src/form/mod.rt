@@ -24,29 +24,20 @@ const MARKS: usize = ADDRESSES as usize * MARK_WORDS;
 fn writes_to(op: Op, addr: u8, value: u16) -> bool
     ensures { result ≡ writes_to op addr value }
 {
-    if op.writes() {
-        if op.address() == addr {
-            return op.written() == value;
-        }
-    }
-    false
+    op.writes() && op.address() == addr && op.written() == value
 }
 
 // Whether one of the first n records writes the value to the address. Past the array stands nothing that writes.
 pub fn written_before(t: Trace, n: usize, addr: u8, value: u16) -> bool
     ensures { result ≡ written_before t n addr value }
 {
-    let mut i = 0;
-    while i < n {
+    for i in 0..n {
         if RECORDS <= i {
             return false;
         }
-        let record = t.records[i];
-        let op = record.op;
-        if writes_to(op, addr, value) {
+        if writes_to(t.records[i].op, addr, value) {
             return true;
         }
-        i += 1;
     }
     false
 }
@@ -90,49 +81,45 @@ pub fn fresh(t: Trace, n: usize, op: Op) -> bool
 }
 
 // Whether an operation may stand after the first n records.
+#[tactic(auto, unfolding(crate::specs::WellFormed::follows))]
 pub fn follows(t: Trace, n: usize, op: Op) -> bool
     ensures { result ≡ follows t n op }
 {
-    if bounded(op) {
-        return fresh(t, n, op);
-    }
-    false
+    bounded(op) && fresh(t, n, op)
 }
 
 // What is wrong with one record more: the lowest number that applies.
-pub fn fault_of(t: Trace, op: Op) -> Fault
+pub fn fault_of(t: Trace, op: Op) -> Option<Fault>
     ensures { result ≡ fault_of t op }
 {
     if !bounded(op) {
-        return Fault::PastBound;
+        return Some(Fault::PastBound);
     }
     let writes = op.writes();
     let addr = op.address();
     let written = op.written();
     let start = first(t, addr);
     if writes & (written == start) {
-        return Fault::FirstValue;
+        return Some(Fault::FirstValue);
     }
     let len = t.len;
     if RECORDS <= len {
-        return Fault::TooMany;
+        return Some(Fault::TooMany);
     }
     if writes {
         if written_before(t, len, addr, written) {
-            return Fault::Twice;
+            return Some(Fault::Twice);
         }
     }
-    Fault::Nothing
+    None
 }
 
 // Whether an operation is what an unused place holds.
+#[tactic(auto, unfolding(crate::specs::WellFormed::is_idle))]
 fn is_idle(op: Op) -> bool
     ensures { result ≡ is_idle op }
 {
-    if op.fence() {
-        return op.thread() == 0;
-    }
-    false
+    op.fence() && op.thread() == 0
 }
 
 // Which word has the mark of a value at an address. Values share marks: a mark tells only that some such value was written there.
@@ -200,15 +187,12 @@ fn used_follow(t: Trace) -> bool
 {
     let n = t.len;
     let mut marks = [0u64; MARKS];
-    let mut i = 0;
-    while i < n {
-        let record = t.records[i];
-        let op = record.op;
+    for i in 0..n {
+        let op = t.records[i].op;
         if !follows_marks(t, i, op, &marks) {
             return false;
         }
         note(&mut marks, op);
-        i += 1;
     }
     true
 }
@@ -217,14 +201,10 @@ fn used_follow(t: Trace) -> bool
 fn rest_idle(t: Trace) -> bool
     ensures { result ≡ all RECORDS (λ i. leb t.len i ⇒ is_idle (at t i)) }
 {
-    let mut i = t.len;
-    while i < RECORDS {
-        let record = t.records[i];
-        let op = record.op;
-        if !is_idle(op) {
+    for i in t.len..RECORDS {
+        if !is_idle(t.records[i].op) {
             return false;
         }
-        i += 1;
     }
     true
 }
@@ -237,8 +217,5 @@ pub fn well_formed(t: Trace) -> bool
     if RECORDS < n {
         return false;
     }
-    if used_follow(t) {
-        return rest_idle(t);
-    }
-    false
+    used_follow(t) && rest_idle(t)
 }

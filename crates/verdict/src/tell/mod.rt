@@ -1,10 +1,9 @@
 // The verdict in document 01's order.
-ghost use Rattle.std.specs.Prelude.{◌≡◌};
+ghost use Rattle.std.specs.Prelude.{◌≡◌, None};
 ghost use Rattle.std.proofs.Math.Bool.{So};
 ghost use Rattle.trace.specs.WellFormed.{well_formed};
 ghost use Rattle.rows.specs.Lent.{lent_of};
 ghost use Rattle.pairs.specs.MissingOf.{missing_of};
-ghost use Rattle.pairs.specs.declared.sources.Found.TheVariants.{Nothing};
 ghost use Rattle.verdict.specs.VerdictOf.{ToldBy, Told, Orderless, bare};
 
 use crate::{Outcome, Verdict};
@@ -12,7 +11,6 @@ use circle::show::circle_by;
 use edges::kept::kept_rows;
 use edges::sources::missing;
 use pairs::modelled;
-use pairs::sources::Found;
 use search::first::first_order_by;
 use trace::form::well_formed;
 use trace::{RECORDS, Trace};
@@ -31,17 +29,17 @@ fn bare(outcome: Outcome) -> Verdict
 
 // A circle where there is one, of a well formed trace that lacks no source and has no valid order.
 fn circle_or_none(t: Trace, kept: &[u64]) -> Verdict
-    requires { So (well_formed t) × (missing_of t ≡ Nothing) × Orderless t (lent_of t kept.now) }
+    requires { So (well_formed t) × (missing_of t ≡ None) × Orderless t (lent_of t kept.now) }
     ensures { ToldBy t (lent_of t kept.now) result }
 {
     let circle = circle_by(t, kept);
-    let len = circle.len;
-    if 0 < len {
+    if 0 < circle.len {
+        // A field that is an array goes into a literal by a variable: the borrow checker covers no other form.
         let operations = circle.operations;
         let rules = circle.rules;
         return Verdict {
             outcome: Outcome::Circle,
-            len,
+            len: circle.len,
             operations,
             rules,
         };
@@ -58,8 +56,8 @@ fn unordered(t: Trace, kept: &[u64]) -> Verdict
         return bare(Outcome::NotWellFormed);
     }
     match missing(t) {
-        Found::At(x) => bare(Outcome::NoSource(x)),
-        Found::Nothing => circle_or_none(t, kept),
+        Some(x) => bare(Outcome::NoSource(x)),
+        None => circle_or_none(t, kept),
     }
 }
 

@@ -1,4 +1,4 @@
-use Prim.Native.Nat.{◌≤◌, ◌-◌}
+use Prim.Native.Nat.{◌≤◌}
 use Rattle.trace.specs.Bounds.{RECORDS}
 use Rattle.rows.specs.Rows.{Edges}
 use Rattle.circle.specs.inner.WalkRows.{Widened}
@@ -8,6 +8,3 @@ use Rattle.circle.proofs.trail.back.Given as goal
 
 abbrev pub invariant-loop-x : goal.invariant-loop-x
 invariant-loop-x l = (l.x ≤ RECORDS) × Widened l.initial.reach (Some l.x (BackTurn (Edges l.edges) (Edges l.initial.reach) l.j)) l.reach
-
-abbrev pub decreases-loop-x : goal.decreases-loop-x
-decreases-loop-x l = RECORDS - l.x

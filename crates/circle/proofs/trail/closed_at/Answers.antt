@@ -23,4 +23,4 @@ loop-s-preserved c =
 
 pub returns : goal.returns
 returns c =
-    lowest-past RECORDS _ (λ y t. (bit-bounds c.args.walks.now y y t).0) c.loop-s.s (omega arith) c.loop-s.invariant.1
+    lowest-past RECORDS _ (λ y t. (bit-bounds c.args.walks.now y y t).0) RECORDS (omega arith) (λ y h. c.loop-s.invariant.1 y (omega (arith, h)))

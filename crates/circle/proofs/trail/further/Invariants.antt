@@ -1,5 +1,5 @@
 use mathlib.Core.Path.{◌≡◌}
-use Prim.Native.Nat.{◌≤◌, ◌-◌}
+use Prim.Native.Nat.{◌≤◌}
 use lib.ListN.{length}
 use Rattle.trace.specs.Bounds.{RECORDS}
 use Rattle.rows.specs.Bounds.{CELLS}
@@ -10,6 +10,3 @@ use Rattle.circle.proofs.trail.further.Given as goal
 
 abbrev pub invariant-loop-x : goal.invariant-loop-x
 invariant-loop-x l = (l.x ≤ RECORDS) × (length l.initial.next ≡ CELLS) × Widened l.initial.next (Some l.x (AllTurn l.edges l.walks)) l.next
-
-abbrev pub decreases-loop-x : goal.decreases-loop-x
-decreases-loop-x l = RECORDS - l.x

@@ -1,5 +1,5 @@
 use mathlib.Core.Path.{◌≡◌}
-use Prim.Native.Nat.{◌+◌, ◌≤◌, ◌<◌, ◌-◌}
+use Prim.Native.Nat.{◌+◌, ◌≤◌, ◌<◌}
 use lib.ListN.{length}
 use Rattle.trace.specs.Bounds.{RECORDS}
 use Rattle.rows.specs.Bounds.{CELLS}
@@ -9,6 +9,3 @@ use Rattle.circle.proofs.trail.least.Given as goal
 
 abbrev pub invariant-loop-k : goal.invariant-loop-k
 invariant-loop-k l = (0 < l.k) × (l.k ≤ RECORDS + 1) × (length l.walks ≡ CELLS) × (length l.next ≡ CELLS) × Trying (Edges l.edges) l.k l.walks
-
-abbrev pub decreases-loop-k : goal.decreases-loop-k
-decreases-loop-k l = RECORDS + 1 - l.k

@@ -4,17 +4,16 @@ use Prim.Native.Nat.{◌<◌}
 use native.Mathlib.Omega.{arith}
 use lib.ListN.{length}
 use Rattle.circle.proofs.ShownIn.{shown-nothing, closed-lowest, shown-laid}
+use Rattle.circle.proofs.trail.shown.Goals.{then-edges-ne-CELLS-via-then-edges-ne-CELLS, then-edges-ne-CELLS-via-else-edges-ne-CELLS+then-out-ne-RECORDS}
 use Rattle.circle.proofs.trail.shown.Goals as goal
 
 pub returns-then-edges-ne-CELLS : goal.returns-then-edges-ne-CELLS
 returns-then-edges-ne-CELLS c =
     let a = c.args in
-    shown-nothing a.edges.now (length a.out.now) c.wipe.new.out c.wipe.ensures (λ l _. absurd (c.if-edges-ne-CELLS.true l))
-
-pub returns-then-out-ne-RECORDS : goal.returns-then-out-ne-RECORDS
-returns-then-out-ne-RECORDS c =
-    let a = c.args in
-    shown-nothing a.edges.now (length a.out.now) c.wipe.new.out c.wipe.ensures (λ _ r. absurd (c.if-out-ne-RECORDS.true (c.wipe.auto.out ∙ r)))
+    shown-nothing a.edges.now (length a.out.now) c.wipe.new.out c.wipe.ensures (λ l r. (elim c.then-edges-ne-CELLS.branch [
+      | then-edges-ne-CELLS-via-then-edges-ne-CELLS w ↦ absurd (w.if-edges-ne-CELLS.true l)
+      | then-edges-ne-CELLS-via-else-edges-ne-CELLS+then-out-ne-RECORDS w ↦ absurd (w.if-out-ne-RECORDS.true (c.wipe.auto.out ∙ r))
+    ]))
 
 pub returns-then-k-eq0 : goal.returns-then-k-eq0
 returns-then-k-eq0 c =

@@ -1,6 +1,7 @@
 -- `counting::steps::plain_search`: with nothing to search, over the limit; otherwise by what the search came to.
 use mathlib.Core.Path.{refl, sym, ap₂, ◌∙◌}
 use mathlib.Core.Bool.{So, ◌&&◌}
+use mathlib.Core.Logic.{inl, inr}
 use Rattle.laws.proofs.Tests.{and-iff, same-iff}
 use Rattle.trace.specs.WellFormed.{well_formed}
 use Rattle.pairs.specs.Kept.{modelled}
@@ -42,10 +43,9 @@ pub returns-in-End : goal.returns-in-End
 returns-in-End c =
     let a = c.args in
     let h : So (answered a.model a.t) = sym (ap₂ ◌&&◌ c.well_formed-2.ensures c.modelled.ensures) ∙ c.if-not-well_formed-modelled.false in
-    c.bare-in-End.ensures ∙ counted-end a.t a.model a.limit h _ c.lay_sets-total.ensures.total _ _ c.look-walked.ensures _ c.in-End.is
-
-pub returns-in-Over : goal.returns-in-Over
-returns-in-Over c =
-    let a = c.args in
-    let h : So (answered a.model a.t) = sym (ap₂ ◌&&◌ c.well_formed-2.ensures c.modelled.ensures) ∙ c.if-not-well_formed-modelled.false in
-    c.bare-in-Over.ensures ∙ counted-over a.t a.model a.limit h _ c.lay_sets-total.ensures.total _ _ c.look-walked.ensures c.in-Over.is
+    let n = c.lay_sets-total.ensures.total in
+    let k = c.look-walked.ensures in
+    c.bare-in-End.ensures ∙ (elim c.in-End.is [
+      | inl (_, e) ↦ counted-end a.t a.model a.limit h _ n _ _ k _ e
+      | inr e ↦ counted-over a.t a.model a.limit h _ n _ _ k e
+    ])

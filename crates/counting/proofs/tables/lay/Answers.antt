@@ -3,7 +3,6 @@ use mathlib.Core.Path.{◌≡◌, ap, ◌∙◌}
 use native.Mathlib.Omega.{arith}
 use Rattle.rows.specs.Bounds.{CELLS}
 use Rattle.rows.specs.Empty.{empty_of}
-use Rattle.rows.proofs.Whole.{empty-long}
 use Rattle.edges.proofs.PairSets.{union-none, union_more}
 use Rattle.counting.proofs.CountingRows.{filled, filled-back}
 use Rattle.counting.proofs.tables.lay.Goals as goal
@@ -16,14 +15,6 @@ loop-x-init c =
     let e₃ : c.clear-3.new.rows ≡ empty_of CELLS = c.clear-3.ensures ∙ ap empty_of p.3 in
     let e₄ : c.clear-4.new.rows ≡ empty_of CELLS = c.clear-4.ensures ∙ ap empty_of p.4 in
     (omega arith, rw e₁ (union-none _ (empty_of CELLS)), rw e₂ (union-none _ (empty_of CELLS)), rw e₃ (union-none _ (empty_of CELLS)), rw e₄ (union-none _ (empty_of CELLS)))
-
-pub lay_partners-requires : goal.lay_partners-requires
-lay_partners-requires c = (c.loop-x-test.true, c.requires.0, c.loop-x.invariant.1.long ∙ empty-long CELLS)
-
-pub lay_writer-requires : goal.lay_writer-requires
-lay_writer-requires c =
-    let i = c.loop-x.invariant in
-    (c.loop-x-test.true, c.requires.0, i.2.long ∙ empty-long CELLS, i.3.long ∙ empty-long CELLS, i.4.long ∙ empty-long CELLS)
 
 pub loop-x-preserved : goal.loop-x-preserved
 loop-x-preserved c =

@@ -1,4 +1,4 @@
-use Prim.Native.Nat.{◌≤◌, ◌-◌}
+use Prim.Native.Nat.{◌≤◌}
 use Rattle.trace.specs.Meaning.{frame_of}
 use Rattle.rows.specs.Bounds.{CELLS}
 use Rattle.rows.specs.Empty.{empty_of}
@@ -16,6 +16,3 @@ invariant-loop-x l =
     × Added (empty_of CELLS) (Union l.x (λ z. Union l.n (λ y. Only (owns (frame_of l.t) z y) y z))) l.own
     × Added (empty_of CELLS) (Union l.x (λ z. Union l.n (λ y. Only (feeds? (frame_of l.t) l.reads l.served z y) z y))) l.fed
     × Added (empty_of CELLS) (Union l.x (λ z. Union l.n (λ y. Only (writer? (frame_of l.t) z y) z y))) l.rivals
-
-abbrev pub decreases-loop-x : goal.decreases-loop-x
-decreases-loop-x l = l.n - l.x

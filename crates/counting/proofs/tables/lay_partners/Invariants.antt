@@ -1,5 +1,5 @@
 use mathlib.Core.Path.{◌≡◌}
-use Prim.Native.Nat.{◌≤◌, ◌-◌}
+use Prim.Native.Nat.{◌≤◌}
 use Rattle.pairs.specs.Kept.{fenced, kept_of}
 use Rattle.edges.specs.inner.PairSets.{Only, Union}
 use Rattle.rows.specs.inner.AddedPairs.{Added}
@@ -7,6 +7,3 @@ use Rattle.counting.proofs.tables.lay_partners.Given as goal
 
 abbrev pub invariant-loop-y : goal.invariant-loop-y
 invariant-loop-y l = (l.y ≤ l.n) × (l.passed ≡ fenced l.t l.x l.y) × Added l.initial.partners (Union l.y (λ z. Only (kept_of l.model l.t l.x z) z l.x)) l.partners
-
-abbrev pub decreases-loop-y : goal.decreases-loop-y
-decreases-loop-y l = l.n - l.y

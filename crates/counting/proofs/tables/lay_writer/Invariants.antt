@@ -1,4 +1,4 @@
-use Prim.Native.Nat.{◌≤◌, ◌-◌}
+use Prim.Native.Nat.{◌≤◌}
 use Rattle.trace.specs.Meaning.{frame_of}
 use Rattle.rules.specs.RuleTests.{writer?}
 use Rattle.edges.specs.inner.PairSets.{Only, Union}
@@ -12,6 +12,3 @@ invariant-loop-y l =
     × Added l.initial.own (Union l.y (λ z. Only (owns (frame_of l.t) l.x z) z l.x)) l.own
     × Added l.initial.fed (Union l.y (λ z. Only (feeds? (frame_of l.t) l.reads l.served l.x z) l.x z)) l.fed
     × Added l.initial.rivals (Union l.y (λ z. Only (writer? (frame_of l.t) l.x z) l.x z)) l.rivals
-
-abbrev pub decreases-loop-y : goal.decreases-loop-y
-decreases-loop-y l = l.n - l.y

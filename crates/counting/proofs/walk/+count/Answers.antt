@@ -4,9 +4,8 @@ use mathlib.Core.Bool.{false≢true}
 use Prim.Native.Nat.{◌+◌, ◌<◌}
 use native.Mathlib.Omega.{arith}
 use lib.ListN.{length-set}
-use Rattle.laws.proofs.Tests.{and-iff, same-iff, so-lt}
 use Rattle.counting.specs.inner.CountedWalk.{counting_tables}
-use Rattle.counting.proofs.CountedWalk.{counts-full, counts-recalled, going-none, going-skip, going-failed, counts-spent, counts-order, counts-over, counts_end}
+use Rattle.counting.proofs.CountedWalk.{counts-full, counts-recalled, going-skip, going-failed, counts-spent, counts-order, counts-over, counts_end}
 use Rattle.counting.proofs.walk.+count.Goals.{else-next, then-next+else-used-left+in-End}
 use Rattle.counting.proofs.walk.+count.Goals as goal
 
@@ -14,36 +13,14 @@ pub returns-then-k-total : goal.returns-then-k-total
 returns-then-k-total t c = let a = c.args in
     counts-full (counting_tables a.n a.total a.operations.now a.reads.now a.partners.now a.own.now a.fed.now a.rivals.now) a.list.now a.k a.placed.now a.served.now a.left a.sets.now a.serves.now a.counts.now c.requires c.if-k-total.true
 
-pub returns-then-k-same_at : goal.returns-then-k-same_at
-returns-then-k-same_at t c = let a = c.args in
-    let t₁ = (and-iff (and-iff (so-lt {m = 0} {n = a.k}) (same-iff {a = c.same_at.result})) (same-iff {a = c.same_at-2.result})).0 c.if-k-same_at.true in
-    rw c.recalled.ensures (counts-recalled (counting_tables a.n a.total a.operations.now a.reads.now a.partners.now a.own.now a.fed.now a.rivals.now) a.list.now a.k a.placed.now a.served.now a.left a.sets.now a.serves.now a.counts.now c.requires c.mix-h.result c.mix-h.ensures t₁.0.0 (c.same_at.ensures t₁.0.1) (c.same_at-2.ensures t₁.1))
-
-pub loop-y-init : goal.loop-y-init
-loop-y-init t c = let a = c.args in
-    going-none (counting_tables a.n a.total a.operations.now a.reads.now a.partners.now a.own.now a.fed.now a.rivals.now) a.list.now a.k a.placed.now a.served.now a.left a.sets.now a.serves.now a.counts.now c.requires
+pub returns-then-same_at-2 : goal.returns-then-same_at-2
+returns-then-same_at-2 t c = let a = c.args in
+    rw c.recalled.ensures (counts-recalled (counting_tables a.n a.total a.operations.now a.reads.now a.partners.now a.own.now a.fed.now a.rivals.now) a.list.now a.k a.placed.now a.served.now a.left a.sets.now a.serves.now a.counts.now c.requires c.mix-h.result c.mix-h.ensures c.if-k-gt0.true (c.same_at.ensures c.if-same_at.true) (c.same_at-then-same_at.ensures c.if-same_at-2.true))
 
 pub returns-then-used-left : goal.returns-then-used-left
 returns-then-used-left t c = let a = c.args in
     let space : a.k < a.total = omega (arith, c.requires.left, c.if-k-total.false) in
     counts-spent (counting_tables a.n a.total a.operations.now a.reads.now a.partners.now a.own.now a.fed.now a.rivals.now) a.list.now a.k a.placed.now a.served.now a.left a.sets.now a.serves.now a.counts.now c.requires space c.loop-y.y c.loop-y.used c.loop-y.list c.loop-y.sets c.loop-y.serves c.loop-y.counts c.loop-y.invariant c.loop-y-test.true (c.next.ensures.0 c.if-next.true) c.if-used-left.true
-
-pub count-below-requires : goal.count-below-requires
-count-below-requires t c = let a = c.args in
-    let e = length-set c.loop-y.list a.k c.loop-y.y in (
-      omega (arith, c.if-k-total.false),
-      record {
-        records = c.requires.records;
-        few = c.requires.few;
-        places = omega (arith, e, c.loop-y.invariant.listed, c.requires.places);
-        left = omega arith;
-        set = c.join.ensures.long;
-        reads = c.serve.ensures.long;
-        slots = c.loop-y.invariant.slots ∙ c.requires.slots;
-        slots' = c.loop-y.invariant.slots' ∙ c.requires.slots';
-        numbers = c.loop-y.invariant.numbers ∙ c.requires.numbers;
-      },
-    )
 
 pub returns-in-Order : goal.returns-in-Order
 returns-in-Order t c = let a = c.args in

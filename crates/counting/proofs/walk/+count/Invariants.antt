@@ -7,6 +7,3 @@ decreases-count l = l.total - l.k
 
 abbrev pub invariant-loop-y : goal.invariant-loop-y
 invariant-loop-y l = Going (counting_tables l.n l.total l.operations l.reads l.partners l.own l.fed l.rivals) l.initial.list l.k l.placed l.served l.left l.initial.sets l.initial.serves l.initial.counts l.y l.used l.list l.sets l.serves l.counts
-
-abbrev pub decreases-loop-y : goal.decreases-loop-y
-decreases-loop-y l = l.n - l.y

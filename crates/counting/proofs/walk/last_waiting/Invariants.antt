@@ -1,5 +1,5 @@
 use mathlib.Core.Path.{◌≡◌}
-use Prim.Native.Nat.{◌≤◌, ◌-◌}
+use Prim.Native.Nat.{◌≤◌}
 use Rattle.laws.specs.Latest.{last_of}
 use Rattle.trace.specs.Bounds.{RECORDS}
 use Rattle.counting.specs.inner.NextTests.{waiting_own}
@@ -7,6 +7,3 @@ use Rattle.counting.proofs.walk.last_waiting.Given as goal
 
 abbrev pub invariant-loop-s : goal.invariant-loop-s
 invariant-loop-s l = (l.s ≤ l.n) × (l.last ≡ last_of (waiting_own l.own l.placed l.c) (λ S. S) RECORDS l.s)
-
-abbrev pub decreases-loop-s : goal.decreases-loop-s
-decreases-loop-s l = l.n - l.s

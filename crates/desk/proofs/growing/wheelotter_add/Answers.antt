@@ -27,17 +27,17 @@ pub taken-requires : goal.taken-requires
 taken-requires c = λ C.
     subst (λ (s : Session). Intact C s) (sym (lent-session C _ _ (c.kept-found.ensures C) (not-false _ c.if-not-found.false))) (named-intact C (shorter c.args.session.now))
 
-pub returns-in-Of : goal.returns-in-Of
-returns-in-Of c = λ C.
+pub returns-in-Some : goal.returns-in-Some
+returns-in-Some c = λ C.
     let b = c.args.session.now in
     let on = not-false _ c.if-not-found.false in
     let r = add-of C b (sym (lent-like C _ _ (c.kept-found.ensures C)) ∙ on) _ _ (lent-session C _ _ (c.kept-found.ensures C) on) _ _ (c.taken.ensures C) in
-    let same = c.in-Of.is in
+    let same = c.in-Some.is in
     (r.0 ∙ ap (add_answer C b) (sym same ∙ c.op_in.ensures), r.1 ∙ ap (add_bytes C b) (sym same ∙ c.op_in.ensures))
 
-pub returns-in-Nothing : goal.returns-in-Nothing
-returns-in-Nothing c = λ C.
+pub returns-in-None : goal.returns-in-None
+returns-in-None c = λ C.
     let b = c.args.session.now in
     let r = add_none C b (sym (lent-like C _ _ (c.kept-found.ensures C)) ∙ not-false _ c.if-not-found.false) in
-    let same = c.in-Nothing.is in
+    let same = c.in-None.is in
     (r.0 ∙ ap (add_answer C b) (sym same ∙ c.op_in.ensures), r.1 ∙ ap (add_bytes C b) (sym same ∙ c.op_in.ensures))

@@ -1,6 +1,6 @@
 use mathlib.Core.Path.{◌≡◌}
 use mathlib.Core.List.{◌++◌}
-use Prim.Native.Nat.{◌≤◌, ◌-◌}
+use Prim.Native.Nat.{◌≤◌}
 use lib.ListN.{drop, replicate}
 use Rattle.laws.specs.ListOf.{row}
 use Rattle.session.specs.Bounds.{PAIRS}
@@ -10,6 +10,3 @@ use Rattle.desk.proofs.heads.stack_in.Given as goal
 
 abbrev pub invariant-loop-i : goal.invariant-loop-i
 invariant-loop-i l = (l.i ≤ PAIRS) × (l.pairs ≡ row (pair_in l.bytes) 0 l.i ++ drop l.i (replicate PAIRS unused))
-
-abbrev pub decreases-loop-i : goal.decreases-loop-i
-decreases-loop-i l = PAIRS - l.i

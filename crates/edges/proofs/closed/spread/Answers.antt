@@ -7,19 +7,8 @@ use Rattle.rows.specs.Rows.{bit}
 use Rattle.rows.proofs.Rows.{bit-bounds}
 use Rattle.edges.proofs.PairSets.{adds-as}
 use Rattle.edges.proofs.DrawnEdges.{next-on, next-at}
-use Rattle.edges.proofs.ClosedTables.{spread_none, spread-more}
+use Rattle.edges.proofs.ClosedTables.{spread-more}
 use Rattle.edges.proofs.closed.spread.Goals as goal
-
-pub loop-x-init : goal.loop-x-init
-loop-x-init c =
-    let a = c.args in
-    let first = c.next-x.ensures in
-    (next-at a.heads.now 0 0 _ first, spread_none a.heads.now a.row.now a.rows.now _ (λ z h. first.skips z (omega arith) h))
-
-pub loop-x-smaller : goal.loop-x-smaller
-loop-x-smaller c =
-    let a = c.args in
-    omega (arith, next-on a.heads.now 0 c.loop-x.x _ c.next-x-in-loop-x.ensures (omega arith))
 
 pub loop-x-preserved : goal.loop-x-preserved
 loop-x-preserved c =
@@ -30,9 +19,6 @@ loop-x-preserved c =
       next-at a.heads.now 0 _ _ further,
       spread-more a.heads.now a.row.now _ x _ (λ i. (c.type_inv.row i).fits) (c.loop-x.invariant.1.long ∙ c.requires) (omega arith) here (next-on a.heads.now 0 x _ further (omega arith)) further.skips c.loop-x.invariant.1 c.add_row.ensures,
     )
-
-pub shape_of-rows : goal.shape_of-rows
-shape_of-rows c = c.loop-x.invariant.1.long
 
 pub returns : goal.returns
 returns c =

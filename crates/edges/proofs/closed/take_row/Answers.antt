@@ -1,12 +1,10 @@
 -- `edges::closed::take_row`: the pairs with what the row has below b are in.
-use mathlib.Core.Path.{◌∙◌}
 use mathlib.Core.Logic.{inl, inr}
 use mathlib.Core.Bool.{So}
 use native.Mathlib.Omega.{arith}
 use Rattle.rows.specs.Rows.{bit}
 use Rattle.edges.proofs.DrawnEdges.{next-on, next-at}
 use Rattle.edges.proofs.ClosedTables.{row-none, row_more, row-all}
-use borrow.Author.Rules.{rules}
 use Rattle.edges.proofs.closed.take_row.Goals as goal
 
 pub loop-b-init : goal.loop-b-init
@@ -14,15 +12,6 @@ loop-b-init c =
     let a = c.args in
     let first = c.next-b.ensures in
     (next-at a.row.now 0 0 _ first, row-none a.a a.row.now a.edges.now a.turned.now _ (λ z h. first.skips z (omega arith) h))
-
-pub take-requires : goal.take-requires
-take-requires c =
-    (c.requires.0, search rules, c.loop-b.invariant.1.long ∙ c.requires.1, c.loop-b.invariant.1.turned-long ∙ c.requires.2)
-
-pub loop-b-smaller : goal.loop-b-smaller
-loop-b-smaller c =
-    let a = c.args in
-    omega (arith, next-on a.row.now 0 c.loop-b.b _ c.next-b-in-loop-b.ensures (omega arith))
 
 pub loop-b-preserved : goal.loop-b-preserved
 loop-b-preserved c =
@@ -32,12 +21,6 @@ loop-b-preserved c =
       next-at a.row.now 0 _ _ further,
       row_more a.a a.row.now c.loop-b.b _ here (next-on a.row.now 0 c.loop-b.b _ further (omega arith)) further.skips c.loop-b.invariant.1 c.take.ensures,
     )
-
-pub shape_of-edges : goal.shape_of-edges
-shape_of-edges c = c.loop-b.invariant.1.long
-
-pub shape_of-turned : goal.shape_of-turned
-shape_of-turned c = c.loop-b.invariant.1.turned-long
 
 pub returns : goal.returns
 returns c = row-all _ _ c.loop-b.b (omega arith) c.loop-b.invariant.1

@@ -1,5 +1,4 @@
 -- `edges::closed::take_rows`: the pairs of the rows below x are in.
-use mathlib.Core.Path.{◌∙◌}
 use native.Mathlib.Omega.{arith}
 use Rattle.rows.specs.Rows.{Words}
 use Rattle.edges.proofs.ClosedTables.{rows_none, rows_more, rows_all}
@@ -8,21 +7,10 @@ use Rattle.edges.proofs.closed.take_rows.Goals as goal
 pub loop-x-init : goal.loop-x-init
 loop-x-init c = let a = c.args in (omega arith, λ words. rows_none a.pairs.now words a.edges.now a.turned.now)
 
-pub take_row-requires : goal.take_row-requires
-take_row-requires c =
-    let now = c.loop-x.invariant.1 (λ i. (c.type_inv.pairs i).fits) in
-    (omega arith, now.long ∙ c.requires.2, now.turned-long ∙ c.requires.3)
-
 pub loop-x-preserved : goal.loop-x-preserved
 loop-x-preserved c =
     let a = c.args in
     (omega arith, λ words. rows_more a.pairs.now words c.loop-x.x _ c.rest-row.ensures (c.loop-x.invariant.1 words) c.take_row.ensures)
-
-pub shape_of-edges : goal.shape_of-edges
-shape_of-edges c = (c.loop-x.invariant.1 (λ i. (c.type_inv.pairs i).fits)).long
-
-pub shape_of-turned : goal.shape_of-turned
-shape_of-turned c = (c.loop-x.invariant.1 (λ i. (c.type_inv.pairs i).fits)).turned-long
 
 pub returns : goal.returns
 returns c =

@@ -1,14 +1,7 @@
 -- `edges::force::draw_early`: the row of the writers is drawn, or nothing.
-use mathlib.Core.Path.{sym, ◌∙◌}
-use mathlib.Core.Bool.{false≢true}
-use Rattle.edges.proofs.PairSets.{adds_none}
 use Rattle.edges.proofs.DrawnEdges.{early-drawn}
 use Rattle.edges.proofs.force.draw_early.Goals as goal
 
 pub returns-then-early : goal.returns-then-early
 returns-then-early c =
     early-drawn c.args.early c.if-early.true c.args.others.now (λ i. (c.type_inv.others i).fits) c.args.load c.requires.0 c.args.edges.now _ c.requires.1 c.add_row.ensures
-
-pub returns-else-early : goal.returns-else-early
-returns-else-early c =
-    adds_none c.args.edges.now _ (λ i j u. false≢true (sym c.if-early.false ∙ u.0))

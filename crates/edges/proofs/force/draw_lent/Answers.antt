@@ -1,19 +1,14 @@
 -- `edges::force::draw_lent`: the rows below x are drawn.
-use mathlib.Core.Path.{◌≡◌, sym, ◌∙◌}
+use mathlib.Core.Path.{sym, ◌∙◌}
 use mathlib.Core.Bool.{So, false≢true}
 use native.Mathlib.Omega.{arith}
 use Rattle.rows.specs.Rows.{bit}
 use Rattle.edges.proofs.PairSets.{adds-as, union-none, union_more, union-skip}
-use borrow.Author.Rules.{rules}
 use Rattle.edges.proofs.force.draw_lent.Goals.{else-not-test, then-not-test}
 use Rattle.edges.proofs.force.draw_lent.Goals as goal
 
 pub loop-x-init : goal.loop-x-init
 loop-x-init c = (omega arith, union-none _ c.args.edges.now)
-
-pub draw_lent_from-requires : goal.draw_lent_from-requires
-draw_lent_from-requires c =
-    (search rules, c.loop-x.invariant.1.long ∙ c.requires.1)
 
 pub loop-x-preserved : goal.loop-x-preserved
 loop-x-preserved c =
@@ -24,11 +19,3 @@ loop-x-preserved c =
       | else-not-test w ↦ let there = sym c.test.ensures ∙ w.if-not-test.false in
           (omega arith, rw w.edges-is (union-skip _ x c.loop-x.invariant.1 (λ i j u. u.0 there)))
     ])
-
-pub shape_of-edges : goal.shape_of-edges
-shape_of-edges c = c.loop-x.invariant.1.long
-
-pub returns : goal.returns
-returns c =
-    let n : c.loop-x.x ≡ c.args.n = omega arith in
-    rw n at c.loop-x.invariant.1

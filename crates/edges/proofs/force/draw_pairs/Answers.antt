@@ -1,13 +1,9 @@
 -- `edges::force::draw_pairs`: what is no operation is noted, then the kept pairs and the supposed ones are drawn.
-use mathlib.Core.Path.{refl, ◌∙◌}
+use mathlib.Core.Path.{refl}
 use Rattle.rows.specs.Bounds.{CELLS}
 use Rattle.edges.proofs.PairSets.{adds-as, adds_then}
 use Rattle.edges.proofs.LentPairs.{apart, lent-spared, paired-both}
 use Rattle.edges.proofs.force.draw_pairs.Goals as goal
-
-pub draw_lent-requires-2 : goal.draw_lent-requires-2
-draw_lent-requires-2 c =
-    (c.requires.0, c.draw_lent.ensures.long ∙ c.requires.1)
 
 pub returns : goal.returns
 returns c =

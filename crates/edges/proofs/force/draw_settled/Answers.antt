@@ -1,21 +1,16 @@
 -- `edges::force::draw_settled`: what the loads below `load` are given is drawn.
-use mathlib.Core.Path.{◌≡◌, ◌∙◌}
+use mathlib.Core.Path.{◌≡◌}
 use native.Mathlib.Omega.{arith}
 use lib.ListN.{get_or}
 use Rattle.edges.specs.inner.PairSets.{Union}
 use Rattle.rows.specs.inner.AddedPairs.{Added}
 use Rattle.edges.specs.inner.DrawnEdges.{SettledBy}
 use Rattle.edges.proofs.PairSets.{adds-as, union-none, union_more, union-skip}
-use borrow.Author.Rules.{rules}
 use Rattle.edges.proofs.force.draw_settled.Goals.{else-source-lt-RECORDS, then-source-lt-RECORDS}
 use Rattle.edges.proofs.force.draw_settled.Goals as goal
 
 pub loop-load-init : goal.loop-load-init
 loop-load-init c = (omega arith, union-none _ c.args.edges.now)
-
-pub draw_settled_for-requires : goal.draw_settled_for-requires
-draw_settled_for-requires c =
-    (search rules, search rules, search rules, c.loop-load.invariant.1.long ∙ c.requires.2)
 
 pub loop-load-preserved : goal.loop-load-preserved
 loop-load-preserved c =
@@ -29,11 +24,3 @@ loop-load-preserved c =
             rw e (union-skip _ c.loop-load.load c.loop-load.invariant.1 (λ x y u. omega (arith, w.if-source-lt-RECORDS.false, u.0)))
       ]),
     )
-
-pub shape_of-edges : goal.shape_of-edges
-shape_of-edges c = c.loop-load.invariant.1.long
-
-pub returns : goal.returns
-returns c =
-    let n : c.loop-load.load ≡ c.args.n = omega arith in
-    rw n at c.loop-load.invariant.1

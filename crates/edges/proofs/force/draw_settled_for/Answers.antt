@@ -1,5 +1,5 @@
 -- `edges::force::draw_settled_for`: what the records below x give is drawn, and x is noted or past the last.
-use mathlib.Core.Path.{◌≡◌, ◌∙◌}
+use mathlib.Core.Path.{◌≡◌}
 use mathlib.Core.Logic.{inl, inr}
 use mathlib.Core.Bool.{So}
 use native.Mathlib.Omega.{arith}
@@ -8,7 +8,6 @@ use Rattle.rows.specs.inner.AddedPairs.{Added}
 use Rattle.edges.specs.inner.DrawnEdges.{Settled, SettledBy}
 use Rattle.edges.proofs.PairSets.{adds_none, adds-as, adds_then, swept_none, swept-more, swept_all}
 use Rattle.edges.proofs.DrawnEdges.{settled-by, settled-other, settled-none, next-on, next-at}
-use borrow.Author.Rules.{rules}
 use Rattle.edges.proofs.force.draw_settled_for.Goals.{else-x-source, then-x-source}
 use Rattle.edges.proofs.force.draw_settled_for.Goals as goal
 
@@ -19,15 +18,6 @@ loop-x-init c =
       next-at a.writers.now a.load 0 _ first,
       adds_none a.edges.now _ (swept_none a.n (SettledBy a.writers.now a.chains.now a.source a.load) _ (λ z h. settled-none a.writers.now a.chains.now a.source a.load z (first.skips z (omega arith) h))),
     )
-
-pub draw_settled_by-requires : goal.draw_settled_by-requires
-draw_settled_by-requires c =
-    (search rules, search rules, search rules, c.loop-x.invariant.1.long ∙ c.requires.3)
-
-pub loop-x-smaller : goal.loop-x-smaller
-loop-x-smaller c =
-    let a = c.args in
-    omega (arith, next-on a.writers.now a.load c.loop-x.x _ c.next-x-in-loop-x.ensures (omega arith))
 
 pub loop-x-preserved : goal.loop-x-preserved
 loop-x-preserved c =
@@ -45,9 +35,6 @@ loop-x-preserved c =
             rw e (adds_then _ c.loop-x.invariant.1 (adds_none _ _ (settled-other a.writers.now a.chains.now a.source a.load x w.if-x-source.false)) step)
       ]),
     )
-
-pub shape_of-edges : goal.shape_of-edges
-shape_of-edges c = c.loop-x.invariant.1.long
 
 pub returns : goal.returns
 returns c =

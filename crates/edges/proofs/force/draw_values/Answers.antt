@@ -19,15 +19,6 @@ loop-load-init c =
     let lay = c.lay_sources.ensures in
     (omega arith, loaded-none (frame_of c.args.t) c.args.t.len _ c.args.writers.now c.args.edges.now (lay.long ∙ c.requires.1), stored c.args.t _ _ refl c.note_stores.ensures, lay.source)
 
-pub bounds-sources-load : goal.bounds-sources-load
-bounds-sources-load c = omega (arith, c.loop-load.invariant.1.long, c.loop-load-test.true, c.requires.0)
-
-pub draw_values_for-requires : goal.draw_values_for-requires
-draw_values_for-requires c =
-    let p = c.requires in
-    let below = c.loop-load-test.true in
-    record { below = (below, p.0, c.loop-load.invariant.3 c.loop-load.load below); stored = c.loop-load.invariant.2 _; lengths = (c.loop-load.invariant.1.writers.long ∙ p.2, c.loop-load.invariant.1.edges.long ∙ p.3) }
-
 pub loop-load-preserved : goal.loop-load-preserved
 loop-load-preserved c =
     let a = c.args in
@@ -52,17 +43,3 @@ loop-load-preserved c =
             c.loop-load.invariant.3,
           )
     ])
-
-pub shape_of-sources : goal.shape_of-sources
-shape_of-sources c = c.loop-load.invariant.1.long ∙ sym c.requires.1
-
-pub shape_of-writers : goal.shape_of-writers
-shape_of-writers c = c.loop-load.invariant.1.writers.long
-
-pub shape_of-edges : goal.shape_of-edges
-shape_of-edges c = c.loop-load.invariant.1.edges.long
-
-pub returns : goal.returns
-returns c =
-    let n : c.loop-load.load ≡ c.args.t.len = omega (arith, c.loop-load-test.false, c.loop-load.invariant.0) in
-    rw n at c.loop-load.invariant.1

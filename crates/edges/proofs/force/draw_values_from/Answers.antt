@@ -25,16 +25,6 @@ loop-x-init c =
       adds_none a.edges.now _ (swept_none a.load (PassedBy f a.others.now a.early a.source a.load) _ (λ z h. passed_none f a.others.now a.early a.source a.load z (begin.skips z (omega arith) h))),
     )
 
-pub draw_value-requires : goal.draw_value-requires
-draw_value-requires c =
-    (search rules, search rules, c.loop-x.invariant.1.long ∙ c.requires.2)
-
-pub loop-x-smaller : goal.loop-x-smaller
-loop-x-smaller c =
-    let a = c.args in
-    let small : c.loop-x.x < RECORDS = search rules in
-    omega (arith, next-on a.others.now 0 c.loop-x.x _ c.next-x-in-loop-x.ensures small)
-
 pub loop-x-preserved : goal.loop-x-preserved
 loop-x-preserved c =
     let a = c.args in
@@ -55,9 +45,6 @@ loop-x-preserved c =
             rw e (adds_then _ c.loop-x.invariant.1 (adds_none _ _ (passed-other f a.others.now a.early a.source a.load x other)) step)
       ]),
     )
-
-pub shape_of-edges : goal.shape_of-edges
-shape_of-edges c = c.loop-x.invariant.1.long
 
 pub returns : goal.returns
 returns c =

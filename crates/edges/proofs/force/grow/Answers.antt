@@ -29,9 +29,6 @@ returns-then-reflexive c =
     let t = c.args.t in
     settling-circle (frame_of t) (lent_of t c.args.kept.now) (supposed_of t c.args.supposed.now) c.loop-t.edges c.loop-t.turned _ (length c.loop-t.edges) c.loop-t.invariant (sym c.reflexive.ensures ∙ c.if-reflexive.true) c.clear.ensures c.loop-t.invariant.full.long
 
-pub slice_bounds-settle_all-end-in-loop-t-2 : goal.slice_bounds-settle_all-end-in-loop-t-2
-slice_bounds-settle_all-end-in-loop-t-2 c = sym c.loop-t.invariant.turned-long
-
 pub settle_all-requires : goal.settle_all-requires
 settle_all-requires c =
     (((form-iff c.args.t).0 c.requires.0).fits, c.draw_first.ensures.facts.sources-long, c.loop-t.invariant.full.long, c.loop-t.invariant.turned-long)

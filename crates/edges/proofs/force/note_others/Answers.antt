@@ -17,9 +17,6 @@ loop-y-preserved c =
           (adds-only _ _ (other_at c.args.t y _ c.fence.ensures) (adds-if _ 0 y (c.loop-y.invariant.1.long ∙ c.requires.1) (λ _. (omega arith, omega arith)) c.put_if.ensures)),
     )
 
-pub shape_of-others : goal.shape_of-others
-shape_of-others c = c.loop-y.invariant.1.long
-
 pub returns : goal.returns
 returns c =
     let n : c.loop-y.y ≡ RECORDS = omega arith in

@@ -1,5 +1,5 @@
 use mathlib.Core.Bool.{not}
-use Prim.Native.Nat.{◌≤◌, ◌-◌}
+use Prim.Native.Nat.{◌≤◌}
 use Rattle.trace.specs.Bounds.{RECORDS}
 use Rattle.trace.specs.Meaning.{frame_of}
 use Rattle.edges.specs.inner.PairSets.{Only, Union}
@@ -8,6 +8,3 @@ use Rattle.edges.proofs.force.note_others.Given as goal
 
 abbrev pub invariant-loop-y : goal.invariant-loop-y
 invariant-loop-y l = (l.y ≤ RECORDS) × Added l.initial.others (Union l.y (λ z. Only (not ((frame_of l.t).operation z)) 0 z)) l.others
-
-abbrev pub decreases-loop-y : goal.decreases-loop-y
-decreases-loop-y l = RECORDS - l.y

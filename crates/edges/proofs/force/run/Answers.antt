@@ -1,6 +1,5 @@
 -- `edges::force::run`: the loop stands at some round.
 use mathlib.Core.Bool.{true, false}
-use mathlib.Core.Path.{refl, sym, ap, ◌∙◌}
 use native.Mathlib.Numerals.{add-one}
 use native.Mathlib.Omega.{arith}
 use lib.ListN.{length}
@@ -18,16 +17,6 @@ use Rattle.edges.specs.inner.RoundStep.{Closed}
 use Rattle.edges.proofs.LastRound.{supposed-within, edges-inside, stayed, grown, fewer, turns, stands-first, stands-next, ended-circle, ended-last}
 use Rattle.edges.proofs.force.run.Goals as goal
 
-pub slice_bounds-draw_first-end : goal.slice_bounds-draw_first-end
-slice_bounds-draw_first-end c = refl
-
-pub slice_bounds-draw_first-end-2 : goal.slice_bounds-draw_first-end-2
-slice_bounds-draw_first-end-2 c = refl
-
-pub draw_first-requires : goal.draw_first-requires
-draw_first-requires c =
-    (c.requires.0, refl, refl, c.requires.2)
-
 pub loop-t-init : goal.loop-t-init
 loop-t-init c =
     let t = c.args.t in
@@ -40,44 +29,16 @@ close-requires c =
     let t = c.args.t in
     (((form-iff t).0 c.requires.0).fits, edges-inside (frame_of t) (good t c.requires.0) (lent_of t c.args.kept.now) (supposed_of t c.args.supposed.now) (lent-within t c.args.kept.now c.requires.0) (supposed-within t c.args.supposed.now c.requires.0) l.number l.edges l.invariant.1.edges-has, l.invariant.0)
 
-pub shape_of-before-then-close : goal.shape_of-before-then-close
-shape_of-before-then-close c = c.loop-t.invariant.1.before-full.long ∙ sym c.requires.1
-
-pub shape_of-edges-then-close : goal.shape_of-edges-then-close
-shape_of-edges-then-close c = c.loop-t.invariant.1.edges-full.long ∙ sym c.requires.2
-
-pub shape_of-chains-then-close : goal.shape_of-chains-then-close
-shape_of-chains-then-close c = c.close.ensures.full.long ∙ sym c.requires.3
-
 pub returns-then-close : goal.returns-then-close
 returns-then-close c =
     let t = c.args.t in
     let d : Closed c.loop-t.edges _ true = rw c.if-close.true at c.close.ensures in
     ended-circle (frame_of t) (lent_of t c.args.kept.now) (supposed_of t c.args.supposed.now) c.loop-t.number _ _ _ c.loop-t.invariant.1 d
 
-pub slice_bounds-advance-end : goal.slice_bounds-advance-end
-slice_bounds-advance-end c = sym c.draw_first.ensures.facts.sources-long
-
-pub slice_bounds-advance-end-in-loop-t : goal.slice_bounds-advance-end-in-loop-t
-slice_bounds-advance-end-in-loop-t c = sym c.draw_first.ensures.facts.writers-long
-
 pub advance-requires : goal.advance-requires
 advance-requires c =
     let now = c.loop-t.invariant.1 in
     (((form-iff c.args.t).0 c.requires.0).fits, c.draw_first.ensures.facts.sources-long, c.close.ensures.full.long, now.before-full.long, now.edges-full.long)
-
-pub shape_of-before-then-not-advance : goal.shape_of-before-then-not-advance
-shape_of-before-then-not-advance c =
-    let u = stayed c.advance.ensures (not-true _ c.if-not-advance.true-raw) in
-    ap length u.0 ∙ c.loop-t.invariant.1.before-full.long ∙ sym c.requires.1
-
-pub shape_of-edges-then-not-advance : goal.shape_of-edges-then-not-advance
-shape_of-edges-then-not-advance c =
-    let u = stayed c.advance.ensures (not-true _ c.if-not-advance.true-raw) in
-    ap length u.1 ∙ c.loop-t.invariant.1.edges-full.long ∙ sym c.requires.2
-
-pub shape_of-chains-then-not-advance : goal.shape_of-chains-then-not-advance
-shape_of-chains-then-not-advance c = c.close.ensures.full.long ∙ sym c.requires.3
 
 pub returns-then-not-advance : goal.returns-then-not-advance
 unfolding frame_of

@@ -1,5 +1,5 @@
 -- `edges::force::settle`: what the loads below `load` are given is taken in.
-use mathlib.Core.Path.{◌≡◌, ◌∙◌}
+use mathlib.Core.Path.{◌≡◌}
 use native.Mathlib.Omega.{arith}
 use lib.ListN.{get_or}
 use Rattle.trace.specs.Bounds.{RECORDS}
@@ -7,16 +7,11 @@ use Rattle.edges.specs.inner.PairSets.{Union}
 use Rattle.edges.specs.inner.DrawnEdges.{SettledBy}
 use Rattle.edges.specs.inner.Takes.{Takes, AskWritten}
 use Rattle.edges.proofs.Takes.{turns-none, turns_more, turns-skip, load-turn}
-use borrow.Author.Rules.{rules}
 use Rattle.edges.proofs.force.settle.Goals.{else-source-lt-RECORDS, then-source-lt-RECORDS}
 use Rattle.edges.proofs.force.settle.Goals as goal
 
 pub loop-load-init : goal.loop-load-init
 loop-load-init c = let a = c.args in (omega arith, turns-none _ _ a.edges.now a.turned.now)
-
-pub settle_for-requires : goal.settle_for-requires
-settle_for-requires c =
-    (search rules, search rules, c.loop-load.invariant.1.long ∙ c.requires.2, c.loop-load.invariant.1.turned-long ∙ c.requires.3)
 
 pub loop-load-preserved : goal.loop-load-preserved
 loop-load-preserved c =
@@ -31,14 +26,3 @@ loop-load-preserved c =
             rw (e, q) (turns-skip _ _ c.loop-load.load c.loop-load.invariant.1 (λ x y u. omega (arith, w.if-source-lt-RECORDS.false, u.0)))
       ]),
     )
-
-pub shape_of-edges : goal.shape_of-edges
-shape_of-edges c = c.loop-load.invariant.1.long
-
-pub shape_of-turned : goal.shape_of-turned
-shape_of-turned c = c.loop-load.invariant.1.turned-long
-
-pub returns : goal.returns
-returns c =
-    let n : c.loop-load.load ≡ c.args.n = omega arith in
-    rw n at c.loop-load.invariant.1

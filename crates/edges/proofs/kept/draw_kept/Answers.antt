@@ -11,36 +11,27 @@ use Rattle.trace.proofs.Records.{operation-at}
 use Rattle.rows.specs.Bounds.{CELLS}
 use Rattle.rows.specs.Empty.{empty_of}
 use Rattle.rows.proofs.Whole.{empty-long}
-use Rattle.edges.proofs.LaterRecords.{later-none, rows_none, all-drawn, later-fence, behind-fence, rows-fence, later_more, behind_more, rows_more, undrawn}
+use Rattle.edges.proofs.LaterRecords.{later-none, rows_none, later-fence, behind-fence, rows-fence, later_more, behind_more, rows_more, undrawn}
 use Rattle.edges.proofs.kept.draw_kept.Goals as goal
 
-pub loop-k-init : goal.loop-k-init
-loop-k-init c =
+pub loop-x-init : goal.loop-x-init
+loop-x-init c =
     let a = c.args in
     let none = later-none a.t (empty_of CELLS) in
     (omega arith, none.0, none.1, rows_none a.t a.elsewhere.now a.there.now a.places.now a.kept.now)
 
-pub overflow_cast-thread : goal.overflow_cast-thread
-overflow_cast-thread c = omega (arith, c.thread-thread.type_inv)
-
-pub overflow_cast-kind : goal.overflow_cast-kind
-overflow_cast-kind c = omega (arith, c.kind.type_inv)
-
-pub overflow_cast-address : goal.overflow_cast-address
-overflow_cast-address c = omega (arith, c.address.type_inv)
-
 pub draw_kept_from-requires : goal.draw_kept_from-requires
 draw_kept_from-requires c =
     let a = c.args in
-    let k = c.loop-k.k in
-    let next : k ≡ (k - 1) + 1 = omega (arith, c.loop-k-test.true) in
-    (omega arith, c.loop-k.invariant.3.long ∙ ap length c.requires.1 ∙ empty-long CELLS, undrawn a.t k (k - 1) next CELLS a.elsewhere.now a.there.now a.places.now a.kept.now _ c.requires.1 c.loop-k.invariant.3)
+    let k = c.loop-x.x in
+    let next : k ≡ (k - 1) + 1 = omega (arith, c.loop-x-test.true) in
+    (omega arith, c.loop-x.invariant.3.long ∙ ap length c.requires.1 ∙ empty-long CELLS, undrawn a.t k (k - 1) next CELLS a.elsewhere.now a.there.now a.places.now a.kept.now _ c.requires.1 c.loop-x.invariant.3)
 
-pub loop-k-preserved-then-fence : goal.loop-k-preserved-then-fence
-loop-k-preserved-then-fence c =
+pub loop-x-preserved-then-fence : goal.loop-x-preserved-then-fence
+loop-x-preserved-then-fence c =
     let t = c.args.t in
-    let k = c.loop-k.k in
-    let now = c.loop-k.invariant in
+    let k = c.loop-x.x in
+    let now = c.loop-x.invariant in
     let next : k ≡ (k - 1) + 1 = omega arith in
     let is : So (fence (at t (k - 1))) = sym c.fence.ensures ∙ c.if-fence.true in (
       omega arith,
@@ -49,11 +40,11 @@ loop-k-preserved-then-fence c =
       rows-fence t k (k - 1) next is _ _ _ now.3,
     )
 
-pub loop-k-preserved : goal.loop-k-preserved
-loop-k-preserved c =
+pub loop-x-preserved : goal.loop-x-preserved
+loop-x-preserved c =
     let t = c.args.t in
-    let k = c.loop-k.k in
-    let now = c.loop-k.invariant in
+    let k = c.loop-x.x in
+    let now = c.loop-x.invariant in
     let next : k ≡ (k - 1) + 1 = omega arith in
     let is : So ((frame_of t).operation (k - 1)) = operation-at t (k - 1) (omega arith) ∙ ap not (sym c.fence.ensures ∙ c.if-fence.false) in (
       omega arith,
@@ -61,12 +52,3 @@ loop-k-preserved c =
       behind_more t k (k - 1) next is now.2,
       rows_more t k (k - 1) next is CELLS _ _ _ _ _ _ now.1 now.2 _ _ _ c.thread-thread.ensures c.kind.ensures c.address.ensures c.off_for-off.ensures.1 now.3 c.draw_kept_from.ensures,
     )
-
-pub shape_of-kept : goal.shape_of-kept
-shape_of-kept c = c.loop-k.invariant.3.long
-
-pub returns : goal.returns
-returns c =
-    let n : c.loop-k.k ≡ 0 = omega arith in
-    let a = c.args in
-    all-drawn a.t a.elsewhere.now a.there.now a.places.now (rw n at c.loop-k.invariant.3)

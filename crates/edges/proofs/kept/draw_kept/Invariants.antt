@@ -5,8 +5,5 @@ use Rattle.rows.specs.inner.AddedPairs.{Added}
 use Rattle.edges.specs.inner.LaterRecords.{Later, LaterFenced, DrawnFrom}
 use Rattle.edges.proofs.kept.draw_kept.Given as goal
 
-abbrev pub invariant-loop-k : goal.invariant-loop-k
-invariant-loop-k l = (l.k ≤ l.t.len) × Added (empty_of CELLS) (Later l.t l.k) l.later × Added (empty_of CELLS) (LaterFenced l.t l.k) l.behind × Added l.initial.kept (DrawnFrom l.t l.elsewhere l.there l.places l.k) l.kept
-
-abbrev pub decreases-loop-k : goal.decreases-loop-k
-decreases-loop-k l = l.k
+abbrev pub invariant-loop-x : goal.invariant-loop-x
+invariant-loop-x l = (l.x ≤ l.t.len) × Added (empty_of CELLS) (Later l.t l.x) l.later × Added (empty_of CELLS) (LaterFenced l.t l.x) l.behind × Added l.initial.kept (DrawnFrom l.t l.elsewhere l.there l.places l.x) l.kept

@@ -1,5 +1,5 @@
 -- `edges::kept::let_off`: what is let off after the kinds below the first is drawn.
-use mathlib.Core.Path.{◌≡◌, ◌∙◌}
+use mathlib.Core.Path.{◌≡◌}
 use native.Mathlib.Omega.{arith}
 use Rattle.edges.specs.inner.LaterRecords.{KINDS}
 use Rattle.edges.proofs.PairSets.{union-none, union_more}
@@ -8,16 +8,9 @@ use Rattle.edges.proofs.kept.let_off.Goals as goal
 pub loop-first-init : goal.loop-first-init
 loop-first-init c = (omega arith, union-none _ c.args.off.now)
 
-pub let_off_from-requires : goal.let_off_from-requires
-let_off_from-requires c =
-    (omega arith, c.loop-first.invariant.1.long ∙ c.requires)
-
 pub loop-first-preserved : goal.loop-first-preserved
 loop-first-preserved c =
     (omega arith, union_more _ c.loop-first.first c.loop-first.invariant.1 c.let_off_from.ensures)
-
-pub shape_of-off : goal.shape_of-off
-shape_of-off c = c.loop-first.invariant.1.long
 
 pub returns : goal.returns
 returns c =

@@ -1,7 +1,6 @@
 -- `edges::kept::let_off_from`: what is let off of the kinds below the second is drawn.
-use mathlib.Core.Path.{◌≡◌, sym, ◌∙◌}
+use mathlib.Core.Path.{sym, ◌∙◌}
 use native.Mathlib.Omega.{arith}
-use Rattle.edges.specs.inner.LaterRecords.{KINDS}
 use Rattle.edges.proofs.PairSets.{union-none}
 use Rattle.edges.proofs.LaterRecords.{off-none, off-more}
 use Rattle.edges.proofs.kept.let_off_from.Goals.{else-not-kept_by, then-not-kept_by}
@@ -16,11 +15,3 @@ loop-second-preserved c =
     let now = c.loop-second.invariant in
     let asked = c.kept_by.ensures in
     (elim c.if-not-kept_by.branch [ then-not-kept_by w ↦ (omega arith, rw w.off-is (off-more a.model a.one a.kinds.now a.first c.loop-second.second (λ i. (c.type_inv.kinds i).fits) (omega (arith, c.requires.0)) now.1 (omega (arith, now.1.long, c.requires.0, c.requires.1)) (sym asked ∙ w.if-not-kept_by.true) w.add_row.ensures)) | else-not-kept_by w ↦ (omega arith, rw w.off-is (off-none a.model a.one a.kinds.now a.first c.loop-second.second now.1 (sym asked ∙ w.if-not-kept_by.false))) ])
-
-pub shape_of-off : goal.shape_of-off
-shape_of-off c = c.loop-second.invariant.1.long
-
-pub returns : goal.returns
-returns c =
-    let n : c.loop-second.second ≡ KINDS = omega arith in
-    rw n at c.loop-second.invariant.1

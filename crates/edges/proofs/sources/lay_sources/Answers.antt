@@ -1,6 +1,6 @@
 -- `edges::sources::lay_sources`: the sources of the records below `load` are laid.
 use mathlib.Core.Bool.{Bool, not, ◌&&◌}
-use mathlib.Core.Path.{◌≡◌, refl, sym, ap, ◌∙◌}
+use mathlib.Core.Path.{sym, ap, ◌∙◌}
 use Prim.Native.Nat.{ℕ}
 use native.Mathlib.Omega.{arith}
 use lib.Dec.{eqb}
@@ -8,20 +8,8 @@ use lib.ListN.{get_or}
 use Rattle.trace.specs.Meaning.{frame_of}
 use Rattle.trace.specs.Op.{reads}
 use Rattle.trace.specs.Trace.{at, first}
-use Rattle.edges.proofs.SourcesLaid.{sources-laid-none, sources-laid-more, source-laid}
+use Rattle.edges.proofs.SourcesLaid.{sources-laid-more, source-laid}
 use Rattle.edges.proofs.sources.lay_sources.Goals as goal
-
-pub lay_values-requires : goal.lay_values-requires
-lay_values-requires c = (c.requires.0, refl)
-
-pub loop-load-init : goal.loop-load-init
-loop-load-init c = let a = c.args in (omega arith, sources-laid-none (frame_of a.t) a.sources.now)
-
-pub slice_bounds-source_in-end : goal.slice_bounds-source_in-end
-slice_bounds-source_in-end c = sym c.lay_values.ensures.long
-
-pub bounds-sources-load : goal.bounds-sources-load
-bounds-sources-load c = omega (arith, c.loop-load.invariant.1.long, c.loop-load-test.true, c.requires.0, c.requires.1)
 
 pub loop-load-preserved : goal.loop-load-preserved
 unfolding first
@@ -33,12 +21,3 @@ loop-load-preserved c =
     let asks = ap (λ (b : Bool). b && not (eqb c.read.result c.value_at.result)) c.reads.ensures ∙ ap (λ (y : ℕ). reads (at t l.load) && not (eqb y c.value_at.result)) (c.read.ensures ∙ sym c.read-in-loop-load.ensures) in
     let is = source-laid t c.args.stores.now _ c.requires.2 c.lay_values.ensures l.load below _ _ _ _ _ asks c.read-in-loop-load.ensures (c.value_at.ensures ∙ ap (λ (a : ℕ). get_or t.firsts a 0) own) own c.source_in.ensures in
     (omega (arith, below), sources-laid-more (frame_of t) l.load c.args.sources.now l.sources l.invariant.1 (omega (arith, below, l.invariant.1.long, c.requires.0, c.requires.1)) c.source_in.result is)
-
-pub shape_of-sources : goal.shape_of-sources
-shape_of-sources c = c.loop-load.invariant.1.long
-
-pub returns : goal.returns
-returns c =
-    let l = c.loop-load in
-    let n : l.load ≡ c.args.t.len = omega (arith, c.loop-load-test.false, l.invariant.0) in
-    rw n at l.invariant.1

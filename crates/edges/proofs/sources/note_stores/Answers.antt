@@ -9,9 +9,6 @@ use Rattle.edges.proofs.sources.note_stores.Goals as goal
 pub loop-x-init : goal.loop-x-init
 loop-x-init c = (omega arith, union-none _ c.args.stores.now)
 
-pub overflow_cast-addr : goal.overflow_cast-addr
-overflow_cast-addr c = omega (arith, c.address-addr.type_inv)
-
 pub loop-x-preserved : goal.loop-x-preserved
 loop-x-preserved c =
     let x = c.loop-x.x in (
@@ -20,9 +17,6 @@ loop-x-preserved c =
           (stored_at c.args.t x x (search rules) _ _ c.writes.ensures c.address-addr.ensures
           (adds-if _ _ x (c.loop-x.invariant.1.long ∙ c.requires.1) (λ _. (omega (arith, c.address-addr.type_inv), omega arith)) c.put_if.ensures)),
     )
-
-pub shape_of-stores : goal.shape_of-stores
-shape_of-stores c = c.loop-x.invariant.1.long
 
 pub returns : goal.returns
 returns c =

@@ -1,21 +1,11 @@
 -- `judge::judging::bad_place`: at the places passed stand operations.
 use mathlib.Core.Path.{◌≡◌}
 use mathlib.Core.Bool.{true, false}
-use native.Mathlib.Omega.{arith}
-use Rattle.laws.proofs.LowestLoops.{none_below, more-below}
+use Rattle.laws.proofs.LowestLoops.{more-below}
 use Rattle.trace.specs.Meaning.{frame_of}
 use Rattle.judge.specs.Judged.{bad?}
 use Rattle.pairs.proofs.Found.{at-lowest, nothing-lowest}
 use Rattle.judge.proofs.judging.bad_place.Goals as goal
-
-pub loop-i-init : goal.loop-i-init
-loop-i-init c = none_below _
-
-pub bounds-list-i : goal.bounds-list-i
-bounds-list-i c = omega arith
-
-pub overflow_cast-x : goal.overflow_cast-x
-overflow_cast-x c = omega (arith, c.type_inv.list c.loop-i.i)
 
 pub returns-then-not-operation : goal.returns-then-not-operation
 unfolding bad?

@@ -1,5 +1,3 @@
-use Prim.Native.Nat.{◌-◌}
-use lib.ListN.{length}
 use Rattle.laws.proofs.LowestLoops.{NoneBelow}
 use Rattle.trace.specs.Meaning.{frame_of}
 use Rattle.judge.specs.Judged.{bad?}
@@ -7,6 +5,3 @@ use Rattle.judge.proofs.judging.bad_place.Given as goal
 
 abbrev pub invariant-loop-i : goal.invariant-loop-i
 invariant-loop-i l = NoneBelow (bad? (frame_of l.t) l.list) l.i
-
-abbrev pub decreases-loop-i : goal.decreases-loop-i
-decreases-loop-i l = length l.list - l.i

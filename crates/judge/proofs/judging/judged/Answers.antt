@@ -21,17 +21,17 @@ returns-then-list-operations c =
     let a = c.args in
     length-told (frame_of a.t) (kept_of a.model a.t) a.list.now (ne_eqb _ _ (λ q. c.if-list-operations.true (q ∙ sym c.operations.ensures)))
 
-pub returns-in-At : goal.returns-in-At
-returns-in-At c =
+pub returns-in-Some : goal.returns-in-Some
+returns-in-Some c =
     let a = c.args in
-    number-told (frame_of a.t) (kept_of a.model a.t) a.list.now (right (goal.at.returns-in-At c).Else-list-operations) _ (some-lowest _ _ c.bad_place-place.ensures c.in-At.is)
+    number-told (frame_of a.t) (kept_of a.model a.t) a.list.now (right (goal.at.returns-in-Some c).Else-list-operations) _ (some-lowest _ _ c.bad_place-place.ensures c.in-Some.is)
 
-pub returns-in-At-twice : goal.returns-in-At-twice
+pub returns-in-Some-twice : goal.returns-in-Some-twice
 unfolding frame_of
-returns-in-At-twice c =
+returns-in-Some-twice c =
     let a = c.args in
-    repeat-told (frame_of a.t) (kept_of a.model a.t) a.list.now (right (goal.at.returns-in-At-twice c).Else-list-operations) (none-lowest _ _ c.bad_place-place.ensures c.in_default.is) _
-    (some-lowest _ _ c.repeated-twice.ensures c.in-At-twice.is)
+    repeat-told (frame_of a.t) (kept_of a.model a.t) a.list.now (right (goal.at.returns-in-Some-twice c).Else-list-operations) (none-lowest _ _ c.bad_place-place.ensures c.in_default.is) _
+    (some-lowest _ _ c.repeated-twice.ensures c.in-Some-twice.is)
 
 pub judged_turns-requires : goal.judged_turns-requires
 judged_turns-requires c =

@@ -7,28 +7,28 @@ use Rattle.judge.proofs.judging.judged_turns.Goals as goal
 
 pub out_from-requires : goal.out_from-requires
 out_from-requires c =
-    ((lowest-at _ _ _ (some-lowest _ _ c.out_of_turn.ensures c.in-At.is)).0, c.requires.0, c.site.ensures.long)
+    ((lowest-at _ _ _ (some-lowest _ _ c.out_of_turn.ensures c.in-Some.is)).0, c.requires.0, c.site.ensures.long)
 
-pub returns-in-At-out_from : goal.returns-in-At-out_from
+pub returns-in-Some-out_from : goal.returns-in-Some-out_from
 unfolding frame_of
-returns-in-At-out_from c =
+returns-in-Some-out_from c =
     pair-told (frame_of c.args.t) (kept_of c.args.model c.args.t) c.args.list.now _ c.site.ensures c.requires.0 _ _
-    (some-lowest _ _ c.out_of_turn.ensures c.in-At.is) (some-lowest _ _ c.out_from.ensures c.in-At-out_from.is)
+    (some-lowest _ _ c.out_of_turn.ensures c.in-Some.is) (some-lowest _ _ c.out_from.ensures c.in-Some-out_from.is)
 
-pub returns-in-Nothing-out_from : goal.returns-in-Nothing-out_from
+pub returns-in-None-out_from : goal.returns-in-None-out_from
 unfolding frame_of
-returns-in-Nothing-out_from c =
+returns-in-None-out_from c =
     no-pair (frame_of c.args.t) (kept_of c.args.model c.args.t) c.args.list.now _ c.site.ensures c.requires.0 _
-    (some-lowest _ _ c.out_of_turn.ensures c.in-At.is) (none-lowest _ _ c.out_from.ensures c.in-Nothing-out_from.is)
+    (some-lowest _ _ c.out_of_turn.ensures c.in-Some.is) (none-lowest _ _ c.out_from.ensures c.in-None-out_from.is)
 
-pub returns-in-At-wrong_value : goal.returns-in-At-wrong_value
+pub returns-in-Some-wrong_value : goal.returns-in-Some-wrong_value
 unfolding frame_of
-returns-in-At-wrong_value c =
+returns-in-Some-wrong_value c =
     value-told (frame_of c.args.t) (kept_of c.args.model c.args.t) c.args.list.now _ c.site.ensures c.requires.0
-    (none-lowest _ _ c.out_of_turn.ensures c.in-Nothing.is) _ (some-lowest _ _ c.wrong_value.ensures c.in-At-wrong_value.is)
+    (none-lowest _ _ c.out_of_turn.ensures c.in-None.is) _ (some-lowest _ _ c.wrong_value.ensures c.in-Some-wrong_value.is)
 
-pub returns-in-Nothing-wrong_value : goal.returns-in-Nothing-wrong_value
+pub returns-in-None-wrong_value : goal.returns-in-None-wrong_value
 unfolding frame_of
-returns-in-Nothing-wrong_value c =
+returns-in-None-wrong_value c =
     yes-told (frame_of c.args.t) (kept_of c.args.model c.args.t) c.args.list.now _ c.site.ensures c.requires.0
-    (none-lowest _ _ c.out_of_turn.ensures c.in-Nothing.is) (none-lowest _ _ c.wrong_value.ensures c.in-Nothing-wrong_value.is)
+    (none-lowest _ _ c.out_of_turn.ensures c.in-None.is) (none-lowest _ _ c.wrong_value.ensures c.in-None-wrong_value.is)

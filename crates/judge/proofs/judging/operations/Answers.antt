@@ -13,9 +13,6 @@ pub loop-x-init : goal.loop-x-init
 unfolding sum
 loop-x-init c = (omega arith, omega arith, cc)
 
-pub overflow_add-total : goal.overflow_add-total
-overflow_add-total c = omega arith
-
 pub loop-x-preserved : goal.loop-x-preserved
 loop-x-preserved c =
     let l = c.loop-x in

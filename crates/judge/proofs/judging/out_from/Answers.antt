@@ -1,6 +1,5 @@
 -- `judge::judging::out_from`: x makes no pair out of turn with the records passed, and it is known whether a fence of its thread was passed.
 use mathlib.Core.Path.{refl, ◌∙◌}
-use native.Mathlib.Omega.{arith}
 use Rattle.laws.proofs.LowestLoops.{more-below}
 use Rattle.pairs.proofs.Fences.{fenced-more}
 use Rattle.pairs.proofs.Found.{at-lowest, nothing-lowest}
@@ -8,20 +7,8 @@ use Rattle.judge.proofs.Walked.{none-earlier, not-fenced, kept_at, out-here, out
 use Rattle.judge.proofs.judging.out_from.Goals.{else-sites-y, then-sites-y+else-kept_pair}
 use Rattle.judge.proofs.judging.out_from.Goals as goal
 
-pub offset_bounds-sites-x : goal.offset_bounds-sites-x
-offset_bounds-sites-x c = omega arith
-
-pub bounds-sites-x : goal.bounds-sites-x
-bounds-sites-x c = let p = c.requires in omega arith
-
 pub loop-y-init : goal.loop-y-init
 loop-y-init c = let a = c.args in (not-fenced a.t a.x, none-earlier a.model a.t a.sites.now a.x)
-
-pub offset_bounds-sites-y : goal.offset_bounds-sites-y
-offset_bounds-sites-y c = omega arith
-
-pub bounds-sites-y : goal.bounds-sites-y
-bounds-sites-y c = let p = c.requires in omega arith
 
 pub returns-then-kept_pair : goal.returns-then-kept_pair
 returns-then-kept_pair c =

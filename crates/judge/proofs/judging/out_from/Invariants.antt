@@ -1,5 +1,4 @@
 use mathlib.Core.Path.{◌≡◌}
-use Prim.Native.Nat.{◌-◌}
 use Rattle.laws.proofs.LowestLoops.{NoneBelow}
 use Rattle.pairs.specs.Kept.{kept_of, fenced}
 use Rattle.judge.specs.inner.Positions.{out_at}
@@ -7,6 +6,3 @@ use Rattle.judge.proofs.judging.out_from.Given as goal
 
 abbrev pub invariant-loop-y : goal.invariant-loop-y
 invariant-loop-y l = (l.passed ≡ fenced l.t l.x l.y) × NoneBelow (out_at (kept_of l.model l.t) l.sites l.x) l.y
-
-abbrev pub decreases-loop-y : goal.decreases-loop-y
-decreases-loop-y l = l.n - l.y

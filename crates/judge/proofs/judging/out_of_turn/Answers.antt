@@ -1,22 +1,15 @@
 -- `judge::judging::out_of_turn`: none of the records passed begins a pair out of turn.
-use native.Mathlib.Omega.{arith}
-use Rattle.laws.proofs.LowestLoops.{none_below, more-below}
+use Rattle.laws.proofs.LowestLoops.{more-below}
 use Rattle.judge.specs.inner.Positions.{early_at}
 use Rattle.pairs.proofs.Found.{at-lowest, nothing-lowest, some-lowest, none-lowest, lowest-any, lowest-not-any}
 use Rattle.judge.proofs.judging.out_of_turn.Goals as goal
 
-pub loop-x-init : goal.loop-x-init
-loop-x-init c = none_below _
-
-pub out_from-requires : goal.out_from-requires
-out_from-requires c = let p = c.requires in (omega arith, p.0, p.1)
-
-pub returns-in-At : goal.returns-in-At
+pub returns-in-Some : goal.returns-in-Some
 unfolding early_at
-returns-in-At c =
+returns-in-Some c =
     let l = c.loop-x in
     at-lowest _ _ l.x l.invariant c.loop-x-test.true
-    (lowest-any _ _ _ (some-lowest _ _ c.out_from.ensures c.in-At.is))
+    (lowest-any _ _ _ (some-lowest _ _ c.out_from.ensures c.in-Some.is))
 
 pub loop-x-preserved : goal.loop-x-preserved
 unfolding early_at

@@ -1,4 +1,3 @@
-use Prim.Native.Nat.{◌-◌}
 use Rattle.laws.proofs.LowestLoops.{NoneBelow}
 use Rattle.pairs.specs.Kept.{kept_of}
 use Rattle.judge.specs.inner.Positions.{early_at}
@@ -6,6 +5,3 @@ use Rattle.judge.proofs.judging.out_of_turn.Given as goal
 
 abbrev pub invariant-loop-x : goal.invariant-loop-x
 invariant-loop-x l = NoneBelow (early_at (kept_of l.model l.t) l.n l.sites) l.x
-
-abbrev pub decreases-loop-x : goal.decreases-loop-x
-decreases-loop-x l = l.n - l.x

@@ -2,13 +2,10 @@
 use mathlib.Core.Path.{sym, ap, ◌∙◌}
 use borrow.Author.Tests.{lt-ltb, le-ltb}
 use lib.Dec.{ltb}
-use Rattle.laws.proofs.LowestLoops.{none_below, more-below}
+use Rattle.laws.proofs.LowestLoops.{more-below}
 use Rattle.judge.specs.Judged.{twice?}
 use Rattle.pairs.proofs.Found.{at-lowest, nothing-lowest}
 use Rattle.judge.proofs.judging.repeated.Goals as goal
-
-pub loop-x-init : goal.loop-x-init
-loop-x-init c = none_below _
 
 pub returns-then-times-gt1 : goal.returns-then-times-gt1
 unfolding twice?

@@ -14,24 +14,9 @@ use Rattle.judge.proofs.Positions.{visible-at, visible-by}
 use Rattle.judge.proofs.judging.seen.Goals.{else-visible, then-visible}
 use Rattle.judge.proofs.judging.seen.Goals as goal
 
-pub offset_bounds-sites-load : goal.offset_bounds-sites-load
-offset_bounds-sites-load c = omega arith
-
-pub bounds-sites-load : goal.bounds-sites-load
-bounds-sites-load c = let b = c.requires.1.long in omega arith
-
 pub loop-i-init : goal.loop-i-init
 unfolding last_of frame_of
 loop-i-init c = (omega arith, cc)
-
-pub overflow_cast-x : goal.overflow_cast-x
-overflow_cast-x c = omega (arith, c.type_inv.list c.loop-i.i)
-
-pub offset_bounds-t-x : goal.offset_bounds-t-x
-offset_bounds-t-x c = let small = c.requires.2 c.loop-i.i c.loop-i-test.true in omega arith
-
-pub bounds-t-x : goal.bounds-t-x
-bounds-t-x c = let small = c.requires.2 c.loop-i.i c.loop-i-test.true in omega arith
 
 pub loop-i-preserved : goal.loop-i-preserved
 unfolding frame_of

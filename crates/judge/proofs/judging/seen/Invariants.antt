@@ -1,5 +1,5 @@
 use mathlib.Core.Path.{◌≡◌}
-use Prim.Native.Nat.{◌-◌, ◌≤◌}
+use Prim.Native.Nat.{◌≤◌}
 use lib.ListN.{length, get_or}
 use Rattle.laws.specs.Latest.{last_of}
 use Rattle.trace.specs.Meaning.{frame_of}
@@ -8,6 +8,3 @@ use Rattle.judge.proofs.judging.seen.Given as goal
 
 abbrev pub invariant-loop-i : goal.invariant-loop-i
 invariant-loop-i l = (l.i ≤ length l.list) × (l.value ≡ last_of (λ j. visible? (frame_of l.t) l.list j l.load) (λ j. (frame_of l.t).written (get_or l.list j 0)) ((frame_of l.t).first ((frame_of l.t).address l.load)) l.i)
-
-abbrev pub decreases-loop-i : goal.decreases-loop-i
-decreases-loop-i l = length l.list - l.i

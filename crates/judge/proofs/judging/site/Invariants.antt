@@ -3,6 +3,3 @@ use Rattle.judge.proofs.judging.site.Given as goal
 
 abbrev pub invariant-loop-i : goal.invariant-loop-i
 invariant-loop-i l = SitedFrom l.list l.i l.sites
-
-abbrev pub decreases-loop-i : goal.decreases-loop-i
-decreases-loop-i l = l.i

@@ -1,8 +1,7 @@
 -- `judge::judging::wrong_value`: the loads and swaps passed read what they must read.
 use mathlib.Core.Path.{◌≡◌, sym, ap, ◌∙◌}
 use mathlib.Core.Bool.{true, false}
-use native.Mathlib.Omega.{arith}
-use Rattle.laws.proofs.LowestLoops.{none_below, more-below}
+use Rattle.laws.proofs.LowestLoops.{more-below}
 use Rattle.trace.specs.Op.{reads, read}
 use Rattle.trace.specs.Trace.{at}
 use Rattle.trace.specs.Meaning.{frame_of}
@@ -11,12 +10,6 @@ use Rattle.pairs.proofs.Found.{at-lowest, nothing-lowest}
 use Rattle.judge.proofs.Walked.{wrong-here, wrong-idle, wrong-right}
 use Rattle.judge.proofs.judging.wrong_value.Goals.{else-reads, then-reads+else-read-seen}
 use Rattle.judge.proofs.judging.wrong_value.Goals as goal
-
-pub loop-load-init : goal.loop-load-init
-loop-load-init c = none_below _
-
-pub seen-requires : goal.seen-requires
-seen-requires c = let p = c.requires in (omega arith, p.1, p.2)
 
 pub returns-then-read-seen : goal.returns-then-read-seen
 unfolding frame_of

@@ -13,8 +13,8 @@ returns-then-not-well_formed c = subst (λ (r : Limit). ToldLimited c.args.t c.a
     (told-form c.args.t c.args.model c.args.limit (sym c.modelled.ensures ∙ c.if-not-modelled.false) (sym c.well_formed-2.ensures ∙ c.if-not-well_formed.true))
 
 pub circle_or_count-requires : goal.circle_or_count-requires
-circle_or_count-requires c = record { model = sym c.modelled.ensures ∙ c.if-not-modelled.false; well = sym c.well_formed-2.ensures ∙ c.if-not-well_formed.false; sourced = sym c.missing.ensures ∙ c.in-Nothing.is }
+circle_or_count-requires c = record { model = sym c.modelled.ensures ∙ c.if-not-modelled.false; well = sym c.well_formed-2.ensures ∙ c.if-not-well_formed.false; sourced = sym c.missing.ensures ∙ c.in-None.is }
 
-pub returns-in-At : goal.returns-in-At
-returns-in-At c = subst (λ (r : Limit). ToldLimited c.args.t c.args.model c.args.limit r) (sym c.bare-in-At.ensures)
-    (told-source c.args.t c.args.model c.args.limit (sym c.modelled.ensures ∙ c.if-not-modelled.false) (sym c.well_formed-2.ensures ∙ c.if-not-well_formed.false) _ (sym c.in-At.is ∙ c.missing.ensures))
+pub returns-in-Some : goal.returns-in-Some
+returns-in-Some c = subst (λ (r : Limit). ToldLimited c.args.t c.args.model c.args.limit r) (sym c.bare-in-Some.ensures)
+    (told-source c.args.t c.args.model c.args.limit (sym c.modelled.ensures ∙ c.if-not-modelled.false) (sym c.well_formed-2.ensures ∙ c.if-not-well_formed.false) _ (sym c.in-Some.is ∙ c.missing.ensures))

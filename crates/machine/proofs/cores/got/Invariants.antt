@@ -1,6 +1,6 @@
 use mathlib.Core.Path.{◌≡◌}
 use mathlib.Core.Bool.{◌&&◌}
-use Prim.Native.Nat.{◌-◌, ◌≤◌}
+use Prim.Native.Nat.{◌≤◌}
 use lib.Dec.{eqb}
 use lib.ListN.{get_or}
 use Rattle.laws.specs.Latest.{last_of}
@@ -11,6 +11,3 @@ use Rattle.machine.proofs.cores.got.Given as goal
 
 abbrev pub invariant-loop-i : goal.invariant-loop-i
 invariant-loop-i l = (l.i ≤ l.n) × (l.value ≡ last_of (λ j. waiting l.t l.m (thread (at l.t l.x)) j && eqb (address (at l.t j)) (address (at l.t l.x))) (λ j. written (at l.t j)) (get_or l.m.memory (address (at l.t l.x)) 0) l.i)
-
-abbrev pub decreases-loop-i : goal.decreases-loop-i
-decreases-loop-i l = l.n - l.i

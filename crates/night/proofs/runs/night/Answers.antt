@@ -6,11 +6,12 @@ use native.Mathlib.Omega.{arith}
 use borrow.Author.Tests.{not-true, not-false}
 use native.Mathlib.Nat.{mul-le-mul_left, div-mul-le_self}
 use lib.ListN.{length}
+use Rattle.std.specs.Prelude.{Err}
 use Rattle.trace.specs.Bounds.{RECORDS}
 use Rattle.signature.specs.Signature.{tops}
 use Rattle.night.specs.Block.{BLOCK}
 use Rattle.night.specs.Night.{runs_in, Nights}
-use Rattle.night.specs.declared.Answer.TheVariants.{TooLarge}
+use Rattle.night.specs.declared.Reason.TheVariants.{TooLarge}
 use Rattle.night.proofs.Many.{loads-told, loads-few, words-told, tops-few, all-judged, ten, nine, wrong-room, wrong-words, too_large, all_told}
 use Rattle.night.proofs.runs.night.Goals.{After-loads_of-loads, Else-words-runs}
 use Rattle.night.proofs.runs.night.Goals as goal
@@ -62,16 +63,16 @@ pub put_runs-requires : goal.put_runs-requires
 put_runs-requires c =
     (((sym c.well_formed-2.ensures ∙ not-false _ c.if-not-well_formed.false-raw)), (sym c.modelled.ensures ∙ not-false _ c.if-not-modelled.false-raw), c.kept_rows-kept.ensures, (omega (arith, (c.loads_of-loads.ensures ∙ loads-told c.args.t ((sym c.well_formed-2.ensures ∙ not-false _ c.if-not-well_formed.false-raw))), loads-few c.args.t ((sym c.well_formed-2.ensures ∙ not-false _ c.if-not-well_formed.false-raw)))), c.put_reads.ensures.long ∙ c.if-out-runs.false)
 
-pub returns-in-At : goal.returns-in-At
-returns-in-At c =
+pub returns-in-Some : goal.returns-in-Some
+returns-in-Some c =
     let a = c.args in
-    subst (λ (after : List ℕ). Nights a.t a.model a.words.now a.out.now after (TooLarge c.in-At.i c.in-At.k)) (sym (c.put_reads.ensures.stays _ _ c.in-At.is))
-    (too_large a.t a.model a.words.now a.out.now ((sym c.well_formed-2.ensures ∙ not-false _ c.if-not-well_formed.false-raw)) (sym c.modelled.ensures ∙ not-false _ c.if-not-modelled.false-raw) c.if-out-runs.false (fit (goal.at.returns-in-At c).Else-words-runs) _ _ (sym c.in-At.is ∙ c.put_reads.ensures.answer))
+    subst (λ (after : List ℕ). Nights a.t a.model a.words.now a.out.now after (Err (TooLarge c.in-Some.i c.in-Some.k))) (sym (c.put_reads.ensures.stays _ _ c.in-Some.is))
+    (too_large a.t a.model a.words.now a.out.now ((sym c.well_formed-2.ensures ∙ not-false _ c.if-not-well_formed.false-raw)) (sym c.modelled.ensures ∙ not-false _ c.if-not-modelled.false-raw) c.if-out-runs.false (fit (goal.at.returns-in-Some c).Else-words-runs) _ _ (sym c.in-Some.is ∙ c.put_reads.ensures.answer))
 
-pub returns-in-Nothing : goal.returns-in-Nothing
-returns-in-Nothing c =
+pub returns-in-None : goal.returns-in-None
+returns-in-None c =
     let a = c.args in
     let m = c.put_reads.ensures in
     let long = m.long ∙ c.if-out-runs.false in
-    all_told a.t a.model a.words.now a.out.now ((sym c.well_formed-2.ensures ∙ not-false _ c.if-not-well_formed.false-raw)) (sym c.modelled.ensures ∙ not-false _ c.if-not-modelled.false-raw) c.if-out-runs.false (fit (goal.at.returns-in-Nothing c).Else-words-runs) (sym c.in-Nothing.is ∙ m.answer) _
-    (all-judged a.t a.model c.loads_of-loads.result a.words.now _ _ (runs_in (length a.out.now)) (c.loads_of-loads.ensures ∙ loads-told c.args.t ((sym c.well_formed-2.ensures ∙ not-false _ c.if-not-well_formed.false-raw))) long (omega (arith, room (goal.at.returns-in-Nothing c).After-loads_of-loads, m.long)) (m.front c.in-Nothing.is) c.put_runs.ensures)
+    all_told a.t a.model a.words.now a.out.now ((sym c.well_formed-2.ensures ∙ not-false _ c.if-not-well_formed.false-raw)) (sym c.modelled.ensures ∙ not-false _ c.if-not-modelled.false-raw) c.if-out-runs.false (fit (goal.at.returns-in-None c).Else-words-runs) (sym c.in-None.is ∙ m.answer) _
+    (all-judged a.t a.model c.loads_of-loads.result a.words.now _ _ (runs_in (length a.out.now)) (c.loads_of-loads.ensures ∙ loads-told c.args.t ((sym c.well_formed-2.ensures ∙ not-false _ c.if-not-well_formed.false-raw))) long (omega (arith, room (goal.at.returns-in-None c).After-loads_of-loads, m.long)) (m.front c.in-None.is) c.put_runs.ensures)

@@ -12,9 +12,6 @@ pub put_run-requires : goal.put_run-requires
 put_run-requires c =
     (c.requires.0, c.requires.1, c.requires.2, c.requires.3, omega (arith, c.loop-i.invariant.1.long, c.requires.4, c.loop-i.invariant.0, c.loop-i-test.true))
 
-pub loop-i-smaller : goal.loop-i-smaller
-loop-i-smaller c = omega (arith, c.loop-i-test.true)
-
 pub loop-i-preserved : goal.loop-i-preserved
 loop-i-preserved c =
     let i = c.loop-i.i - 1 in

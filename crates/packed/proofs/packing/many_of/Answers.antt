@@ -18,12 +18,6 @@ pub loop-a-init : goal.loop-a-init
 unfolding many
 loop-a-init c = (omega arith, omega arith, refl)
 
-pub overflow_add-a : goal.overflow_add-a
-overflow_add-a c = omega arith
-
-pub loop-a-smaller : goal.loop-a-smaller
-loop-a-smaller c = omega arith
-
 pub loop-a-preserved : goal.loop-a-preserved
 loop-a-preserved c =
     let vs = c.args.t.firsts in

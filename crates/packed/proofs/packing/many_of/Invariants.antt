@@ -1,5 +1,5 @@
 use mathlib.Core.Path.{◌≡◌}
-use Prim.Native.Nat.{◌-◌, ◌≤◌}
+use Prim.Native.Nat.{◌≤◌}
 use lib.ListN.{take}
 use Rattle.trace.specs.Bounds.{ADDRESSES}
 use Rattle.packed.specs.Layout.{many}
@@ -7,6 +7,3 @@ use Rattle.packed.proofs.packing.many_of.Given as goal
 
 abbrev pub invariant-loop-a : goal.invariant-loop-a
 invariant-loop-a l = (l.a ≤ ADDRESSES) × (l.n ≤ l.a) × (l.n ≡ many (take l.a l.t.firsts))
-
-abbrev pub decreases-loop-a : goal.decreases-loop-a
-decreases-loop-a l = ADDRESSES - l.a

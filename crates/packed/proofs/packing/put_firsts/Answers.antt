@@ -1,10 +1,7 @@
 -- `packed::packing::put_firsts`: those of the addresses below a are put down.
-use mathlib.Core.Path.{◌≡◌, refl, ap, ◌∙◌}
-use Prim.Native.Nat.{ℕ}
+use mathlib.Core.Path.{◌≡◌, refl}
 use native.Mathlib.Omega.{arith}
-use lib.ListN.{length, take}
-use lib.Seq.{take_all}
-use Rattle.text.proofs.Put.{length-put}
+use lib.ListN.{length}
 use Rattle.trace.specs.Bounds.{ADDRESSES}
 use Rattle.packed.specs.Layout.{HEAD, firsts_of}
 use Rattle.packed.proofs.FileLaid.{put-nothing, firsts-fit, firsts-step}
@@ -27,14 +24,3 @@ pub loop-a-preserved : goal.loop-a-preserved
 loop-a-preserved c =
     let r = firsts-step c.args.t.firsts c.loop-a.a (omega (arith, full (goal.at.loop-a-preserved c).Start)) c.args.out.now c.loop-a.out c.loop-a.at c.requires c.loop-a.invariant.2 c.loop-a.invariant.1 _ _ c.put_first-at.ensures.0 c.put_first-at.ensures.1 in
     (omega arith, r.0, r.1)
-
-pub shape_of-out : goal.shape_of-out
-shape_of-out c =
-    ap length c.loop-a.invariant.2 ∙ length-put (firsts_of 0 (take c.loop-a.a c.args.t.firsts)) c.args.out.now HEAD
-
-pub returns : goal.returns
-returns c =
-    let vs = c.args.t.firsts in
-    let e : c.loop-a.a ≡ ADDRESSES = omega arith in
-    let all : take c.loop-a.a vs ≡ vs = ap (λ (k : ℕ). take k vs) e ∙ take_all ADDRESSES vs (omega (arith, full (goal.at.returns c).Start)) in
-    (rw all at c.loop-a.invariant.1, rw all at c.loop-a.invariant.2)

@@ -3,9 +3,8 @@ use mathlib.Core.Path.{◌≡◌, ap, ◌∙◌}
 use mathlib.Core.List.{List}
 use Prim.Native.Nat.{ℕ, ◌+◌, ◌*◌}
 use native.Mathlib.Omega.{arith}
-use lib.ListN.{length, take}
+use lib.ListN.{length}
 use Rattle.text.specs.Room.{put_at}
-use Rattle.text.proofs.Put.{length-put}
 use Rattle.trace.specs.Bounds.{RECORDS}
 use Rattle.packed.specs.Layout.{RECORD, record_bytes}
 use Rattle.packed.proofs.FileLaid.{put-nothing, records-step}
@@ -24,14 +23,5 @@ pub loop-i-preserved : goal.loop-i-preserved
 loop-i-preserved c = (
   omega arith,
   records-step c.args.t.records c.loop-i.i (omega (arith, full (goal.at.loop-i-preserved c).Start)) c.args.out.now c.loop-i.out _ c.args.from (omega arith) c.loop-i.invariant.1
-      (c.put.ensures.1 ∙ ap (λ (w : List ℕ). put_at w c.loop-i.out (c.args.from + RECORD * c.loop-i.i)) c.record_of-entry.ensures),
+      (c.put.ensures.1 ∙ ap (λ (w : List ℕ). put_at w c.loop-i.out (c.args.from + RECORD * c.loop-i.i)) c.record_of.ensures),
 )
-
-pub shape_of-out : goal.shape_of-out
-shape_of-out c =
-    ap length c.loop-i.invariant.1 ∙ length-put (record_bytes (take c.loop-i.i c.args.t.records)) c.args.out.now c.args.from
-
-pub returns : goal.returns
-returns c =
-    let e : c.loop-i.i ≡ c.args.t.len = omega arith in
-    rw e at c.loop-i.invariant.1

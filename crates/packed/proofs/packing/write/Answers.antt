@@ -29,11 +29,6 @@ returns-then-out-size c =
     let a = c.args in
     wrote-short a.t a.out.now (well (goal.at.returns-then-out-size c).Else-not-well_formed) _ (ap (λ (k : ℕ). size_of k a.t.len) c.many_of-firsts.ensures.0) c.if-out-size.true
 
-pub lay-requires : goal.lay-requires
-lay-requires c =
-    let a = c.args in
-    (well (goal.at.lay-requires c).Else-not-well_formed, c.many_of-firsts.ensures.0, (let h = c.if-out-size.false in omega (arith, ap (λ (k : ℕ). size_of k a.t.len) c.many_of-firsts.ensures.0)))
-
 pub returns : goal.returns
 returns c =
     let a = c.args in

@@ -10,6 +10,3 @@ abbrev pub invariant-loop-i : goal.invariant-loop-i
 invariant-loop-i l =
     (l.i ≤ l.count) × (l.low ≤ ADDRESSES) × (l.trace ≡ begun_file l.trace.firsts)
     × (read_firsts (l.count - l.i) l.low l.trace.firsts (drop (HEAD + FIRST * l.i) l.bytes) ≡ read_firsts l.count 0 (replicate ADDRESSES 0) (drop HEAD l.bytes))
-
-abbrev pub decreases-loop-i : goal.decreases-loop-i
-decreases-loop-i l = l.count - l.i

@@ -4,16 +4,13 @@ use native.Mathlib.Omega.{arith}
 use lib.ListN.{get_or}
 use Rattle.packed.specs.Layout.{two_in, size_of}
 use Rattle.packed.specs.FileRead.{read_entries}
-use Rattle.packed.proofs.Framing.{marked-long, file-unmarked, file-version, file-size, file-many, file-entries}
+use Rattle.packed.proofs.Framing.{file-unmarked, file-version, file-size, file-many, file-entries}
 use Rattle.packed.proofs.unpacking.read.Goals.{After-numbered-records}
 use Rattle.packed.proofs.unpacking.read.Goals as goal
 
 pub returns-then-not-marked : goal.returns-then-not-marked
 returns-then-not-marked c =
     c.back.ensures ∙ sym (file-unmarked _ (sym c.marked.ensures ∙ c.if-not-marked.true))
-
-pub two_at-requires : goal.two_at-requires
-two_at-requires c = omega (arith, marked-long c.args.bytes.now (sym c.marked.ensures ∙ c.if-not-marked.false))
 
 pub returns-then-two_at-ne-VERSION : goal.returns-then-two_at-ne-VERSION
 returns-then-two_at-ne-VERSION c =

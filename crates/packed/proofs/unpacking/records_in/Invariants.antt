@@ -8,6 +8,3 @@ use Rattle.packed.proofs.unpacking.records_in.Given as goal
 
 abbrev pub invariant-loop-i : goal.invariant-loop-i
 invariant-loop-i l = (l.i ≤ l.count) × (l.trace.len ≤ RECORDS) × (read_records l.trace (drop (l.from + RECORD * l.i) l.bytes) (l.count - l.i) ≡ read_records l.initial.trace (drop l.from l.bytes) l.count)
-
-abbrev pub decreases-loop-i : goal.decreases-loop-i
-decreases-loop-i l = l.count - l.i

@@ -3,11 +3,11 @@ use mathlib.Core.Path.{sym, ap, ◌∙◌}
 use Rattle.packed.specs.FileRead.{turned_entry, turned_bytes}
 use Rattle.packed.proofs.unpacking.turned.Goals as goal
 
-pub returns-in-Of : goal.returns-in-Of
+pub returns-in-Some : goal.returns-in-Some
 unfolding turned_bytes
-returns-in-Of c =
-    c.joined.ensures ∙ ap (turned_entry c.args.t) (sym c.in-Of.is ∙ c.entry_at.ensures)
+returns-in-Some c =
+    c.joined.ensures ∙ ap (turned_entry c.args.t) (sym c.in-Some.is ∙ c.entry_at.ensures)
 
-pub returns-in-Nothing : goal.returns-in-Nothing
+pub returns-in-None : goal.returns-in-None
 unfolding turned_bytes
-returns-in-Nothing c = ap (turned_entry c.args.t) (sym c.in-Nothing.is ∙ c.entry_at.ensures)
+returns-in-None c = ap (turned_entry c.args.t) (sym c.in-None.is ∙ c.entry_at.ensures)

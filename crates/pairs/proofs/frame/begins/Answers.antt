@@ -2,7 +2,6 @@
 use Rattle.trace.specs.Meaning.{frame_of}
 use Rattle.rules.specs.RuleTests.{writer?, first?}
 use Rattle.pairs.specs.RecordTests.{writer_by}
-use borrow.Author.Rules.{rules}
 use Rattle.pairs.proofs.frame.begins.Goals as goal
 
 pub returns : goal.returns

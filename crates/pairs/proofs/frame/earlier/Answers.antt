@@ -1,7 +1,6 @@
 -- `pairs::frame::earlier`: the test by records, of both.
 use Rattle.trace.specs.Meaning.{frame_of}
 use Rattle.pairs.specs.RecordTests.{earlier_by}
-use borrow.Author.Rules.{rules}
 use Rattle.pairs.proofs.frame.earlier.Goals as goal
 
 pub returns : goal.returns

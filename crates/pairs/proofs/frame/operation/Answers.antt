@@ -1,6 +1,5 @@
 -- `pairs::frame::operation`: the parts of the definition, joined.
 use Rattle.trace.specs.Meaning.{frame_of}
-use borrow.Author.Rules.{rules}
 use Rattle.pairs.proofs.frame.operation.Goals as goal
 
 pub returns : goal.returns

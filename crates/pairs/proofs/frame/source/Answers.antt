@@ -2,7 +2,6 @@
 use Rattle.trace.specs.Meaning.{frame_of}
 use Rattle.rules.specs.RuleTests.{writer?, source?}
 use Rattle.pairs.specs.RecordTests.{writer_by}
-use borrow.Author.Rules.{rules}
 use Rattle.pairs.proofs.frame.source.Goals as goal
 
 pub returns : goal.returns

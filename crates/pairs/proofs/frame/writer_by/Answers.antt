@@ -1,6 +1,5 @@
 -- `pairs::frame::writer_by`: the parts of the definition, joined.
 use Rattle.pairs.specs.RecordTests.{writer_by}
-use borrow.Author.Rules.{rules}
 use Rattle.pairs.proofs.frame.writer_by.Goals as goal
 
 pub returns : goal.returns

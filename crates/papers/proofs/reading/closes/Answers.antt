@@ -9,15 +9,15 @@ never true = refl
 never false = refl
 
 -- src/reading/mod.rt:105:1
-pub returns-in-Between : goal.returns-in-Between
+pub returns-in-Some : goal.returns-in-Some
 unfolding linked
-returns-in-Between c =
+returns-in-Some c =
     let s = c.args in
-    sym (ap (λ l. eqb s.x s.y && linked l s.x s.y) c.in-Between.is)
+    sym (ap (λ l. eqb s.x s.y && linked l s.x s.y) c.in-Some.is)
 
 -- src/reading/mod.rt:105:1
-pub returns-in-Nowhere : goal.returns-in-Nowhere
+pub returns-in-None : goal.returns-in-None
 unfolding linked
-returns-in-Nowhere c =
+returns-in-None c =
     let s = c.args in
-    sym (ap (λ l. eqb s.x s.y && linked l s.x s.y) c.in-Nowhere.is ∙ never (eqb s.x s.y))
+    sym (ap (λ l. eqb s.x s.y && linked l s.x s.y) c.in-None.is ∙ never (eqb s.x s.y))

@@ -11,7 +11,7 @@ use Rattle.rows.specs.Rows.{bit}
 use Rattle.rows.specs.Put.{put_of}
 use Rattle.rows.specs.Empty.{empty_of}
 use Rattle.papers.specs.inner.ReaderBranch.{link_joins}
-use Rattle.papers.specs.declared.reading.Link.TheVariants.{Between}
+use Rattle.std.specs.Prelude.{Some}
 use Rattle.papers.proofs.Branches.{joins-bit, no-bit}
 use Rattle.papers.proofs.reading.fits.Goals as goal
 
@@ -34,7 +34,7 @@ returns c =
     let w = c.wide.result in
     let v = c.wide-2.result in
     let e : c.put.new.rows ≡ put_of (empty_of CELLS) w v = c.put.ensures ∙ ap (λ r. put_of r w v) c.empty-chain.ensures in
-    let k : s.l ≡ Between w v = c.in-Between.is ∙ ap₂ Between (sym c.wide.ensures) (sym c.wide-2.ensures) in
+    let k : s.l ≡ Some (w, v) = c.in-Some.is ∙ ap₂ (λ a b. Some (a, b)) (sym c.wide.ensures) (sym c.wide-2.ensures) in
     c.gives-2.ensures
     ∙ ap (λ C. gives? (frame_of s.t) (kept_of s.model s.t) nothing C s.x s.y s.rule) (fun_ext (λ x. fun_ext (λ y. ap (λ r. bit r x y) e ∙ joins-bit w v CELLS (omega arith) x y ∙ ap (λ l. link_joins l x y) (sym k))))
     ∙ sym (ap (λ b. b && gives? (frame_of s.t) (kept_of s.model s.t) nothing (link_joins s.l) s.x s.y s.rule) (c.if-not-may.false))

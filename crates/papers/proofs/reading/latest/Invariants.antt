@@ -5,6 +5,3 @@ use Rattle.papers.proofs.reading.latest.Given as goal
 
 abbrev pub invariant-loop-i : goal.invariant-loop-i
 invariant-loop-i l = (latest_of l.other l.count ≡ latest_of l.other l.i) × (l.i ≤ l.count)
-
-abbrev pub decreases-loop-i : goal.decreases-loop-i
-decreases-loop-i l = l.i

@@ -5,12 +5,12 @@ use Prim.Native.Nat.{ℕ, ◌<◌}
 use native.Mathlib.Omega.{arith}
 use lib.Dec.{ltb}
 use borrow.Author.Tests.{lt-ltb, le-ltb}
+use Rattle.std.specs.Prelude.{Some, None}
 use Rattle.laws.proofs.Tests.{and-iff, so-lt}
 use Rattle.trace.specs.Bounds.{ADDRESSES, VALUES}
 use Rattle.reader.specs.Bounds.{LINE}
-use Rattle.reader.specs.LineForms.{init_of}
+use Rattle.reader.specs.LineForms.{init, init_of}
 use Rattle.reader.specs.Answer.{beginning, init_given}
-use Rattle.reader.specs.declared.Init.TheVariants as init
 use Rattle.reader.proofs.Bounded.{beginning-cut, beginning-none}
 use Rattle.reader.proofs.turns.begin.Goals.{After-init}
 use Rattle.reader.proofs.turns.begin.Goals as goal
@@ -30,32 +30,32 @@ decides c =
     let a = c.args in
     rw (le-ltb LINE _ c.if-bytes-gt-LINE.false, c.if-not-ended.false) refl
 
-pub returns-in_default : goal.returns-in_default
-returns-in_default c =
+pub returns-in_err-addr : goal.returns-in_err-addr
+returns-in_err-addr c =
     let a = c.args in
-    beginning-none a.given.now (init_of a.bytes.now) (sym c.in_default.is ∙ c.init.ensures) ∙ sym (decides (goal.at.returns-in_default c).After-init)
+    c.from_residual.ensures ∙ beginning-none a.given.now (init_of a.bytes.now) (sym c.in_err-addr.was ∙ c.init.ensures) ∙ sym (decides (goal.at.returns-in_err-addr c).After-init)
 
 -- an address that passes the tests has a flag
 below : (a v : ℕ) → (ltb a ADDRESSES && ltb v VALUES) ≡ true → a < ADDRESSES
 below a v h = ((and-iff (so-lt {m = a} {n = ADDRESSES}) (so-lt {m = v} {n = VALUES})).0 h).0
 
 pub bounds-given-i : goal.bounds-given-i
-bounds-given-i c = omega (arith, below c.in-Of.addr c.in-Of.value c.if-addr-addresses.true)
+bounds-given-i c = omega (arith, below c.in_ok-addr.field-0.addr c.in_ok-addr.field-0.value c.if-addr-addresses.true)
 
 pub returns-then-not-given-i : goal.returns-then-not-given-i
 returns-then-not-given-i c =
     let a = c.args in
-    let q : init.Of c.in-Of.addr c.in-Of.value ≡ beginning a.given.now (init.Of c.in-Of.addr c.in-Of.value) = rw (c.if-addr-addresses.true, c.if-not-given-i.true) refl in
-    q ∙ beginning-cut a.given.now (init_of a.bytes.now) _ _ (sym c.in-Of.is ∙ c.init.ensures) ∙ sym (decides (goal.at.returns-then-not-given-i c).After-init)
+    let q : Some (init c.in_ok-addr.field-0.addr c.in_ok-addr.field-0.value) ≡ beginning a.given.now (Some (init c.in_ok-addr.field-0.addr c.in_ok-addr.field-0.value)) = rw (c.if-addr-addresses.true, c.if-not-given-i.true) refl in
+    q ∙ beginning-cut a.given.now (init_of a.bytes.now) _ _ (sym c.in_ok-addr.was ∙ c.init.ensures) ∙ sym (decides (goal.at.returns-then-not-given-i c).After-init)
 
 pub returns-else-not-given-i : goal.returns-else-not-given-i
 returns-else-not-given-i c =
     let a = c.args in
-    let q : init.Nothing ≡ beginning a.given.now (init.Of c.in-Of.addr c.in-Of.value) = rw (c.if-addr-addresses.true, c.if-not-given-i.false) refl in
-    q ∙ beginning-cut a.given.now (init_of a.bytes.now) _ _ (sym c.in-Of.is ∙ c.init.ensures) ∙ sym (decides (goal.at.returns-else-not-given-i c).After-init)
+    let q : None ≡ beginning a.given.now (Some (init c.in_ok-addr.field-0.addr c.in_ok-addr.field-0.value)) = rw (c.if-addr-addresses.true, c.if-not-given-i.false) refl in
+    q ∙ beginning-cut a.given.now (init_of a.bytes.now) _ _ (sym c.in_ok-addr.was ∙ c.init.ensures) ∙ sym (decides (goal.at.returns-else-not-given-i c).After-init)
 
 pub returns-else-addr-addresses : goal.returns-else-addr-addresses
 returns-else-addr-addresses c =
     let a = c.args in
-    let q : init.Nothing ≡ beginning a.given.now (init.Of c.in-Of.addr c.in-Of.value) = rw c.if-addr-addresses.false refl in
-    q ∙ beginning-cut a.given.now (init_of a.bytes.now) _ _ (sym c.in-Of.is ∙ c.init.ensures) ∙ sym (decides (goal.at.returns-else-addr-addresses c).After-init)
+    let q : None ≡ beginning a.given.now (Some (init c.in_ok-addr.field-0.addr c.in_ok-addr.field-0.value)) = rw c.if-addr-addresses.false refl in
+    q ∙ beginning-cut a.given.now (init_of a.bytes.now) _ _ (sym c.in_ok-addr.was ∙ c.init.ensures) ∙ sym (decides (goal.at.returns-else-addr-addresses c).After-init)

@@ -1,24 +1,29 @@
 -- `reader::turns::joined`: a turn for each fault.
 use mathlib.Core.Path.{sym, ap, ◌∙◌}
+use Rattle.std.specs.Prelude.{Some}
 use Rattle.reader.specs.Answer.{joined, turn_of}
 use Rattle.reader.proofs.turns.joined.Goals as goal
 
-pub returns-in-Nothing : goal.returns-in-Nothing
+pub returns-in-None : goal.returns-in-None
 unfolding joined
-returns-in-Nothing c = ap (turn_of c.args.op) (sym c.in-Nothing.is ∙ c.fault_of.ensures)
+returns-in-None c = ap (turn_of c.args.op) (sym c.in-None.is ∙ c.fault_of.ensures)
 
-pub returns-in-PastBound : goal.returns-in-PastBound
+pub returns-in-Some-PastBound : goal.returns-in-Some-PastBound
 unfolding joined
-returns-in-PastBound c = ap (turn_of c.args.op) (sym c.in-PastBound.is ∙ c.fault_of.ensures)
+returns-in-Some-PastBound c =
+    ap (λ f. turn_of c.args.op (Some f)) (sym c.in-Some-PastBound.field-0-is) ∙ ap (turn_of c.args.op) (sym c.in-Some-PastBound.is ∙ c.fault_of.ensures)
 
-pub returns-in-FirstValue : goal.returns-in-FirstValue
+pub returns-in-Some-FirstValue : goal.returns-in-Some-FirstValue
 unfolding joined
-returns-in-FirstValue c = ap (turn_of c.args.op) (sym c.in-FirstValue.is ∙ c.fault_of.ensures)
+returns-in-Some-FirstValue c =
+    ap (λ f. turn_of c.args.op (Some f)) (sym c.in-Some-FirstValue.field-0-is) ∙ ap (turn_of c.args.op) (sym c.in-Some-FirstValue.is ∙ c.fault_of.ensures)
 
-pub returns-in-TooMany : goal.returns-in-TooMany
+pub returns-in-Some-TooMany : goal.returns-in-Some-TooMany
 unfolding joined
-returns-in-TooMany c = ap (turn_of c.args.op) (sym c.in-TooMany.is ∙ c.fault_of.ensures)
+returns-in-Some-TooMany c =
+    ap (λ f. turn_of c.args.op (Some f)) (sym c.in-Some-TooMany.field-0-is) ∙ ap (turn_of c.args.op) (sym c.in-Some-TooMany.is ∙ c.fault_of.ensures)
 
-pub returns-in-Twice : goal.returns-in-Twice
+pub returns-in-Some-Twice : goal.returns-in-Some-Twice
 unfolding joined
-returns-in-Twice c = ap (turn_of c.args.op) (sym c.in-Twice.is ∙ c.fault_of.ensures)
+returns-in-Some-Twice c =
+    ap (λ f. turn_of c.args.op (Some f)) (sym c.in-Some-Twice.field-0-is) ∙ ap (turn_of c.args.op) (sym c.in-Some-Twice.is ∙ c.fault_of.ensures)

@@ -18,16 +18,16 @@ returns-then-not-ended c =
     let e : c.args.ended ≡ false = c.if-not-ended.true in
     rw (le-ltb LINE _ c.if-bytes-gt-LINE.false, e)
 
-pub returns-in-Of : goal.returns-in-Of
+pub returns-in-Some : goal.returns-in-Some
 unfolding turned
-returns-in-Of c =
+returns-in-Some c =
     let a = c.args in
     rw (le-ltb LINE _ c.if-bytes-gt-LINE.false, c.if-not-ended.false)
-    (c.checked.ensures ∙ form-checked a.t (form_of a.bytes.now) (init_of a.bytes.now) _ (sym c.in-Of.is ∙ c.form.ensures))
+    (c.checked.ensures ∙ form-checked a.t (form_of a.bytes.now) (init_of a.bytes.now) _ (sym c.in-Some.is ∙ c.form.ensures))
 
-pub returns-in-Nothing : goal.returns-in-Nothing
+pub returns-in-None : goal.returns-in-None
 unfolding turned
-returns-in-Nothing c =
+returns-in-None c =
     let a = c.args in
     rw (le-ltb LINE _ c.if-bytes-gt-LINE.false, c.if-not-ended.false)
-    (c.unformed.ensures ∙ form-nothing a.t (form_of a.bytes.now) (init_of a.bytes.now) (sym c.in-Nothing.is ∙ c.form.ensures))
+    (c.unformed.ensures ∙ form-nothing a.t (form_of a.bytes.now) (init_of a.bytes.now) (sym c.in-None.is ∙ c.form.ensures))

@@ -1,5 +1,5 @@
 use mathlib.Core.Path.{◌≡◌}
-use Prim.Native.Nat.{◌≤◌, ◌-◌}
+use Prim.Native.Nat.{◌≤◌}
 use lib.ListN.{length}
 use Rattle.trace.specs.Bounds.{RECORDS}
 use Rattle.trace.specs.Meaning.{frame_of}
@@ -9,6 +9,3 @@ use Rattle.reasons.proofs.choice.note_read.Given as goal
 
 abbrev pub invariant-loop-load : goal.invariant-loop-load
 invariant-loop-load l = (l.load ≤ RECORDS) × (length l.read ≡ WORDS) × NotedBelow (frame_of l.t) l.load l.read
-
-abbrev pub decreases-loop-load : goal.decreases-loop-load
-decreases-loop-load l = RECORDS - l.load

@@ -28,12 +28,12 @@ tell-requires c =
 pub loop-i-preserved : goal.loop-i-preserved
 loop-i-preserved c =
     let a = c.args in
-    (omega arith, omega (arith, c.type_inv.steps c.loop-i.i), (omega (arith, c.tell.auto.from, c.loop-i.invariant.2)), (omega (arith, c.tell.auto.to, c.loop-i.invariant.3)), search rules, along-on a.limit a.from.now a.to.now a.out.now a.count a.at (tell (frame_of a.t) (kept_of a.model a.t) (supposed_of a.t a.supposed.now) a.k) a.a a.steps.now a.len a.b c.requires.2 c.loop-i.i c.loop-i.x c.loop-i.from c.loop-i.to c.loop-i.out c.loop-i.n c.loop-i.p c.loop-i.invariant.5 c.tell.new.from c.tell.new.to c.tell.new.out c.loop-i-test.true _ _ (told-on a.limit c.loop-i.from c.loop-i.to c.loop-i.out c.loop-i.n c.loop-i.p (tell (frame_of a.t) (kept_of a.model a.t) (supposed_of a.t a.supposed.now) a.k (branch_of c.loop-i.from c.loop-i.to c.loop-i.n) c.loop-i.x (get_or a.steps.now c.loop-i.i 0)) c.tell.new.from c.tell.new.to c.tell.new.out c.tell.result _ _ c.tell.ensures c.in-On.is))
+    (omega arith, omega (arith, c.type_inv.steps c.loop-i.i), (omega (arith, c.tell.auto.from, c.loop-i.invariant.2)), (omega (arith, c.tell.auto.to, c.loop-i.invariant.3)), search rules, along-on a.limit a.from.now a.to.now a.out.now a.count a.at (tell (frame_of a.t) (kept_of a.model a.t) (supposed_of a.t a.supposed.now) a.k) a.a a.steps.now a.len a.b c.requires.2 c.loop-i.i c.loop-i.x c.loop-i.from c.loop-i.to c.loop-i.out c.loop-i.n c.loop-i.p c.loop-i.invariant.5 c.tell.new.from c.tell.new.to c.tell.new.out c.loop-i-test.true _ _ (told-on a.limit c.loop-i.from c.loop-i.to c.loop-i.out c.loop-i.n c.loop-i.p (tell (frame_of a.t) (kept_of a.model a.t) (supposed_of a.t a.supposed.now) a.k (branch_of c.loop-i.from c.loop-i.to c.loop-i.n) c.loop-i.x (get_or a.steps.now c.loop-i.i 0)) c.tell.new.from c.tell.new.to c.tell.new.out c.tell.result _ _ c.tell.ensures c.in_ok-m.was))
 
-pub returns-in-Over : goal.returns-in-Over
-returns-in-Over c =
+pub returns-in_err-m : goal.returns-in_err-m
+returns-in_err-m c =
     let a = c.args in
-    along-over a.limit a.from.now a.to.now a.out.now a.count a.at (tell (frame_of a.t) (kept_of a.model a.t) (supposed_of a.t a.supposed.now) a.k) a.a a.steps.now a.len a.b c.requires.2 c.loop-i.i c.loop-i.x c.loop-i.from c.loop-i.to c.loop-i.out c.loop-i.n c.loop-i.p c.loop-i.invariant.5 c.tell.new.from c.tell.new.to c.tell.new.out c.loop-i-test.true (told_over a.limit c.loop-i.from c.loop-i.to c.loop-i.out c.loop-i.n c.loop-i.p (tell (frame_of a.t) (kept_of a.model a.t) (supposed_of a.t a.supposed.now) a.k (branch_of c.loop-i.from c.loop-i.to c.loop-i.n) c.loop-i.x (get_or a.steps.now c.loop-i.i 0)) c.tell.new.from c.tell.new.to c.tell.new.out c.tell.result c.tell.ensures c.in-Over.is)
+    rw c.from_residual.ensures (along-over a.limit a.from.now a.to.now a.out.now a.count a.at (tell (frame_of a.t) (kept_of a.model a.t) (supposed_of a.t a.supposed.now) a.k) a.a a.steps.now a.len a.b c.requires.2 c.loop-i.i c.loop-i.x c.loop-i.from c.loop-i.to c.loop-i.out c.loop-i.n c.loop-i.p c.loop-i.invariant.5 c.tell.new.from c.tell.new.to c.tell.new.out c.loop-i-test.true (told_over a.limit c.loop-i.from c.loop-i.to c.loop-i.out c.loop-i.n c.loop-i.p (tell (frame_of a.t) (kept_of a.model a.t) (supposed_of a.t a.supposed.now) a.k (branch_of c.loop-i.from c.loop-i.to c.loop-i.n) c.loop-i.x (get_or a.steps.now c.loop-i.i 0)) c.tell.new.from c.tell.new.to c.tell.new.out c.tell.result c.tell.ensures c.in_err-m.was))
 
 pub tell-requires-2 : goal.tell-requires-2
 tell-requires-2 c =

@@ -66,8 +66,8 @@ overflow_cast-b t c =
     let sp = split-here a.t pre.0 a.model a.m a.count a.from.now a.to.now d.new.supposed c.requires.closable.0 d.ensures u.result u.ensures _ _ c.in-Split.is c.requires.closable.1 in
     omega (arith, numbered a.t pre.0 _ sp.operations.1)
 
-pub returns-in_default-lay_split : goal.returns-in_default-lay_split
-returns-in_default-lay_split t c =
+pub returns-in_err-p : goal.returns-in_err-p
+returns-in_err-p t c =
     let a = c.args in
     let pre = c.requires.lengths in
     let E = branch_of a.from.now a.to.now a.count in
@@ -79,8 +79,8 @@ returns-in_default-lay_split t c =
     let h = c.lay_split in
     let es = paper_of f K (a.m - 1) (named E c.in-Split.x c.in-Split.y) in
     let fs = paper_of f K (a.m - 1) (named E c.in-Split.y c.in-Split.x) in
-    subst⁻¹ (λ (l : List Entry). a.limit < a.at + length (spell l)) sp.list
-    (split-over a.limit a.out.now a.at c.in-Split.x c.in-Split.y es fs a.out.now (put-at _ _ _ _ _ _ _ h.ensures c.in_default-lay_split.is))
+    rw c.from_residual.ensures (subst⁻¹ (λ (l : List Entry). a.limit < a.at + length (spell l)) sp.list
+    (split-over a.limit a.out.now a.at c.in-Split.x c.in-Split.y es fs a.out.now (put-at _ _ _ _ _ _ _ h.ensures c.in_err-p.was)))
 
 pub bounds-from-count : goal.bounds-from-count
 bounds-from-count t c =
@@ -121,7 +121,7 @@ paper-requires t c =
     let sp = split-here a.t pre.0 a.model a.m a.count a.from.now a.to.now d.new.supposed c.requires.closable.0 d.ensures u.result u.ensures _ _ c.in-Split.is c.requires.closable.1 in
     let h = c.lay_split in
     let room : a.count < BRANCH = omega (arith, sp.room, branch-long a.from.now a.to.now a.count) in
-    let pl = put-at _ _ _ _ _ _ _ h.ensures c.in-At.is in
+    let pl = put-at _ _ _ _ _ _ _ h.ensures c.in_ok-p.was in
     let lf : a.count < length a.from.now = omega (arith, room, pre.4) in
     let lt : a.count < length a.to.now = omega (arith, room, pre.5) in (
       omega (arith, c.decreases, sp.fuel),
@@ -134,8 +134,8 @@ paper-requires t c =
       ),
     )
 
-pub returns-in_default-paper : goal.returns-in_default-paper
-returns-in_default-paper t c =
+pub returns-in_err-q : goal.returns-in_err-q
+returns-in_err-q t c =
     let a = c.args in
     let pre = c.requires.lengths in
     let E = branch_of a.from.now a.to.now a.count in
@@ -146,7 +146,7 @@ returns-in_default-paper t c =
     let sp = split-here a.t pre.0 a.model a.m a.count a.from.now a.to.now d.new.supposed c.requires.closable.0 d.ensures u.result u.ensures _ _ c.in-Split.is c.requires.closable.1 in
     let h = c.lay_split in
     let room : a.count < BRANCH = omega (arith, sp.room, branch-long a.from.now a.to.now a.count) in
-    let pl = put-at _ _ _ _ _ _ _ h.ensures c.in-At.is in
+    let pl = put-at _ _ _ _ _ _ _ h.ensures c.in_ok-p.was in
     let es = paper_of f K (a.m - 1) (named E c.in-Split.x c.in-Split.y) in
     let fs = paper_of f K (a.m - 1) (named E c.in-Split.y c.in-Split.x) in
     let lf : a.count < length a.from.now = omega (arith, room, pre.4) in
@@ -155,9 +155,9 @@ returns-in_default-paper t c =
     let from₁ = v.new.from in
     let to₁ = v.new.to in
     let out₂ = v.new.out in
-    let done = side-list a.t pre.0 a.model (a.m - 1) E a.from.now a.to.now a.count c.in-Split.x c.in-Split.y refl lf lt a.limit h.new.out c.in-At.p from₁ to₁ out₂ v.result v.ensures in
-    let over = kept_at _ _ _ _ _ _ _ _ _ _ _ _ done c.in_default-paper.is in
-    subst⁻¹ (λ (l : List Entry). a.limit < a.at + length (spell l)) sp.list (first-over a.limit a.out.now a.at c.in-Split.x c.in-Split.y es fs h.new.out c.in-At.p pl over)
+    let done = side-list a.t pre.0 a.model (a.m - 1) E a.from.now a.to.now a.count c.in-Split.x c.in-Split.y refl lf lt a.limit h.new.out c.in_ok-p.p from₁ to₁ out₂ v.result v.ensures in
+    let over = kept_at _ _ _ _ _ _ _ _ _ _ _ _ done c.in_err-q.was in
+    rw c.from_residual-in_err-q.ensures (subst⁻¹ (λ (l : List Entry). a.limit < a.at + length (spell l)) sp.list (first-over a.limit a.out.now a.at c.in-Split.x c.in-Split.y es fs h.new.out c.in_ok-p.p pl over))
 
 pub bounds-from-count-2 : goal.bounds-from-count-2
 bounds-from-count-2 t c =
@@ -206,8 +206,8 @@ paper-requires-2 t c =
     let from₁ = v.new.from in
     let to₁ = v.new.to in
     let out₂ = v.new.out in
-    let done = side-list a.t pre.0 a.model (a.m - 1) E a.from.now a.to.now a.count c.in-Split.x c.in-Split.y refl lf lt a.limit h.new.out c.in-At.p from₁ to₁ out₂ v.result v.ensures in
-    let kept = kept_at _ _ _ _ _ _ _ _ _ _ _ _ done c.in-At-paper.is in
+    let done = side-list a.t pre.0 a.model (a.m - 1) E a.from.now a.to.now a.count c.in-Split.x c.in-Split.y refl lf lt a.limit h.new.out c.in_ok-p.p from₁ to₁ out₂ v.result v.ensures in
+    let kept = kept_at _ _ _ _ _ _ _ _ _ _ _ _ done c.in_ok-q.was in
     let front = kept-front a.from.now a.to.now a.count c.in-Split.x c.in-Split.y from₁ to₁ lf lt kept.3 in
     let long : length from₁ ≡ BRANCH = v.auto.from ∙ length-set a.from.now a.count c.in-Split.x ∙ pre.4 in
     let long' : length to₁ ≡ BRANCH = v.auto.to ∙ length-set a.to.now a.count c.in-Split.y ∙ pre.5 in
@@ -235,7 +235,7 @@ returns t c =
     let sp = split-here a.t pre.0 a.model a.m a.count a.from.now a.to.now d.new.supposed c.requires.closable.0 d.ensures u.result u.ensures _ _ c.in-Split.is c.requires.closable.1 in
     let h = c.lay_split in
     let room : a.count < BRANCH = omega (arith, sp.room, branch-long a.from.now a.to.now a.count) in
-    let pl = put-at _ _ _ _ _ _ _ h.ensures c.in-At.is in
+    let pl = put-at _ _ _ _ _ _ _ h.ensures c.in_ok-p.was in
     let es = paper_of f K (a.m - 1) (named E c.in-Split.x c.in-Split.y) in
     let fs = paper_of f K (a.m - 1) (named E c.in-Split.y c.in-Split.x) in
     let lf : a.count < length a.from.now = omega (arith, room, pre.4) in
@@ -244,8 +244,8 @@ returns t c =
     let from₁ = v.new.from in
     let to₁ = v.new.to in
     let out₂ = v.new.out in
-    let done = side-list a.t pre.0 a.model (a.m - 1) E a.from.now a.to.now a.count c.in-Split.x c.in-Split.y refl lf lt a.limit h.new.out c.in-At.p from₁ to₁ out₂ v.result v.ensures in
-    let kept = kept_at _ _ _ _ _ _ _ _ _ _ _ _ done c.in-At-paper.is in
+    let done = side-list a.t pre.0 a.model (a.m - 1) E a.from.now a.to.now a.count c.in-Split.x c.in-Split.y refl lf lt a.limit h.new.out c.in_ok-p.p from₁ to₁ out₂ v.result v.ensures in
+    let kept = kept_at _ _ _ _ _ _ _ _ _ _ _ _ done c.in_ok-q.was in
     let front = kept-front a.from.now a.to.now a.count c.in-Split.x c.in-Split.y from₁ to₁ lf lt kept.3 in
     let long : length from₁ ≡ BRANCH = v.auto.from ∙ length-set a.from.now a.count c.in-Split.x ∙ pre.4 in
     let long' : length to₁ ≡ BRANCH = v.auto.to ∙ length-set a.to.now a.count c.in-Split.y ∙ pre.5 in
@@ -255,7 +255,7 @@ returns t c =
     let from₂ = z.new.from in
     let to₂ = z.new.to in
     let out₃ = z.new.out in
-    let done₂ = side-list a.t pre.0 a.model (a.m - 1) E from₁ to₁ a.count c.in-Split.y c.in-Split.x front l₁ l₂ a.limit out₂ c.in-At-paper.q from₂ to₂ out₃ z.result z.ensures in
+    let done₂ = side-list a.t pre.0 a.model (a.m - 1) E from₁ to₁ a.count c.in-Split.y c.in-Split.x front l₁ l₂ a.limit out₂ c.in_ok-q.q from₂ to₂ out₃ z.result z.ensures in
     subst⁻¹ (λ (l : List Entry). PutKept a.limit a.from.now a.to.now a.count a.out.now a.at (spell l) from₂ to₂ out₃ z.result) sp.list
-    (sides-laid a.limit a.out.now a.at c.in-Split.x c.in-Split.y es fs h.new.out c.in-At.p pl out₂ c.in-At-paper.q kept.0 kept.2 a.from.now a.to.now (set from₁ a.count c.in-Split.y) (set to₁ a.count c.in-Split.x) from₂ to₂ a.count (a.count + 1)
+    (sides-laid a.limit a.out.now a.at c.in-Split.x c.in-Split.y es fs h.new.out c.in_ok-p.p pl out₂ c.in_ok-q.q kept.0 kept.2 a.from.now a.to.now (set from₁ a.count c.in-Split.y) (set to₁ a.count c.in-Split.x) from₂ to₂ a.count (a.count + 1)
     (λ e. kept-front from₁ to₁ a.count c.in-Split.y c.in-Split.x from₂ to₂ l₁ l₂ e ∙ front) out₃ z.result done₂)

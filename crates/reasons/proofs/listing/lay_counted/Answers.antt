@@ -18,5 +18,5 @@ returns c =
     let u = c.whole in
     let v = c.whole-2 in
     let a = c.args in
-    let h = put-at _ _ _ _ _ _ _ u.ensures c.in-At.is in
+    let h = put-at _ _ _ _ _ _ _ u.ensures c.in-Some.is in
     front-laid (spell (paper (frame_of a.t) (kept_of a.model a.t))) a.room.now _ h.0 h.1 v.new.out v.result v.ensures

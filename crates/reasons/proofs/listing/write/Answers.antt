@@ -21,14 +21,14 @@ returns-in_default c =
 pub returns-then-order : goal.returns-then-order
 returns-then-order c =
     let a = c.args in
-    wrote-order a.t a.model a.room.now (sym c.modelled.ensures ∙ c.if-not-modelled.false) (sym c.well_formed-2.ensures ∙ c.if-not-well_formed.false) (sym c.missing.ensures ∙ c.in-Nothing.is) c.first_order-order.result c.first_order-order.ensures c.if-order.true
+    wrote-order a.t a.model a.room.now (sym c.modelled.ensures ∙ c.if-not-modelled.false) (sym c.well_formed-2.ensures ∙ c.if-not-well_formed.false) (sym c.missing.ensures ∙ c.in-None.is) c.first_order-order.result c.first_order-order.ensures c.if-order.true
 
 pub lay_paper-requires : goal.lay_paper-requires
 lay_paper-requires c =
     let a = c.args in
     let k = (sym c.modelled.ensures ∙ c.if-not-modelled.false) in
     let w = (sym c.well_formed-2.ensures ∙ c.if-not-well_formed.false) in
-    let e = sym c.missing.ensures ∙ c.in-Nothing.is in
+    let e = sym c.missing.ensures ∙ c.in-None.is in
     (w, k, sourced-all a.t a.model a.room.now k w e, unfound a.t a.model a.room.now k w e c.first_order-order.result c.first_order-order.ensures c.if-order.false)
 
 pub returns : goal.returns
@@ -36,5 +36,5 @@ returns c =
     let a = c.args in
     let k = (sym c.modelled.ensures ∙ c.if-not-modelled.false) in
     let w = (sym c.well_formed-2.ensures ∙ c.if-not-well_formed.false) in
-    let e = sym c.missing.ensures ∙ c.in-Nothing.is in
+    let e = sym c.missing.ensures ∙ c.in-None.is in
     wrote-paper a.t a.model a.room.now k w e (unfound a.t a.model a.room.now k w e c.first_order-order.result c.first_order-order.ensures c.if-order.false) c.lay_paper.new.room c.lay_paper.result c.lay_paper.ensures

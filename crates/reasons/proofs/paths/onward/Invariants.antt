@@ -1,6 +1,6 @@
 use mathlib.Core.Path.{◌≡◌}
 use mathlib.Core.Bool.{◌&&◌}
-use Prim.Native.Nat.{◌≤◌, ◌-◌}
+use Prim.Native.Nat.{◌≤◌}
 use Rattle.laws.specs.Latest.{last_of}
 use Rattle.trace.specs.Bounds.{RECORDS}
 use Rattle.rows.specs.Rows.{bit}
@@ -8,6 +8,3 @@ use Rattle.reasons.proofs.paths.onward.Given as goal
 
 abbrev pub invariant-loop-z : goal.invariant-loop-z
 invariant-loop-z l = (l.z ≤ RECORDS) × (l.found ≡ last_of (λ z. bit l.edges l.x z && bit l.chains z l.b) (λ z. z) RECORDS l.z) × (l.found ≤ RECORDS)
-
-abbrev pub decreases-loop-z : goal.decreases-loop-z
-decreases-loop-z l = RECORDS - l.z

@@ -1,7 +1,8 @@
 -- `paths::way`: the first i steps are laid, and the way goes on from x.
-use mathlib.Core.Path.{refl, sym, ◌∙◌}
+use mathlib.Core.Path.{◌≡◌, refl, sym, ◌∙◌}
 use native.Mathlib.Omega.{arith}
 use lib.ListN.{length-set}
+use Rattle.trace.specs.Bounds.{RECORDS}
 use Rattle.rows.specs.Rows.{bit}
 use Rattle.reasons.proofs.Laying.{way_step, way-stop, way-over}
 use Rattle.reasons.proofs.paths.way.Goals as goal
@@ -22,4 +23,5 @@ loop-i-preserved c =
 pub returns : goal.returns
 returns c =
     let a = c.args in
-    (c.loop-i.invariant.0, way-over (bit a.edges.now) (bit a.chains.now) a.b _ c.loop-i.out c.loop-i.i c.loop-i.x (omega arith) c.loop-i.invariant.2)
+    let n : c.loop-i.i ≡ RECORDS = omega (arith, c.loop-i.invariant.0) in
+    (omega arith, rw n at (way-over (bit a.edges.now) (bit a.chains.now) a.b _ c.loop-i.out c.loop-i.i c.loop-i.x (omega arith) c.loop-i.invariant.2))

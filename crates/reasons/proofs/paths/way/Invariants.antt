@@ -9,6 +9,3 @@ use Rattle.reasons.proofs.paths.way.Given as goal
 
 abbrev pub invariant-loop-i : goal.invariant-loop-i
 invariant-loop-i l = (l.i ≤ RECORDS) × (length l.out ≡ RECORDS) × (take l.i l.out ++ way_of (bit l.edges) (bit l.chains) (RECORDS - l.i) l.x l.b ≡ way_of (bit l.edges) (bit l.chains) RECORDS l.a l.b)
-
-abbrev pub decreases-loop-i : goal.decreases-loop-i
-decreases-loop-i l = RECORDS - l.i

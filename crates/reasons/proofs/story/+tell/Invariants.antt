@@ -1,5 +1,5 @@
 use mathlib.Core.Path.{◌≡◌}
-use Prim.Native.Nat.{◌-◌, ◌≤◌}
+use Prim.Native.Nat.{◌≤◌}
 use lib.ListN.{length}
 use Rattle.trace.specs.Meaning.{frame_of}
 use Rattle.pairs.specs.Kept.{kept_of}
@@ -15,8 +15,5 @@ decreases-tell l = l.k
 
 abbrev pub invariant-loop-i : goal.invariant-loop-i
 invariant-loop-i l =
-    Along l.limit l.initial.from l.initial.to l.initial.out l.count l.at (telling (frame_of l.t) (kept_of l.model l.t) (supposed_of l.t l.supposed) l.rest.number) l.rest.from l.steps l.len l.rest.to l.i l.z l.from l.to l.out l.n l.w
-    × (l.i ≤ l.len) × (l.z < 65536) × (length l.from ≡ BRANCH) × (length l.to ≡ BRANCH) × (length l.out ≡ length l.initial.out)
-
-abbrev pub decreases-loop-i : goal.decreases-loop-i
-decreases-loop-i l = l.len - l.i
+    Along l.limit l.initial.from l.initial.to l.initial.out l.count l.at (telling (frame_of l.t) (kept_of l.model l.t) (supposed_of l.t l.supposed) l.chain.number) l.chain.from l.steps l.chain.len l.chain.to l.i l.z l.from l.to l.out l.n l.w
+    × (l.i ≤ l.chain.len) × (l.z < 65536) × (length l.from ≡ BRANCH) × (length l.to ≡ BRANCH) × (length l.out ≡ length l.initial.out)

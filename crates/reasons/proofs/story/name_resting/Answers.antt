@@ -8,4 +8,4 @@ use Rattle.reasons.proofs.story.name_resting.Goals as goal
 pub returns : goal.returns
 returns c =
     let a = c.args in
-    subst (λ (is : List ℕ). EntriesTold a.limit a.from.now a.to.now a.out.now a.count a.at (record { rule = a.rest.rule; from = a.x; to = a.y; rests = is } ∷ []) c.name.new.from c.name.new.to c.name.new.out c.name.result) c.number_all.ensures c.name.ensures
+    subst (λ (is : List ℕ). EntriesTold a.limit a.from.now a.to.now a.out.now a.count a.at (record { rule = a.rule; from = a.x; to = a.y; rests = is } ∷ []) c.name.new.from c.name.new.to c.name.new.out c.name.result) c.number_all.ensures c.name.ensures

@@ -1,6 +1,6 @@
 -- `story::rests_on`: by the rule without chains, and otherwise by the round before the edge came.
 use mathlib.Core.Path.{sym, ap, ◌∙◌}
-use mathlib.Core.Bool.{◌||◌, false≢true}
+use mathlib.Core.Bool.{◌||◌}
 use native.Mathlib.Omega.{arith}
 use lib.Dec.{eqb}
 use Rattle.laws.proofs.Tests.{and-iff, same-iff}
@@ -18,7 +18,7 @@ pub returns-then-rule-ne0 : goal.returns-then-rule-ne0
 returns-then-rule-ne0 c =
     let a = c.args in
     let r = c.alone.ensures in
-    rests-alone (frame_of a.t) (kept_of a.model a.t) (supposed_of a.t a.supposed.now) a.k a.x a.y a.steps.now c.alone.result (λ i. omega (arith, c.type_inv.steps i)) r.0 r.2 r.3 r.4 _ r.1
+    rests-alone (frame_of a.t) (kept_of a.model a.t) (supposed_of a.t a.supposed.now) a.k a.x a.y a.steps.now c.alone.result _ r.0 r.1
     (λ E out. bare-alone (frame_of a.t) (kept_of a.model a.t) (supposed_of a.t a.supposed.now) a.k a.x a.y WORDS c.lowest_rule-rule.result c.lowest_rule-rule.ensures c.if-rule-ne0.true E out)
 
 pub returns-then-k-test : goal.returns-then-k-test
@@ -31,7 +31,7 @@ returns-then-k-test c =
     let h = c.round_before-last in
     let q = h.ensures.prior ((and-iff (same-iff {a = well_formed a.t}) (same-iff {a = modelled a.model})).1 (c.requires.0, c.requires.1)) in
     let r = c.alone-then-k-test.ensures in
-    rests-alone (frame_of a.t) (kept_of a.model a.t) (supposed_of a.t a.supposed.now) a.k a.x a.y a.steps.now c.alone-then-k-test.result (λ i. omega (arith, c.type_inv.steps i)) r.0 r.2 r.3 r.4 _ r.1
+    rests-alone (frame_of a.t) (kept_of a.model a.t) (supposed_of a.t a.supposed.now) a.k a.x a.y a.steps.now c.alone-then-k-test.result _ r.0 r.1
     (prior-alone (frame_of a.t) g (kept_of a.model a.t) (supposed_of a.t a.supposed.now) inK in_p a.k a.x a.y h.result.number h.result.edges h.result.chains q z (sym (ap (λ b. eqb a.k 0 || b) c.test.ensures) ∙ c.if-k-test.true))
 
 pub slice_bounds-way-end : goal.slice_bounds-way-end
@@ -63,9 +63,8 @@ returns c =
     let u = prior-rests (frame_of a.t) g (kept_of a.model a.t) (supposed_of a.t a.supposed.now) inK in_p a.k a.x a.y h.result.number h.result.edges h.result.chains q z (sym (ap (λ b. eqb a.k 0 || b) c.test.ensures) ∙ c.if-k-test.false)
     c.lowest_rule-rule-2.result from.result to.result n.result n.new.out c.lowest_rule-rule-2.ensures from.ensures.0 to.ensures.0 n.ensures.1 in
     record {
-      alone = λ b. absurd (false≢true b);
-      rests = λ _. u.1;
-      lower = λ _. u.0;
+      rests = u.1;
+      lower = u.0;
       from-small = from.ensures.1;
       to-small = to.ensures.1;
       steps-small = λ i. omega (arith, c.type_inv.steps i);

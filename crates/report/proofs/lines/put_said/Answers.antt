@@ -29,23 +29,14 @@ used-rules c = length-take-le c.args.v.len c.args.v.rules (omega (arith, all-rul
 by-outcome : (v : Verdict) (o : Outcome) → v.outcome ≡ o → saying_as o (take v.len v.operations) (take v.len v.rules) ≡ saying v
 by-outcome v o e = ap (λ (o : Outcome). saying_as o (take v.len v.operations) (take v.len v.rules)) (sym e)
 
-pub slice_bounds-operations-end : goal.slice_bounds-operations-end
-slice_bounds-operations-end c = omega (arith, all-operations (goal.at.slice_bounds-operations-end c).Start, c.requires.1)
-
 pub slice_bounds-put_circle-end : goal.slice_bounds-put_circle-end
 slice_bounds-put_circle-end c = sym (used-operations (goal.at.slice_bounds-put_circle-end c).Start)
-
-pub slice_bounds-rules-end : goal.slice_bounds-rules-end
-slice_bounds-rules-end c = omega (arith, all-rules (goal.at.slice_bounds-rules-end c).Start, c.requires.1)
 
 pub slice_bounds-put_circle-end-in-Circle : goal.slice_bounds-put_circle-end-in-Circle
 slice_bounds-put_circle-end-in-Circle c = sym (used-rules (goal.at.slice_bounds-put_circle-end-in-Circle c).Start)
 
 pub put_circle-requires : goal.put_circle-requires
 put_circle-requires c = (c.requires.0, omega (arith, used-operations (goal.at.put_circle-requires c).Start, c.requires.1), numbers-take c.args.v.len c.args.v.operations c.requires.2, omega (arith, used-rules (goal.at.put_circle-requires c).Start, c.requires.1))
-
-pub slice_bounds-operations-end-in-Order : goal.slice_bounds-operations-end-in-Order
-slice_bounds-operations-end-in-Order c = omega (arith, all-operations (goal.at.slice_bounds-operations-end-in-Order c).Start, c.requires.1)
 
 pub slice_bounds-put_order-end : goal.slice_bounds-put_order-end
 slice_bounds-put_order-end c = sym (used-operations (goal.at.slice_bounds-put_order-end c).Start)

@@ -1,12 +1,9 @@
-use Prim.Native.Nat.{◌+◌, ◌*◌, ◌≤◌, ◌-◌}
+use Prim.Native.Nat.{◌+◌, ◌*◌, ◌≤◌}
 use lib.ListN.{length, take}
 use Rattle.report.specs.Bounds.{NUMBER}
 use Rattle.report.specs.Report.{spaced}
 use Rattle.report.specs.Wrote.{Wrote}
 use Rattle.report.proofs.pieces.put_rules.Given as goal
 
-abbrev pub invariant-loop-i : goal.invariant-loop-i
-invariant-loop-i l = (l.i ≤ length l.rules) × (l.end ≤ l.at + NUMBER * l.i) × Wrote l.initial.out l.at (spaced (take l.i l.rules)) l.out l.end
-
-abbrev pub decreases-loop-i : goal.decreases-loop-i
-decreases-loop-i l = length l.rules - l.i
+abbrev pub invariant-loop-rule : goal.invariant-loop-rule
+invariant-loop-rule l = (l.rule-index ≤ length l.rules) × (l.end ≤ l.at + NUMBER * l.rule-index) × Wrote l.initial.out l.at (spaced (take l.rule-index l.rules)) l.out l.end

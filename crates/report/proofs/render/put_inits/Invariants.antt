@@ -9,6 +9,3 @@ use Rattle.report.proofs.render.put_inits.Given as goal
 
 abbrev pub invariant-loop-addr : goal.invariant-loop-addr
 invariant-loop-addr l = (l.addr ≤ ADDRESSES) × (l.end ≤ RECORD-LINE * l.addr) × ((done : List ℕ) × (done ++ render_inits (inits_from l.t l.addr (ADDRESSES - l.addr)) ≡ render_inits (inits_of l.t)) × Wrote l.initial.out 0 done l.out l.end)
-
-abbrev pub decreases-loop-addr : goal.decreases-loop-addr
-decreases-loop-addr l = ADDRESSES - l.addr

@@ -10,7 +10,7 @@ use Rattle.trace.proofs.Good.{good}
 use Rattle.rules.specs.Missing.{Missing}
 use Rattle.rules.proofs.Missing.{missing-iff}
 use Rattle.pairs.specs.MissingOf.{record?}
-use Rattle.pairs.specs.declared.sources.Found.{Found}
+use Rattle.pairs.specs.Found.{Found}
 use Rattle.pairs.proofs.ValidOrders.{well-fits}
 use Rattle.pairs.proofs.MissingOf.{found_none, missing-lowest}
 use Rattle.search.proofs.TablesLaid.{lacks-read}

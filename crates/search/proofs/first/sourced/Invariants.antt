@@ -1,4 +1,3 @@
-use Prim.Native.Nat.{◌-◌}
 use Rattle.laws.proofs.LowestLoops.{NoneBelow}
 use Rattle.trace.specs.Meaning.{frame_of}
 use Rattle.rules.specs.Missing.{missing?}
@@ -6,6 +5,3 @@ use Rattle.search.proofs.first.sourced.Given as goal
 
 abbrev pub invariant-loop-load : goal.invariant-loop-load
 invariant-loop-load l = NoneBelow (missing? (frame_of l.t)) l.load
-
-abbrev pub decreases-loop-load : goal.decreases-loop-load
-decreases-loop-load l = l.n - l.load

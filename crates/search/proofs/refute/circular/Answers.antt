@@ -1,7 +1,6 @@
 -- `search::refute::circular`: what a round draws ranks no more than the rows did; a circle ends it.
 use mathlib.Core.Bool.{false≢true}
 use mathlib.Core.Path.{sym, ◌∙◌}
-use native.Mathlib.Omega.{arith}
 use Rattle.search.proofs.Refutation.{grown-none, grown-then, unranked}
 use Rattle.search.proofs.refute.circular.Goals as goal
 
@@ -28,9 +27,6 @@ returns-then-next-ge-RECORDS c = record { grown = c.loop-round.invariant.0; unra
 
 pub settle-requires : goal.settle-requires
 settle-requires c = (c.requires.0, c.loop-round.invariant.0.long ∙ c.requires.1)
-
-pub overflow_add-round : goal.overflow_add-round
-overflow_add-round c = omega (arith, c.loop-round-test.true, c.requires.0)
 
 pub loop-round-preserved : goal.loop-round-preserved
 loop-round-preserved c = (grown-then c.loop-round.invariant.0 c.settle.ensures, c.settle.auto.changed ∙ c.clear.auto.rows ∙ c.loop-round.invariant.1)

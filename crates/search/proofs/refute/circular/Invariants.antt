@@ -1,5 +1,4 @@
 use mathlib.Core.Path.{◌≡◌}
-use Prim.Native.Nat.{◌-◌}
 use lib.ListN.{length}
 use Rattle.rows.specs.Bounds.{WORDS}
 use Rattle.search.specs.inner.Refutation.{Ranking, Grown}
@@ -7,6 +6,3 @@ use Rattle.search.proofs.refute.circular.Given as goal
 
 abbrev pub invariant-loop-round : goal.invariant-loop-round
 invariant-loop-round l = Grown (Ranking (length l.sources) l.writers l.sources l.placed) l.initial.led l.led × (length l.changed ≡ WORDS)
-
-abbrev pub decreases-loop-round : goal.decreases-loop-round
-decreases-loop-round l = length l.sources - l.round

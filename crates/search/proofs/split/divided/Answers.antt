@@ -6,7 +6,7 @@ use native.Mathlib.Omega.{arith}
 use lib.ListN.{length}
 use Rattle.search.proofs.Candidates.{next-on}
 use Rattle.search.proofs.Refutation.{both-fall}
-use Rattle.search.proofs.split.divided.Goals.{else-y-lt-RECORDS, then-y-lt-RECORDS}
+use Rattle.search.proofs.split.divided.Goals.{else-y-lt-RECORDS, then-y-lt-RECORDS+else-falls}
 use Rattle.search.proofs.split.divided.Goals as goal
 
 pub partner-y-requires : goal.partner-y-requires
@@ -39,7 +39,7 @@ pub loop-x-preserved : goal.loop-x-preserved
 loop-x-preserved c =
     let l = c.loop-x in
     let up = next-on c.args.left.now l.x _ c.next-x-in-loop-x.ensures (omega (arith, c.loop-x-test.true, c.requires.0)) in
-    (elim c.if-y-lt-RECORDS.branch [ then-y-lt-RECORDS w ↦ let e : c.if-y-lt-RECORDS.tries ≡ l.tries + 1 = w.tries-is in omega (arith, e, up, l.invariant) | else-y-lt-RECORDS w ↦ let e : c.if-y-lt-RECORDS.tries ≡ l.tries = w.tries-is in omega (arith, e, up, l.invariant) ])
+    (elim c.if-y-lt-RECORDS.branch [ then-y-lt-RECORDS+else-falls w ↦ let e : c.if-y-lt-RECORDS.tries ≡ l.tries + 1 = w.tries-is in omega (arith, e, up, l.invariant) | else-y-lt-RECORDS w ↦ let e : c.if-y-lt-RECORDS.tries ≡ l.tries = w.tries-is in omega (arith, e, up, l.invariant) ])
 
 pub returns : goal.returns
 returns c = λ t. absurd (false≢true t)

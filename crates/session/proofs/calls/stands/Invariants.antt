@@ -1,5 +1,5 @@
 use mathlib.Core.Bool.{So}
-use Prim.Native.Nat.{◌≤◌, ◌-◌}
+use Prim.Native.Nat.{◌≤◌}
 use Rattle.laws.specs.Tests.{all}
 use Rattle.session.specs.Bounds.{PAIRS}
 use Rattle.session.specs.Stack.{placed}
@@ -7,6 +7,3 @@ use Rattle.session.proofs.calls.stands.Given as goal
 
 abbrev pub invariant-loop-i : goal.invariant-loop-i
 invariant-loop-i l = (l.k.count ≤ PAIRS) × So (all l.i (placed l.t l.k))
-
-abbrev pub decreases-loop-i : goal.decreases-loop-i
-decreases-loop-i l = PAIRS - l.i

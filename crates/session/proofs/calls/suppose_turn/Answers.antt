@@ -14,8 +14,8 @@ tested C c = c.done.ensures ∙ ap is_done (c.pair_turn-turn.ensures C)
 pub returns-then-not-done : goal.returns-then-not-done
 returns-then-not-done c = λ C. c.pair_turn-turn.ensures C ∙ sym (suppose-pair C _ _ _ (sym (tested C (goal.at.returns-then-not-done c).After-done) ∙ not-true _ c.if-not-done.true-raw))
 
-pub returns-then-k-ge-PAIRS : goal.returns-then-k-ge-PAIRS
-returns-then-k-ge-PAIRS c = λ C. sym (suppose-full C _ _ _ (sym (tested C (goal.at.returns-then-k-ge-PAIRS c).After-done) ∙ not-false _ c.if-not-done.false-raw) c.if-k-ge-PAIRS.true)
+pub returns-then-s-ge-PAIRS : goal.returns-then-s-ge-PAIRS
+returns-then-s-ge-PAIRS c = λ C. sym (suppose-full C _ _ _ (sym (tested C (goal.at.returns-then-s-ge-PAIRS c).After-done) ∙ not-false _ c.if-not-done.false-raw) c.if-s-ge-PAIRS.true)
 
 pub returns : goal.returns
-returns c = λ C. sym (suppose-done C _ _ _ (sym (tested C (goal.at.returns c).After-done) ∙ not-false _ c.if-not-done.false-raw) c.if-k-ge-PAIRS.false)
+returns c = λ C. sym (suppose-done C _ _ _ (sym (tested C (goal.at.returns c).After-done) ∙ not-false _ c.if-not-done.false-raw) c.if-s-ge-PAIRS.false)

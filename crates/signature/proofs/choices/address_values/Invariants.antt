@@ -1,9 +1,6 @@
-use Prim.Native.Nat.{◌-◌, ◌≤◌}
+use Prim.Native.Nat.{◌≤◌}
 use Rattle.signature.specs.inner.ValuesLaid.{ValuesPut}
 use Rattle.signature.proofs.choices.address_values.Given as goal
 
 abbrev pub invariant-loop-i : goal.invariant-loop-i
-invariant-loop-i l = (l.i ≤ l.n) × ValuesPut l.t l.addr l.i l.of l.own l.count
-
-abbrev pub decreases-loop-i : goal.decreases-loop-i
-decreases-loop-i l = l.n - l.i
+invariant-loop-i l = (l.i ≤ l.t.len) × ValuesPut l.t l.addr l.i l.of l.own l.count

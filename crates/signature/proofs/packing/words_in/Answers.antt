@@ -17,8 +17,8 @@ well c = sym c.well_formed-2.ensures ∙ c.if-not-well_formed.false
 pub returns-then-not-well_formed : goal.returns-then-not-well_formed
 returns-then-not-well_formed c = size_none c.args.t c.args.core (sym c.well_formed-2.ensures ∙ c.if-not-well_formed.true)
 
-pub thread_words-own-requires : goal.thread_words-own-requires
-thread_words-own-requires c = let t = c.args.t in (((form-iff t).0 (well c)).fits, top_below t, omega arith)
+pub thread_words-requires : goal.thread_words-requires
+thread_words-requires c = let t = c.args.t in (((form-iff t).0 (well c)).fits, top_below t, omega arith)
 
 pub returns : goal.returns
-returns c = let a = c.args in ap (λ (o : Open). o.count) c.thread_words-own.ensures.0 ∙ size-some a.t a.core (well (goal.at.returns c).Else-not-well_formed)
+returns c = let a = c.args in ap (λ (o : Open). o.count) c.thread_words.ensures.0 ∙ size-some a.t a.core (well (goal.at.returns c).Else-not-well_formed)

@@ -16,8 +16,8 @@ well c = sym c.well_formed-2.ensures ∙ c.if-not-well_formed.false
 pub returns-then-not-well_formed : goal.returns-then-not-well_formed
 returns-then-not-well_formed c = words-none c.args.t (sym c.well_formed-2.ensures ∙ c.if-not-well_formed.true)
 
-pub all_words-all-requires : goal.all_words-all-requires
-all_words-all-requires c = let t = c.args.t in (((form-iff t).0 (well c)).fits, top_below t)
+pub all_words-requires : goal.all_words-requires
+all_words-requires c = let t = c.args.t in (((form-iff t).0 (well c)).fits, top_below t)
 
 pub returns : goal.returns
-returns c = let t = c.args.t in ap (λ (o : Open). o.count) c.all_words-all.ensures ∙ words-some t (well (goal.at.returns c).Else-not-well_formed)
+returns c = let t = c.args.t in ap (λ (o : Open). o.count) c.all_words.ensures ∙ words-some t (well (goal.at.returns c).Else-not-well_formed)

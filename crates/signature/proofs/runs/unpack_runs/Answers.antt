@@ -114,12 +114,12 @@ pub put_runs-requires : goal.put_runs-requires
 put_runs-requires c =
     record { well = sure (goal.at.put_runs-requires c).After-runs_in-runs; each = counted (goal.at.put_runs-requires c).After-runs_in-runs; some = loaded (goal.at.put_runs-requires c).After-runs_in-runs; long = c.if-words-runs.false; room = c.if-reads-runs.false }
 
-pub returns-in-At : goal.returns-in-At
-returns-in-At c =
+pub returns-in-Some : goal.returns-in-Some
+returns-in-Some c =
     let a = c.args in
-    runs-large a.t a.words.now a.reads.now (sure (goal.at.returns-in-At c).After-runs_in-runs) (fit-reads (goal.at.returns-in-At c).Else-words-runs) (fit_words (goal.at.returns-in-At c).Else-words-runs) c.in-At.k (sym (same (goal.at.returns-in-At c).After-first_large) ∙ found_some _ _ (sym c.first_large.ensures ∙ c.in-At.is))
+    runs-large a.t a.words.now a.reads.now (sure (goal.at.returns-in-Some c).After-runs_in-runs) (fit-reads (goal.at.returns-in-Some c).Else-words-runs) (fit_words (goal.at.returns-in-Some c).Else-words-runs) c.in-Some.k (sym (same (goal.at.returns-in-Some c).After-first_large) ∙ found_some _ _ (sym c.first_large.ensures ∙ c.in-Some.is))
 
-pub returns-in-Nothing : goal.returns-in-Nothing
-returns-in-Nothing c =
+pub returns-in-None : goal.returns-in-None
+returns-in-None c =
     let a = c.args in
-    runs_done a.t a.words.now a.reads.now (sure (goal.at.returns-in-Nothing c).After-runs_in-runs) (fit-reads (goal.at.returns-in-Nothing c).Else-words-runs) (fit_words (goal.at.returns-in-Nothing c).Else-words-runs) (sym (same (goal.at.returns-in-Nothing c).After-first_large) ∙ found_none _ (sym c.first_large.ensures ∙ c.in-Nothing.is)) _ (c.put_runs.ensures ∙ ap (all_reads a.t a.words.now) (ran (goal.at.returns-in-Nothing c).After-runs_in-runs))
+    runs_done a.t a.words.now a.reads.now (sure (goal.at.returns-in-None c).After-runs_in-runs) (fit-reads (goal.at.returns-in-None c).Else-words-runs) (fit_words (goal.at.returns-in-None c).Else-words-runs) (sym (same (goal.at.returns-in-None c).After-first_large) ∙ found_none _ (sym c.first_large.ensures ∙ c.in-None.is)) _ (c.put_runs.ensures ∙ ap (all_reads a.t a.words.now) (ran (goal.at.returns-in-None c).After-runs_in-runs))

@@ -6,6 +6,3 @@ use Rattle.signature.proofs.unpacking.all_places.Given as goal
 
 abbrev pub invariant-loop-core : goal.invariant-loop-core
 invariant-loop-core l = (l.core ≤ THREADS) × (placed_all l.t l.built l.core (THREADS - l.core) ≡ places_of l.t)
-
-abbrev pub decreases-loop-core : goal.decreases-loop-core
-decreases-loop-core l = THREADS - l.core

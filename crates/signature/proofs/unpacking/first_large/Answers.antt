@@ -21,26 +21,26 @@ place c = mod-lt c.loop-k.k (has c)
 pub loop-k-init : goal.loop-k-init
 loop-k-init c = none_below (over c.args.largest.of c.args.largest.count c.args.words.now)
 
-pub nonzero_rem-at : goal.nonzero_rem-at
-nonzero_rem-at c = omega (arith, has c)
+pub nonzero_rem-k : goal.nonzero_rem-k
+nonzero_rem-k c = omega (arith, has c)
 
-pub offset_bounds-largest-at : goal.offset_bounds-largest-at
-offset_bounds-largest-at c = omega (arith, place c, c.requires.0)
+pub offset_bounds-largest-k : goal.offset_bounds-largest-k
+offset_bounds-largest-k c = omega (arith, place c, c.requires.0)
 
-pub bounds-largest-at : goal.bounds-largest-at
-bounds-largest-at c = omega (arith, place c, c.requires.0)
+pub bounds-largest-k : goal.bounds-largest-k
+bounds-largest-k c = omega (arith, place c, c.requires.0)
 
-pub returns-then-largest-at : goal.returns-then-largest-at
+pub returns-then-largest-k : goal.returns-then-largest-k
 unfolding over
-returns-then-largest-at c =
+returns-then-largest-k c =
     let a = c.args in
-    ap found_of (sym (lowest-found (over a.largest.of a.largest.count a.words.now) (length a.words.now) c.loop-k.k c.loop-k.invariant c.loop-k-test.true (lt-ltb _ _ c.if-largest-at.true)))
+    ap found_of (sym (lowest-found (over a.largest.of a.largest.count a.words.now) (length a.words.now) c.loop-k.k c.loop-k.invariant c.loop-k-test.true (lt-ltb _ _ c.if-largest-k.true)))
 
 pub loop-k-preserved : goal.loop-k-preserved
 unfolding over
 loop-k-preserved c =
     let a = c.args in
-    more-below (over a.largest.of a.largest.count a.words.now) c.loop-k.k c.loop-k.invariant (le-ltb _ _ c.if-largest-at.false)
+    more-below (over a.largest.of a.largest.count a.words.now) c.loop-k.k c.loop-k.invariant (le-ltb _ _ c.if-largest-k.false)
 
 pub returns : goal.returns
 returns c = let a = c.args in ap found_of (sym (lowest-nothing (over a.largest.of a.largest.count a.words.now) (length a.words.now) c.loop-k.k c.loop-k.invariant c.loop-k-test.false))

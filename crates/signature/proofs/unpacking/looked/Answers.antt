@@ -15,11 +15,11 @@ unfolding reader
 told c = c.of_thread.ensures
 
 pub placed-requires : goal.placed-requires
-placed-requires c = (omega (arith, c.range_of-range.ensures.0, range-some c.args.t c.args.i), omega (arith, c.requires.0, c.requires.1))
+placed-requires c = (omega (arith, c.range_of.ensures.0, range-some c.args.t c.args.i), omega (arith, c.requires.0, c.requires.1))
 
 pub returns-then-of_thread : goal.returns-then-of_thread
 returns-then-of_thread c =
-    c.placed.ensures ∙ ap (λ (n : ℕ). placed_of c.args.x n c.args.i) c.range_of-range.ensures.0
+    c.placed.ensures ∙ ap (λ (n : ℕ). placed_of c.args.x n c.args.i) c.range_of.ensures.0
     ∙ looked-placed c.args.x c.args.t c.args.core c.args.i (sym (told (goal.at.returns-then-of_thread c).After-of_thread) ∙ c.if-of_thread.true)
 
 pub returns : goal.returns

@@ -56,12 +56,6 @@ put_read-k-requires c =
       low = c.loop-i.invariant.1.low;
     }
 
-pub overflow_add-i : goal.overflow_add-i
-overflow_add-i c = omega arith
-
-pub loop-i-smaller : goal.loop-i-smaller
-loop-i-smaller c = omega arith
-
 pub loop-i-preserved : goal.loop-i-preserved
 loop-i-preserved c =
     let b = digit_by c.args.x c.args.words.now in (

@@ -79,12 +79,12 @@ pub put_run-requires : goal.put_run-requires
 put_run-requires c =
     (sure (goal.at.put_run-requires c).After-loads_in, c.all_places.ensures, c.all_values.ensures, long (goal.at.put_run-requires c).After-loads_in, c.if-reads-loads_in.false ∙ c.loads_in.ensures.0)
 
-pub returns-in-At : goal.returns-in-At
-returns-in-At c =
+pub returns-in-Some : goal.returns-in-Some
+returns-in-Some c =
     let a = c.args in
-    unpack-large a.t a.words.now a.reads.now (sure (goal.at.returns-in-At c).After-loads_in) (long (goal.at.returns-in-At c).After-loads_in) (c.if-reads-loads_in.false ∙ c.loads_in.ensures.0) c.in-At.k (sym (same (goal.at.returns-in-At c).After-first_large) ∙ found_some _ _ (sym c.first_large.ensures ∙ c.in-At.is))
+    unpack-large a.t a.words.now a.reads.now (sure (goal.at.returns-in-Some c).After-loads_in) (long (goal.at.returns-in-Some c).After-loads_in) (c.if-reads-loads_in.false ∙ c.loads_in.ensures.0) c.in-Some.k (sym (same (goal.at.returns-in-Some c).After-first_large) ∙ found_some _ _ (sym c.first_large.ensures ∙ c.in-Some.is))
 
-pub returns-in-Nothing : goal.returns-in-Nothing
-returns-in-Nothing c =
+pub returns-in-None : goal.returns-in-None
+returns-in-None c =
     let a = c.args in
-    unpack-done a.t a.words.now a.reads.now (sure (goal.at.returns-in-Nothing c).After-loads_in) (long (goal.at.returns-in-Nothing c).After-loads_in) (c.if-reads-loads_in.false ∙ c.loads_in.ensures.0) (sym (same (goal.at.returns-in-Nothing c).After-first_large) ∙ found_none _ (sym c.first_large.ensures ∙ c.in-Nothing.is)) _ c.put_run.ensures
+    unpack-done a.t a.words.now a.reads.now (sure (goal.at.returns-in-None c).After-loads_in) (long (goal.at.returns-in-None c).After-loads_in) (c.if-reads-loads_in.false ∙ c.loads_in.ensures.0) (sym (same (goal.at.returns-in-None c).After-first_large) ∙ found_none _ (sym c.first_large.ensures ∙ c.in-None.is)) _ c.put_run.ensures

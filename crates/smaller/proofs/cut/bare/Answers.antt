@@ -6,4 +6,4 @@ use Rattle.trace.specs.declared.Trace.{Trace}
 use Rattle.smaller.proofs.cut.bare.Goals as goal
 
 pub returns : goal.returns
-returns c = ap (λ (t : Trace). record { answer = c.args.answer; trace = t; olds = replicate RECORDS 0 }) c.empty-trace.ensures
+returns c = ap (λ (t : Trace). record { answer = c.args.answer; trace = t; olds = replicate RECORDS 0 }) c.empty.ensures

@@ -12,8 +12,8 @@ use Rattle.smaller.proofs.cut.cut_away.Goals as goal
 pub all-requires : goal.all-requires
 all-requires c = (well-fits _ c.requires.0, refl)
 
-pub picked-trace-requires : goal.picked-trace-requires
-picked-trace-requires c = well-fits _ c.requires.0
+pub picked-requires : goal.picked-requires
+picked-requires c = well-fits _ c.requires.0
 
 pub olds-requires : goal.olds-requires
 olds-requires c = well-fits _ c.requires.0
@@ -24,6 +24,6 @@ returns c = let t = c.args.t in
       p.kept,
       p.left,
       ap₂ (λ (u : Trace) (l : List ℕ). record { answer = Cut; trace = u; olds = l })
-          (c.picked-trace.ensures ∙ picked-alike _ p.kept t t.len p.same)
+          (c.picked.ensures ∙ picked-alike _ p.kept t t.len p.same)
           (c.olds.ensures ∙ ap padded (olds-alike _ p.kept t.len p.same)),
     )

@@ -1,5 +1,5 @@
 use mathlib.Core.Bool.{So}
-use Prim.Native.Nat.{◌-◌, ◌≤◌}
+use Prim.Native.Nat.{◌≤◌}
 use Rattle.trace.specs.Meaning.{frame_of}
 use Rattle.trace.specs.WellFormed.{well_formed}
 use Rattle.trace.proofs.Good.{good}
@@ -8,6 +8,3 @@ use Rattle.smaller.proofs.part.lay_goes.Given as goal
 
 abbrev pub invariant-loop-load : goal.invariant-loop-load
 invariant-loop-load l = (l.load ≤ l.n) × ((w : So (well_formed l.t)) → Lays (frame_of l.t) (good l.t w) l.load l.goes)
-
-abbrev pub decreases-loop-load : goal.decreases-loop-load
-decreases-loop-load l = l.n - l.load

@@ -1,6 +1,6 @@
 use mathlib.Core.Path.{◌≡◌}
 use mathlib.Core.Bool.{false, not, ◌&&◌, ◌||◌}
-use Prim.Native.Nat.{ℕ, ◌-◌, ◌≤◌, ◌<◌}
+use Prim.Native.Nat.{ℕ, ◌≤◌, ◌<◌}
 use lib.Dec.{eqb}
 use lib.ListN.{length}
 use Rattle.rows.specs.Bounds.{WORDS}
@@ -10,6 +10,3 @@ use Rattle.smaller.proofs.part.without.Given as goal
 
 abbrev pub invariant-loop-x : goal.invariant-loop-x
 invariant-loop-x l = (l.x ≤ l.n) × (length l.left ≡ WORDS) × ((y : ℕ) → y < l.x → Chosen l.left y ≡ (Chosen l.kept y && not (eqb l.i y || bit l.goes l.i y))) × ((y : ℕ) → l.x ≤ y → Chosen l.left y ≡ false)
-
-abbrev pub decreases-loop-x : goal.decreases-loop-x
-decreases-loop-x l = l.n - l.x

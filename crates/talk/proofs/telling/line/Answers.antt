@@ -5,18 +5,18 @@ use Rattle.talk.proofs.Starting.{first_good}
 use Rattle.talk.proofs.telling.line.Goals as goal
 
 pub beginning-requires : goal.beginning-requires
-beginning-requires c = first_good _ _ _ _ (sym c.first_value.ensures ∙ c.in-Of.is)
+beginning-requires c = first_good _ _ _ _ (sym c.first_value.ensures ∙ c.in-Some.is)
 
-pub returns-in-Of : goal.returns-in-Of
+pub returns-in-Some : goal.returns-in-Some
 unfolding line_said
-returns-in-Of c = λ C.
+returns-in-Some c = λ C.
     let a = c.args in
-    c.beginning.ensures C ∙ ap (begun_or C a.talk a.bytes.now) (sym c.in-Of.is ∙ c.first_value.ensures)
+    c.beginning.ensures C ∙ ap (begun_or C a.talk a.bytes.now) (sym c.in-Some.is ∙ c.first_value.ensures)
 
-pub returns-in-Nothing : goal.returns-in-Nothing
+pub returns-in-None : goal.returns-in-None
 unfolding line_said
-returns-in-Nothing c = λ C.
+returns-in-None c = λ C.
     let a = c.args in
     c.turn.ensures C
     ∙ ap (turn_said C a.talk) c.turned.ensures
-    ∙ ap (begun_or C a.talk a.bytes.now) (sym c.in-Nothing.is ∙ c.first_value.ensures)
+    ∙ ap (begun_or C a.talk a.bytes.now) (sym c.in-None.is ∙ c.first_value.ensures)

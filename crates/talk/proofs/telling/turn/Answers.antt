@@ -4,11 +4,11 @@ use Prim.Native.Nat.{ℕ}
 use Rattle.talk.specs.LineAnswers.{refused_of, turn_said}
 use Rattle.talk.proofs.telling.turn.Goals as goal
 
-pub returns-in-Taken : goal.returns-in-Taken
-returns-in-Taken c = λ C.
-    c.addition.ensures C ∙ ap (turn_said C c.args.talk) (sym c.in-Taken.is)
+pub returns-in-Ok : goal.returns-in-Ok
+returns-in-Ok c = λ C.
+    c.addition.ensures C ∙ ap (turn_said C c.args.talk) (sym c.in-Ok.is)
 
-pub returns-in-Refused : goal.returns-in-Refused
-returns-in-Refused c = λ C.
+pub returns-in-Err : goal.returns-in-Err
+returns-in-Err c = λ C.
     let k = c.args.talk in
-    c.refused.ensures ∙ ap (λ (n : ℕ). refused_of k n) c.number.ensures ∙ ap (turn_said C k) (sym c.in-Refused.is)
+    c.refused.ensures ∙ ap (λ (n : ℕ). refused_of k n) c.number.ensures ∙ ap (turn_said C k) (sym c.in-Err.is)

@@ -15,17 +15,8 @@ returns-then-out-at c = let a = c.args in (
   sym (put-none a.word.now a.out.now a.at (omega arith)),
 )
 
-pub returns-then-out-at-2 : goal.returns-then-out-at-2
-returns-then-out-at-2 c = let a = c.args in (
-  sym (behind-none a.word.now a.out.now a.at (omega arith)),
-  sym (put-none a.word.now a.out.now a.at (omega arith)),
-)
-
 pub loop-i-init : goal.loop-i-init
 loop-i-init c = let a = c.args in (omega arith, refl, paste-zero a.out.now a.at a.word.now)
-
-pub bounds-word-i : goal.bounds-word-i
-bounds-word-i c = omega arith
 
 pub loop-i-preserved : goal.loop-i-preserved
 loop-i-preserved c = let l = c.loop-i in
@@ -44,6 +35,6 @@ returns c = let l = c.loop-i in
     let a = c.args in
     let e : l.i ≡ length a.word.now = omega arith in
     let h : a.at + length a.word.now ≤ length a.out.now = omega arith in (
-      ap (λ (n : ℕ). a.at + n) e ∙ sym (behind-room a.word.now a.out.now a.at h),
+      sym (behind-room a.word.now a.out.now a.at h),
       (rw e at l.invariant.2) ∙ sym (put-paste a.word.now a.out.now a.at h),
     )

@@ -28,12 +28,11 @@ whole c =
     let split : drop c.loop-k.k ts ≡ get_or ts c.loop-k.k 0 ∷ drop (c.loop-k.k + 1) ts = rw add-one (drop-cons ts c.loop-k.k 0 (omega arith)) in
     ap (λ (ts : List ℕ). fit_from c.loop-k.n c.loop-k.numbers (found ts (drop c.loop-k.i c.args.line.now))) (sym split) ∙ c.loop-k.invariant.3
 
-pub returns-in_default : goal.returns-in_default
+pub returns-in_err-number : goal.returns-in_err-number
 unfolding next rest
-returns-in_default c =
-    c.missed.ensures
-    ∙ ap (fit_from c.loop-k.n c.loop-k.numbers) (sym (step-missing (next (goal.at.returns-in_default c).In-loop-k) (rest (goal.at.returns-in_default c).In-loop-k) c.args.line.now c.loop-k.i (sym c.in_default.is ∙ c.step_at.ensures)))
-    ∙ whole (goal.at.returns-in_default c).In-loop-k
+returns-in_err-number c =
+    c.from_residual.ensures ∙ ap (fit_from c.loop-k.n c.loop-k.numbers) (sym (step-missing (next (goal.at.returns-in_err-number c).In-loop-k) (rest (goal.at.returns-in_err-number c).In-loop-k) c.args.line.now c.loop-k.i (sym c.in_err-number.was ∙ c.step_at.ensures)))
+    ∙ whole (goal.at.returns-in_err-number c).In-loop-k
 
 pub slice_bounds-put-end : goal.slice_bounds-put-end
 slice_bounds-put-end c = sym c.loop-k.invariant.2
@@ -41,13 +40,13 @@ slice_bounds-put-end c = sym c.loop-k.invariant.2
 pub loop-k-preserved : goal.loop-k-preserved
 unfolding next rest
 loop-k-preserved c =
-    let q = sym c.in-At.is ∙ c.step_at.ensures in
+    let q = sym c.in_ok-number.was ∙ c.step_at.ensures in
     (elim c.if-t-eq-HOLE.branch [
       | then-t-eq-HOLE w ↦ (
         omega arith,
         omega arith,
         rw w.numbers-is (ap length w.put.ensures ∙ length-set c.loop-k.numbers c.loop-k.n _ ∙ c.loop-k.invariant.2),
-        rw (w.numbers-is, w.n-is) (ap (λ (ps : List ℕ). fit_from (c.loop-k.n + 1) ps (found (rest (goal.at.loop-k-preserved c).In-loop-k) (drop c.in-At.end c.args.line.now))) w.put.ensures ∙ step-hole (next (goal.at.loop-k-preserved c).In-loop-k) (rest (goal.at.loop-k-preserved c).In-loop-k) c.args.line.now c.loop-k.i w.if-t-eq-HOLE.true c.loop-k.n c.loop-k.numbers q ∙ whole (goal.at.loop-k-preserved c).In-loop-k),
+        rw (w.numbers-is, w.n-is) (ap (λ (ps : List ℕ). fit_from (c.loop-k.n + 1) ps (found (rest (goal.at.loop-k-preserved c).In-loop-k) (drop c.in_ok-number.number.end c.args.line.now))) w.put.ensures ∙ step-hole (next (goal.at.loop-k-preserved c).In-loop-k) (rest (goal.at.loop-k-preserved c).In-loop-k) c.args.line.now c.loop-k.i w.if-t-eq-HOLE.true c.loop-k.n c.loop-k.numbers q ∙ whole (goal.at.loop-k-preserved c).In-loop-k),
       )
       | else-t-eq-HOLE w ↦ (
         omega arith,
@@ -65,7 +64,7 @@ over c =
 
 pub returns-then-i-line : goal.returns-then-i-line
 returns-then-i-line c =
-    c.missed-then-i-line.ensures ∙ fit-over c.args.line.now c.loop-k.i c.loop-k.n c.loop-k.numbers c.if-i-line.true ∙ over (goal.at.returns-then-i-line c).After-loop-k
+    fit-over c.args.line.now c.loop-k.i c.loop-k.n c.loop-k.numbers c.if-i-line.true ∙ over (goal.at.returns-then-i-line c).After-loop-k
 
 pub returns : goal.returns
 returns c =

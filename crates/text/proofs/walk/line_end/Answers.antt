@@ -1,6 +1,7 @@
 -- `text::walk::line_end`: the line seen from `i` ends where the line seen from `at` does.
--- `text::walk::line_end`: the line seen from `i` ends where the line seen from `at` does.
+use native.Mathlib.Decide.{dec_lt}
 use native.Mathlib.Omega.{arith}
+use lib.ListN.{length}
 use Rattle.text.proofs.Lines.{end-here, end_on, end-last}
 use Rattle.text.proofs.walk.line_end.Goals as goal
 
@@ -16,5 +17,6 @@ loop-i-preserved c =
 
 pub returns : goal.returns
 returns c =
-    let e = end-last c.args.text.now c.loop-i.i c.loop-i-test.false in
-    omega arith
+    let t = c.args.text.now in
+    let e = end-last t c.loop-i.i (omega arith) in
+    elim (dec_lt (length t) c.args.at) [ yes h ↦ let f = end-last t c.args.at (omega arith) in omega arith | no h ↦ omega arith ]

@@ -1,13 +1,10 @@
 -- `trace::cores::lost` meets its contract. The invariant: no thread passed appears behind a gap, and `whole` says whether all of them appear.
 -- Assumes nothing.
-use mathlib.Core.Path.{◌≡◌, refl, sym, ap₂, ◌∙◌}
-use mathlib.Core.Bool.{false, not, ◌&&◌}
-use Prim.Native.Nat.{◌-◌}
-use borrow.Author.Rules.{rules}
+use mathlib.Core.Path.{refl, sym, ap₂, ◌∙◌}
+use mathlib.Core.Bool.{◌&&◌}
 use Rattle.laws.specs.Tests.{any, all}
 use Rattle.laws.proofs.Loops.{any-more, any-stops, any-fewer}
-use Rattle.trace.specs.Bounds.{THREADS}
-use Rattle.trace.specs.Cores.{shows, all_show, lost}
+use Rattle.trace.specs.Cores.{all_show, lost}
 use Rattle.trace.proofs.Lost.{whole-more}
 use Rattle.trace.proofs.cores.lost.Goals as goal
 

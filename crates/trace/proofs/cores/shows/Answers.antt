@@ -1,15 +1,9 @@
 -- `trace::cores::shows` meets its contract. The invariant: none of the records passed is of the thread.
 -- Assumes nothing.
-use mathlib.Core.Path.{◌≡◌, sym, ◌∙◌}
-use mathlib.Core.Bool.{false}
-use Prim.Native.Nat.{◌-◌}
-use lib.Dec.{eqb}
-use lib.ListN.{length-map}
+use mathlib.Core.Path.{sym, ◌∙◌}
 use borrow.Author.Rules.{rules}
 use Rattle.laws.specs.Tests.{any}
 use Rattle.laws.proofs.Loops.{any-more, any-stops, any-fewer}
-use Rattle.trace.specs.Op.{thread}
-use Rattle.trace.specs.Trace.{at}
 use Rattle.trace.specs.Cores.{shows}
 use Rattle.trace.proofs.Lost.{shows-past}
 use Rattle.trace.proofs.cores.shows.Goals as goal

@@ -1,6 +1,6 @@
 -- `trace::form::fault_of` meets its contract: the tests in the order of their numbers. Assumes nothing.
 use mathlib.Core.Path.{◌≡◌, sym, ap, ap₂, ◌∙◌}
-use mathlib.Core.Bool.{Bool, true, false, ◌&&◌}
+use mathlib.Core.Bool.{Bool, true, ◌&&◌}
 use lib.Dec.{eqb}
 use borrow.Author.Tests.{not-true, not-false}
 use Rattle.trace.specs.Op.{writes, written, address}
@@ -9,7 +9,6 @@ use Rattle.trace.specs.WellFormed.{bounded, written_before}
 use Rattle.trace.specs.declared.Op.{Op}
 use Rattle.trace.specs.declared.Trace.{Trace}
 use Rattle.trace.proofs.Faults.{fault_past, fault-first, fault-many, fault-twice, fault-new, fault-plain}
-use borrow.Author.Rules.{rules}
 use Rattle.trace.proofs.form.fault_of.Goals.{After-first-start, After-written_before, Start}
 use Rattle.trace.proofs.form.fault_of.Goals as goal
 

@@ -9,7 +9,6 @@ use Rattle.trace.specs.WellFormed.{bounded, fresh, follows}
 use Rattle.trace.specs.inner.Marks.{has_mark}
 use Rattle.trace.proofs.WellFormed.{bounded-iff}
 use Rattle.trace.proofs.Marks.{follows-unmarked}
-use borrow.Author.Rules.{rules}
 use Rattle.trace.proofs.form.follows_marks.Goals.{Else-not-bounded}
 use Rattle.trace.proofs.form.follows_marks.Goals as goal
 

@@ -5,7 +5,6 @@ use borrow.Author.Tests.{eq-eqb, ne_eqb}
 use Rattle.trace.specs.Op.{address, written, writes}
 use Rattle.trace.specs.Trace.{first}
 use Rattle.trace.specs.WellFormed.{fresh, written_before}
-use borrow.Author.Rules.{rules}
 use Rattle.trace.proofs.form.fresh.Goals as goal
 
 pub returns-then-value-first : goal.returns-then-value-first

@@ -4,7 +4,6 @@ use Prim.Native.Nat.{◌%◌}
 use native.Mathlib.Omega.{arith}
 use Rattle.laws.proofs.Bits.{shift_one}
 use Rattle.trace.specs.inner.Marks.{MARKWIDTH, with_mark}
-use borrow.Author.Rules.{rules}
 use Rattle.trace.proofs.form.mark.Goals as goal
 
 pub returns : goal.returns

@@ -5,7 +5,6 @@ use lib.Dec.{eqb}
 use lib.ListN.{get_or}
 use Rattle.laws.specs.Bits.{bit_of}
 use Rattle.trace.specs.inner.Marks.{MARKWIDTH, has_mark}
-use borrow.Author.Rules.{rules}
 use Rattle.trace.proofs.form.marked.Goals as goal
 
 pub returns : goal.returns

@@ -4,7 +4,6 @@ use mathlib.Core.Bool.{true, false}
 use Rattle.trace.specs.Op.{writes}
 use Rattle.trace.specs.inner.Marks.{with_mark, note_of}
 use Rattle.trace.proofs.WellFormed.{bounded-iff}
-use borrow.Author.Rules.{rules}
 use Rattle.trace.proofs.form.note.Goals as goal
 
 pub mark-requires : goal.mark-requires

@@ -1,17 +1,11 @@
 -- `trace::form::rest_idle` meets its contract. The invariant: each place passed is used or idle. Assumes nothing.
 use mathlib.Core.Path.{◌≡◌, sym, ◌∙◌}
-use mathlib.Core.Bool.{So, true}
-use Prim.Native.Nat.{◌≤◌, ◌-◌}
+use mathlib.Core.Bool.{true}
 use lib.Dec.{leb}
 use native.Mathlib.Omega.{arith}
 use borrow.Author.Tests.{not-true, not-false, le-leb, lt-leb}
-use Rattle.laws.specs.Tests.{◌⇒◌, all}
 use Rattle.laws.proofs.Loops.{all_more, all-stops, all-fewer}
 use Rattle.laws.proofs.Tests.{so-all}
-use Rattle.trace.specs.Bounds.{RECORDS}
-use Rattle.trace.specs.Trace.{at}
-use Rattle.trace.specs.WellFormed.{is_idle}
-use borrow.Author.Rules.{rules}
 use Rattle.trace.proofs.form.rest_idle.Goals as goal
 
 pub loop-i-init : goal.loop-i-init

@@ -2,26 +2,19 @@
 -- nothing.
 use mathlib.Core.Path.{sym, ◌∙◌}
 use mathlib.Core.Bool.{So}
-use Prim.Native.Nat.{◌-◌}
 use native.Mathlib.Omega.{arith}
 use borrow.Author.Tests.{not-true, not-false}
-use Rattle.laws.specs.Tests.{all}
-use Rattle.laws.proofs.Loops.{all_more, all-stops, all-fewer}
+use Rattle.laws.proofs.Loops.{all_more, all-stops}
 use Rattle.laws.proofs.Tests.{so-all}
 use Rattle.trace.specs.Trace.{at}
 use Rattle.trace.specs.WellFormed.{bounded, follows}
-use Rattle.trace.specs.inner.Marks.{Marks}
 use Rattle.trace.proofs.WellFormed.{follows-iff, bounded-iff}
 use Rattle.trace.proofs.Marks.{marks-none, marks-more}
-use borrow.Author.Rules.{rules}
 use Rattle.trace.proofs.form.used_follow.Goals.{Else-not-follows_marks}
 use Rattle.trace.proofs.form.used_follow.Goals as goal
 
 pub loop-i-init : goal.loop-i-init
 loop-i-init c = ((so-all 0 _).1 (λ i h. absurd (omega arith)), marks-none c.args.t)
-
-pub follows_marks-requires : goal.follows_marks-requires
-follows_marks-requires c = c.loop-i.invariant.1
 
 pub returns-then-not-follows_marks : goal.returns-then-not-follows_marks
 returns-then-not-follows_marks c = sym (all-stops _ _ _ c.loop-i-test.true (sym c.follows_marks.ensures ∙ not-true _ c.if-not-follows_marks.true-raw))
@@ -43,6 +36,3 @@ loop-i-preserved c =
       all_more _ i c.loop-i.invariant.0 (may (goal.at.loop-i-preserved c).Else-not-follows_marks),
       rw c.note.ensures (marks-more t i c.loop-i.marks c.loop-i.invariant.1 (keeps (goal.at.loop-i-preserved c).Else-not-follows_marks)),
     )
-
-pub returns : goal.returns
-returns c = sym (all-fewer _ _ _ c.loop-i-test.false c.loop-i.invariant.0)

@@ -1,14 +1,14 @@
 -- `trace::form::well_formed` meets its contract: the parts of the definition, in turn. That the arrays have all their places, and hold values, is told by owning them. Assumes nothing.
-use mathlib.Core.Path.{◌≡◌, sym, ◌∙◌}
+use mathlib.Core.Path.{◌≡◌}
 use mathlib.Core.Bool.{true, false}
 use lib.Dec.{ltb}
-use lib.ListN.{length, length-map}
+use lib.ListN.{length}
 use borrow.Author.Tests.{eq-eqb, le-leb, lt-leb}
 use Rattle.laws.specs.Tests.{all}
 use Rattle.trace.specs.Bounds.{RECORDS, ADDRESSES, VALUES}
 use Rattle.trace.specs.Trace.{at, first}
 use Rattle.trace.specs.WellFormed.{follows, well_formed}
-use borrow.Author.Rules.{rules, elem_Fits}
+use borrow.Author.Rules.{elem_Fits}
 use mir.Syntax.{w16}
 use Prim.{tt}
 use Rattle.laws.proofs.Tests.{so-all, so-lt}
@@ -36,9 +36,9 @@ returns-then-used_follow c =
     let used : all t.len (λ i. follows t i (at t i)) ≡ true = cc in
     simp (eq-eqb _ _ (full (goal.at.returns-then-used_follow c).Start), le-leb _ _ c.if-n-gt-RECORDS.false, used, eq-eqb _ _ (addresses (goal.at.returns-then-used_follow c).Start), values (goal.at.returns-then-used_follow c).Start) c.rest_idle.ensures
 
-pub returns : goal.returns
+pub returns-else-used_follow : goal.returns-else-used_follow
 unfolding well_formed
-returns c =
+returns-else-used_follow c =
     let t = c.args.t in
     let used : all t.len (λ i. follows t i (at t i)) ≡ false = cc in
-    simp (eq-eqb _ _ (full (goal.at.returns c).Start), le-leb _ _ c.if-n-gt-RECORDS.false, used, eq-eqb _ _ (addresses (goal.at.returns c).Start), values (goal.at.returns c).Start)
+    simp (eq-eqb _ _ (full (goal.at.returns-else-used_follow c).Start), le-leb _ _ c.if-n-gt-RECORDS.false, used, eq-eqb _ _ (addresses (goal.at.returns-else-used_follow c).Start), values (goal.at.returns-else-used_follow c).Start) c.if-used_follow.false

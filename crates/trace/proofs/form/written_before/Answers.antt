@@ -1,13 +1,10 @@
 -- `trace::form::written_before` meets its contract. The invariant: none of the records passed writes the value there.
 -- Assumes nothing.
-use mathlib.Core.Path.{◌≡◌, sym, ap, ◌∙◌}
-use mathlib.Core.Bool.{false}
-use Prim.Native.Nat.{◌-◌}
+use mathlib.Core.Path.{sym, ap, ◌∙◌}
 use native.Mathlib.Omega.{arith}
 use borrow.Author.Rules.{rules}
-use lib.ListN.{length-map}
 use Rattle.laws.specs.Tests.{any}
-use Rattle.laws.proofs.Loops.{any-more, any-stops, any-fewer, any-past}
+use Rattle.laws.proofs.Loops.{any-more, any-stops, any-past}
 use Rattle.trace.specs.Op.{writes_to}
 use Rattle.trace.specs.WellFormed.{written_before}
 use Rattle.trace.specs.declared.Op.{Op}
@@ -32,7 +29,3 @@ returns-then-writes_to c = sym (any-stops _ _ _ c.loop-i-test.true (sym c.writes
 pub loop-i-preserved : goal.loop-i-preserved
 unfolding written_before
 loop-i-preserved c = any-more _ _ c.loop-i.invariant (sym c.writes_to.ensures ∙ c.if-writes_to.false)
-
-pub returns : goal.returns
-unfolding written_before
-returns c = sym (any-fewer _ _ _ c.loop-i-test.false c.loop-i.invariant)

@@ -12,9 +12,9 @@ returns-then-not-well_formed c = let K = lent_of c.args.t c.args.kept.now in
     (told-form c.args.t K (sym c.well_formed-2.ensures ∙ c.if-not-well_formed.true))
 
 pub circle_or_none-requires : goal.circle_or_none-requires
-circle_or_none-requires c = (sym c.well_formed-2.ensures ∙ c.if-not-well_formed.false, sym c.missing.ensures ∙ c.in-Nothing.is, c.requires)
+circle_or_none-requires c = (sym c.well_formed-2.ensures ∙ c.if-not-well_formed.false, sym c.missing.ensures ∙ c.in-None.is, c.requires)
 
-pub returns-in-At : goal.returns-in-At
-returns-in-At c = let K = lent_of c.args.t c.args.kept.now in
-    subst (λ (r : Verdict). ToldBy c.args.t K r) (sym c.bare-in-At.ensures)
-    (told-source c.args.t K (sym c.well_formed-2.ensures ∙ c.if-not-well_formed.false) _ (sym c.in-At.is ∙ c.missing.ensures))
+pub returns-in-Some : goal.returns-in-Some
+returns-in-Some c = let K = lent_of c.args.t c.args.kept.now in
+    subst (λ (r : Verdict). ToldBy c.args.t K r) (sym c.bare-in-Some.ensures)
+    (told-source c.args.t K (sym c.well_formed-2.ensures ∙ c.if-not-well_formed.false) _ (sym c.in-Some.is ∙ c.missing.ensures))

@@ -1,9 +1,6 @@
--- Each word takes a byte at least.
-use Rattle.std.proofs.Common.{length, ◌-◌, ◌≤◌}
+-- Only a word that has a place is counted.
+use Rattle.std.proofs.Common.{length, ◌≤◌}
 use Rattle.words.proofs.list.numbers.Given as goal
 
-abbrev pub invariant-loop-at : goal.invariant-loop-at
-invariant-loop-at l = l.count ≤ l.at
-
-abbrev pub decreases-loop-at : goal.decreases-loop-at
-decreases-loop-at l = length l.bytes - l.at
+abbrev pub invariant-loop-word : goal.invariant-loop-word
+invariant-loop-word l = l.count ≤ length l.list
